@@ -17,6 +17,8 @@ opening_refusal accounts account password amount =
     ∷ [])
 
 pub record MayOpen (accounts : List AccRow) (account amount : ℕ) : Type 0 where
+  pub some : 1 ≤ account
+  pub within : account ≤ 1024
   pub there : is_some (account_of accounts account) ≡ true
   pub enough : amount ≤ balance_of accounts account
   pub few : length accounts < account_limit
@@ -30,6 +32,10 @@ paying_refusal accounts account password to amount =
     ∷ [])
 
 pub record MayPay (accounts : List AccRow) (account to amount : ℕ) : Type 0 where
+  pub some : 1 ≤ account
+  pub within : account ≤ 1024
   pub there : is_some (account_of accounts account) ≡ true
+  pub to_some : 1 ≤ to
+  pub to_within : to ≤ 1024
   pub receiver : is_some (account_of accounts to) ≡ true
   pub enough : amount ≤ balance_of accounts account

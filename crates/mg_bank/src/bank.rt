@@ -1,10 +1,10 @@
 // The bank.
 ghost use Rattle.std.specs.Prelude.{◌≡◌, ◌≤◌, ◌<◌, ◌+◌, ◌++◌, ◌∷◌, ◌==◌, [], ℕ, IfOk, if◌then◌else◌, IfSome, is_some, length, true, vec_capacity};
 ghost use Rattle.mg_bank.specs.Bank.{credits_of, pages_at};
-ghost use Rattle.mg_model.specs.Bank.{account_of, balance_of, given_to, opens, owed_by, taken_from, with_account};
+ghost use Rattle.mg_model.specs.Bank.{account_of, balance_of, opens, owed_by, with_account};
 ghost use Rattle.mg_model.specs.Limits.{account_limit, credit_limit};
 
-use crate::rows::{give, put, row_of, take};
+use crate::rows::{put, row_of};
 use mg_model::AccRow;
 use mg_model::limits::ACCOUNT_LIMIT;
 use std::alloc::{AllocError, Global};
@@ -17,7 +17,7 @@ const PLACES: usize = 1025;
 #[derive(Drop)]
 pub struct Bank {
     // The accounts, in room for as many as there may be.
-    rows: Vec<AccRow>,
+    pub(crate) rows: Vec<AccRow>,
     // How many pages account n pays for, in place n.
     pages: Vec<u64>,
 }
@@ -159,37 +159,5 @@ impl Bank {
         ensures accounts { self.new.accounts ≡ self.old.accounts }
     {
         self.pages[account as usize] = pages;
-    }
-
-    /// Credits of one account go to another, which may be the same. The first has as many.
-    pub fn transfer(&mut self, from: u64, to: u64, amount: u64)
-        requires from { is_some (account_of self.old.accounts from) ≡ true }
-        requires to { is_some (account_of self.old.accounts to) ≡ true }
-        requires enough { amount ≤ balance_of self.old.accounts from }
-        ensures accounts { self.new.accounts ≡ given_to (taken_from self.old.accounts from amount) to amount }
-        ensures count { length self.new.accounts ≡ length self.old.accounts }
-        ensures sum { credits_of self.new.accounts ≡ credits_of self.old.accounts }
-        ensures pages { self.new.pages ≡ self.old.pages }
-    {
-        take(&mut self.rows, from, amount);
-        give(&mut self.rows, to, amount);
-    }
-
-    /// One more account, the last, with this password and credits of the payer, who has that many. There are fewer than 1,024.
-    pub fn add_account(&mut self, payer: u64, amount: u64, password: u64)
-        requires payer { is_some (account_of self.old.accounts payer) ≡ true }
-        requires enough { amount ≤ balance_of self.old.accounts payer }
-        requires fewer_than_1024 { length self.old.accounts < account_limit }
-        ensures accounts { self.new.accounts ≡ taken_from self.old.accounts payer amount ++ record { password = password; balance = amount; owed = 0 } ∷ [] }
-        ensures count { length self.new.accounts ≡ length self.old.accounts + 1 }
-        ensures sum { credits_of self.new.accounts ≡ credits_of self.old.accounts }
-        ensures pages { self.new.pages ≡ self.old.pages }
-    {
-        take(&mut self.rows, payer, amount);
-        self.push(AccRow {
-            password,
-            balance: amount,
-            owed: 0,
-        });
     }
 }

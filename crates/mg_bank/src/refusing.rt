@@ -1,12 +1,13 @@
 // Accounts are opened and credits are paid, or refused.
-ghost use Rattle.std.specs.Prelude.{◌≡◌, ◌+◌, ◌++◌, ◌∷◌, [], IfOk, MatchOption, MatchResult, None, OnErr, OnOk, Some, is_some, length};
+ghost use Rattle.std.specs.Prelude.{◌≡◌, ◌≤◌, ◌+◌, ◌++◌, ◌∷◌, [], IfOk, MatchOption, MatchResult, None, OnErr, OnOk, Some, is_some, length, true};
 ghost use Rattle.mg_bank.specs.Bank.{credits_of};
 ghost use Rattle.mg_bank.specs.Refusals.{MayOpen, MayPay, opening_refusal, paying_refusal};
 ghost use Rattle.mg_model.specs.Bank.{account_of, given_to, taken_from};
 
 use crate::bank::Bank;
-use mg_model::Refusal;
+use crate::rows::{give, take};
 use mg_model::limits::ACCOUNT_LIMIT;
+use mg_model::{AccRow, Refusal};
 
 impl Bank {
     /// Why no account may be opened with these credits of this account; None if one may. The refusals come in this order: no
@@ -27,9 +28,8 @@ impl Bank {
         None
     }
 
-    /// Why these credits may not be paid from one account to another; None if they may. The refusals come in this order: no
-    /// such account, another password than its own, or no account to pay to (Account); too few credits (Credit).
-    pub fn paying(&self, from: u64, password: u64, to: u64, credits: u64) -> Option<Refusal>
+    // Why these credits may not be paid from one account to another; None if they may.
+    fn paying(&self, from: u64, password: u64, to: u64, credits: u64) -> Option<Refusal>
         ensures word { result ≡ paying_refusal self.now.accounts from password to credits }
         ensures may { MatchOption result (MayPay self.now.accounts from to credits) (λ _. Unit {0}) }
     {
@@ -53,7 +53,9 @@ impl Bank {
     ) -> Result<u64, Refusal>
         ensures refusal { MatchResult result (λ _. opening_refusal self.old.accounts account password credits ≡ None) (λ word. opening_refusal self.old.accounts account password credits ≡ Some word) }
         ensures number { IfOk result (λ number. number ≡ length self.old.accounts + 1) }
+        ensures may { OnOk result (MayOpen self.old.accounts account credits) }
         ensures accounts { OnOk result (self.new.accounts ≡ taken_from self.old.accounts account credits ++ record { password = fresh; balance = credits; owed = 0 } ∷ []) }
+        ensures count { OnOk result (length self.new.accounts ≡ length self.old.accounts + 1) }
         ensures sum { credits_of self.new.accounts ≡ credits_of self.old.accounts }
         ensures pages { self.new.pages ≡ self.old.pages }
         ensures stays { OnErr result (self.new ≡ self.old) }
@@ -61,17 +63,25 @@ impl Bank {
         match self.opening(account, password, credits) {
             Some(word) => Err(word),
             None => {
-                self.add_account(account, credits, fresh);
+                take(&mut self.rows, account, credits);
+                self.push(AccRow {
+                    password: fresh,
+                    balance: credits,
+                    owed: 0,
+                });
                 Ok(self.len())
             }
         }
     }
 
-    /// These credits of account `from`, which `password` opens, go to account `to`, which may be the same. It is refused as
-    /// [`Bank::paying`] says (Account, Credit), and the bank stays then.
+    /// These credits of account `from`, which `password` opens, go to account `to`, which may be the same. The refusals come in
+    /// this order: no such account, another password than its own, or no account to pay to (Account); too few credits (Credit).
+    /// The bank stays then.
     pub fn pay(&mut self, from: u64, password: u64, to: u64, credits: u64) -> Result<(), Refusal>
         ensures refusal { MatchResult result (λ _. paying_refusal self.old.accounts from password to credits ≡ None) (λ word. paying_refusal self.old.accounts from password to credits ≡ Some word) }
+        ensures may { OnOk result (MayPay self.old.accounts from to credits) }
         ensures accounts { OnOk result (self.new.accounts ≡ given_to (taken_from self.old.accounts from credits) to credits) }
+        ensures count { length self.new.accounts ≡ length self.old.accounts }
         ensures sum { credits_of self.new.accounts ≡ credits_of self.old.accounts }
         ensures pages { self.new.pages ≡ self.old.pages }
         ensures stays { OnErr result (self.new ≡ self.old) }
@@ -79,7 +89,8 @@ impl Bank {
         match self.paying(from, password, to, credits) {
             Some(word) => Err(word),
             None => {
-                self.transfer(from, to, credits);
+                take(&mut self.rows, from, credits);
+                give(&mut self.rows, to, credits);
                 Ok(())
             }
         }
@@ -87,7 +98,9 @@ impl Bank {
 
     // Whether there is an account with this number.
     fn is_there(&self, account: u64) -> bool
-        ensures { result ≡ is_some (account_of self.now.accounts account) }
+        ensures there { result ≡ is_some (account_of self.now.accounts account) }
+        ensures n_at_least_1 { result ≡ true → 1 ≤ account }
+        ensures n_at_most_1024 { result ≡ true → account ≤ 1024 }
     {
         self.row(account).is_some()
     }

@@ -17,9 +17,8 @@ pub fn rent(volume: &mut Volume) -> Reply
     ensures { CallStages (Answers (λ state. calls.rent state)) 17 volume.old volume.new result }
 {
     let next = period(volume) + 1;
-    let rate = volume.rate();
-    match volume.collect() {
-        Ok(paid) => {
+    match volume.collect_rent() {
+        Ok((rate, paid)) => {
             begin(volume, next);
             Reply::Collected(next, rate, paid)
         }
@@ -32,9 +31,7 @@ fn period(volume: &Volume) -> u64
     ensures period { result ≡ (counters_in volume.now).period }
     ensures at_most_period_limit { result ≤ period_limit }
 {
-    let globals = volume.globals();
-    globals.keep_rules();
-    globals.period()
+    volume.globals().period
 }
 
 // Another period begins, at most `2^24 - 1`.

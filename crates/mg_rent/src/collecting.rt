@@ -3,7 +3,7 @@ ghost use Rattle.std.specs.Prelude.{◌≡◌, ◌≤◌, ◌+◌, ◌^◌, ◌=
 ghost use Rattle.mg_bank.specs.Bank.{credits_of, pages_at};
 ghost use Rattle.mg_model.specs.Bank.{all_charged, all_paid, given_to, rate_of};
 ghost use Rattle.mg_model.specs.declared.replies.Refusal.TheVariants.{Calendar};
-ghost use Rattle.mg_model.specs.Limits.{debt_limit, period_limit, step_limit};
+ghost use Rattle.mg_model.specs.Limits.{debt_limit, period_limit};
 ghost use Rattle.mg_model.specs.State.{Object};
 ghost use Rattle.mg_rent.specs.Charging.{ArePagesOf, OweAtMost};
 
@@ -13,19 +13,9 @@ use mg_bank::Bank;
 use mg_model::limits::PERIOD_LIMIT;
 use mg_model::{Refusal, Tariff};
 
-/// Whether the rent of a period may be collected: in the last, `2^24 - 1`, it is refused (Calendar).
-pub fn may_collect(period: u64) -> Result<(), Refusal>
-    ensures { MatchResult result (λ _. (period == period_limit) ≡ false) (λ word. (word ≡ Calendar) × ((period == period_limit) ≡ true)) }
-{
-    if period == PERIOD_LIMIT {
-        return Err(Refusal::Calendar);
-    }
-    Ok(())
-}
-
-/// Collects the rent of a period at the rate of the tariff for this number of pages in use, as [`charge_all`] does, and gives the
-/// sum of what was paid. In the last period, `2^24 - 1`, it is refused (Calendar), and the bank stays. There is a treasury, no
-/// account owes more than the period times `2^36`, and none pays for more than 65,536 pages.
+/// Collects the rent of a period, as [`collect_rent`] does, and gives the sum of what was paid. There is a treasury, no account
+/// owes more than the period times `2^36`, and none pays for more than 65,536 pages. In the last period, `2^24 - 1`, it is refused
+/// (Calendar), and the bank stays.
 pub fn collect(bank: &mut Bank, tariff: &Tariff, used: u64, period: u64) -> Result<u64, Refusal>
     requires treasury { 1 ≤ length bank.old.accounts }
     requires period { period ≤ period_limit }
@@ -39,28 +29,40 @@ pub fn collect(bank: &mut Bank, tariff: &Tariff, used: u64, period: u64) -> Resu
     ensures pages { bank.new.pages ≡ bank.old.pages }
     ensures stays { OnErr result (bank.new ≡ bank.old) }
 {
-    may_collect(period)?;
-    Ok(charge_all(bank, rate(tariff, used)))
+    let (_, paid) = collect_rent(bank, tariff, used, period)?;
+    Ok(paid)
 }
 
-/// Charges all accounts at this rate for each page, and gives the sum of what was paid. Each account is charged, from
-/// the first on, for the pages that it pays for: with what it owes already it pays what is due, all that it has at most, and owes
-/// the rest. Then account 1, the treasury, receives the sum. There is a treasury, the rate is at most `2^20`, and none pays for
-/// more than 65,536 pages. No object is looked at: the time is in the number of accounts.
+/// Collects the rent of a period, and gives the rate, credits for each page, and the sum of what was paid. The rate is the one of
+/// the tariff for this number of pages in use. Each account is charged, from the first on, for the pages that it pays for: with
+/// what it owes already it pays what is due, all that it has at most, and owes the rest. Then account 1, the treasury, receives
+/// the sum. There is a treasury, and none pays for more than 65,536 pages. In the last period, `2^24 - 1`, it is refused
+/// (Calendar), and the bank stays. No object is looked at: the time is in the number of accounts.
 ///
 /// The sums are exact if no account owes more than `2^60`, as in every state that is well formed. Whatever accounts owe, no
 /// credit comes or goes.
-pub fn charge_all(bank: &mut Bank, rate: u64) -> u64
+pub fn collect_rent(
+    bank: &mut Bank,
+    tariff: &Tariff,
+    used: u64,
+    period: u64,
+) -> Result<(u64, u64), Refusal>
     requires treasury { 1 ≤ length bank.old.accounts }
-    requires rate { rate ≤ step_limit }
     requires pages { (n : ℕ) → pages_at bank.old.pages n ≤ 65536 }
-    ensures accounts { OweAtMost (2 ^ 60) bank.old.accounts → (objects : List Object) → ArePagesOf objects bank.old.pages → bank.new.accounts ≡ given_to (all_charged objects rate 1 bank.old.accounts) 1 (all_paid objects rate 1 bank.old.accounts) }
-    ensures paid { OweAtMost (2 ^ 60) bank.old.accounts → (objects : List Object) → ArePagesOf objects bank.old.pages → result ≡ all_paid objects rate 1 bank.old.accounts }
-    ensures debts { OweAtMost (2 ^ 60) bank.old.accounts → (period : ℕ) → OweAtMost (debt_limit period) bank.old.accounts → OweAtMost (debt_limit (period + 1)) bank.new.accounts }
+    ensures refusal { MatchResult result (λ _. (period == period_limit) ≡ false) (λ word. (word ≡ Calendar) × ((period == period_limit) ≡ true)) }
+    ensures rate { IfOk result (λ told. told.0 ≡ rate_of tariff.now used) }
+    ensures accounts { OnOk result (OweAtMost (2 ^ 60) bank.old.accounts → (objects : List Object) → ArePagesOf objects bank.old.pages → bank.new.accounts ≡ given_to (all_charged objects (rate_of tariff.now used) 1 bank.old.accounts) 1 (all_paid objects (rate_of tariff.now used) 1 bank.old.accounts)) }
+    ensures paid { IfOk result (λ told. OweAtMost (2 ^ 60) bank.old.accounts → (objects : List Object) → ArePagesOf objects bank.old.pages → told.1 ≡ all_paid objects (rate_of tariff.now used) 1 bank.old.accounts) }
+    ensures debts { OnOk result (OweAtMost (2 ^ 60) bank.old.accounts → OweAtMost (debt_limit period) bank.old.accounts → OweAtMost (debt_limit (period + 1)) bank.new.accounts) }
     ensures count { length bank.new.accounts ≡ length bank.old.accounts }
     ensures sum { credits_of bank.new.accounts ≡ credits_of bank.old.accounts }
     ensures pages { bank.new.pages ≡ bank.old.pages }
+    ensures stays { OnErr result (bank.new ≡ bank.old) }
 {
+    if period == PERIOD_LIMIT {
+        return Err(Refusal::Calendar);
+    }
+    let rate = rate(tariff, used);
     let count = bank.len();
     let mut sum = 0;
     for i in 0..count {
@@ -68,5 +70,5 @@ pub fn charge_all(bank: &mut Bank, rate: u64) -> u64
         sum += charge(bank, i + 1, rate * pages);
     }
     give(bank, 1, sum);
-    sum
+    Ok((rate, sum))
 }

@@ -9,5 +9,5 @@ mod charging;
 mod collecting;
 mod rates;
 
-pub use collecting::{charge_all, collect, may_collect};
+pub use collecting::{collect, collect_rent};
 pub use rates::rate;

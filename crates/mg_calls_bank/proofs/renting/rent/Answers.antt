@@ -27,13 +27,13 @@ pub returns-in-Ok : goal.returns-in-Ok
 returns-in-Ok c =
     call_made _ _ _ _ _ (λ no. no) tt (λ image spelled formed.
     let v = c.args.volume.now in
-    let mid = c.collect.new.self in
+    let mid = c.collect_rent.new.self in
     let few = few-owed v image formed in
     let early = ap (λ p. p == period_limit) c.period-next.ensures.period ∙ c.in-Ok.ensures.refusal in
     let now = rented-now (now_of v image) (now_of mid image) (now_of c.begin.new.volume image) (counters_in v) (counters_in mid) (accounts_in mid) (c.period-next.result + 1) (c.in-Ok.ensures.now image) (c.in-Ok.ensures.accounts few image)
     (same-counters v mid c.in-Ok.ensures.now) (ap (λ p. p + 1) c.period-next.ensures.period) (c.begin.ensures.now image) in
-    rent-done (now_of v image) (now_of c.begin.new.volume image) (counters_in v) c.period-next.result c.rate-rate.result c.in-Ok.paid (sym (now_counters v image)) c.period-next.ensures.period early
-    (c.rate-rate.ensures.rate image) (c.in-Ok.ensures.paid few image) now) (stages_then 16 1 _ _ _ c.in-Ok.ensures.stages c.begin.ensures.stages)
+    rent-done (now_of v image) (now_of c.begin.new.volume image) (counters_in v) c.period-next.result c.in-Ok.rate c.in-Ok.paid (sym (now_counters v image)) c.period-next.ensures.period early
+    (c.in-Ok.ensures.rate image) (c.in-Ok.ensures.paid few image) now) (stages_then 16 1 _ _ _ c.in-Ok.ensures.stages c.begin.ensures.stages)
 
 pub returns-in-Err : goal.returns-in-Err
 returns-in-Err c =
