@@ -17,7 +17,7 @@ use Rattle.mg_model.specs.Turn.{thread_call}
 use Rattle.mg_vcache.specs.Seats.{AllBacked, is_kept}
 use Rattle.mg_volume.specs.Calls.{Reads, Serves}
 use Rattle.mg_volume.specs.Held.{VolumeHeld}
-use Rattle.mg_volume.specs.Meaning.{Keeps, now_of, staged_of}
+use Rattle.mg_volume.specs.Meaning.{Keeps, now_of, staged_in}
 
 -- A call, as its contract speaks of it: its row of the definition; which keys stay kept and how many words are counted if it
 -- is answered; and how many are counted at most, be it answered or not.
@@ -38,11 +38,11 @@ of_line line = record {
 abbrev pub of_call : ℕ → Call → CallRow
 of_call t made = record (of_line (record { thread = t; call = made })) { row = λ state. thread_call state t made }
 
--- A call that may stage, at most `most` blocks more. If it is refused nothing more is staged, and if a call of the disk
--- failed the state stays. Each right that is kept is one that the state gives.
+-- A call that may stage, at most `most` blocks more. If it is refused what is staged stays, and if a call of the disk failed
+-- the state stays too. Each right that is kept is one that the state gives.
 pub record CallServes {D E : Type 0} (most : ℕ) (facts : Ghosts D) (call : CallRow) (result : Result Reply E) (old new : VolumeHeld) (seats seats' : List (Option Seat)) (before after : D) (steps steps' : ℕ) : Type 0 where
   pub answers : IfOk result (λ reply. ForSome (facts.seen before) (λ image. call.row (now_of old image) ≡ (now_of new image, reply)))
-  pub refused : IfOk result (λ reply. IsRefusal reply → staged_of new ≡ staged_of old)
+  pub refused : IfOk result (λ reply. IsRefusal reply → staged_in new ≡ staged_in old)
   pub failed : OnErr result (Keeps old new)
   pub slots : IfOk result HasFewSlots
   pub backed : ForSome (facts.seen before) (λ image. AllBacked (now_of new image) seats')

@@ -44,7 +44,7 @@ module _ {D E : Type 0} (facts : Ghosts D) (old new : VolumeHeld) (seats seats' 
   pub reads_serves : (most : ℕ) (call : CallRow) (result : Result Reply E) → CallReads facts call result old new seats seats' before after steps steps' → CallServes most facts call result old new seats seats' before after steps steps'
   reads_serves most call (Ok reply) run = record {
     answers = run.answers;
-    refused = λ refused. run.reads.keeps.staged;
+    refused = λ refused. run.reads.keeps.writes;
     failed = tt;
     slots = run.slots;
     backed = run.backed;

@@ -127,10 +127,7 @@ pub fn word_object<D: Disk, L: Ledger>(
         return Ok(Err(Refusal::Align));
     }
     match reach(volume, cache, disk, thread, address, right, steps)? {
-        Some(object) => {
-            object.keep_rules();
-            Ok(Ok(object))
-        }
+        Some(object) => Ok(Ok(object)),
         None => Ok(Err(Refusal::Denied)),
     }
 }

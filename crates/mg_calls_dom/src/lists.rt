@@ -120,8 +120,8 @@ fn slot_opens<D: Disk, L: Ledger>(
     if !holds(clist, slot.password, Right::R, sought.period) {
         return Ok(false);
     }
-    clist.keep_rules();
-    list_opens(volume, disk, slot.base, sought, steps)
+    let list = clist.base;
+    list_opens(volume, disk, list, sought, steps)
 }
 
 // The capability list of the first of these slots that opens the object. The search stops there.
@@ -163,10 +163,7 @@ pub(crate) fn list_of<D: Disk, L: Ledger>(
     ensures cause { OnErr result (CountRose D.Disk disk.old disk.new) }
 {
     match volume.frame(thread) {
-        Some(frame) => {
-            frame.keep_rules();
-            list_among(volume, disk, frame.slots(), sought, steps)
-        }
+        Some(present) => list_among(volume, disk, present.slots.as_slice(), sought, steps),
         None => Ok(None),
     }
 }

@@ -75,10 +75,7 @@ pub fn apdlist(volume: &Volume, thread: u64) -> Reply
     ensures { CallStages (Answers (λ state. domains.apdlist state thread)) 0 volume.now volume.now result }
 {
     match volume.frame(thread) {
-        Some(frame) => {
-            frame.keep_rules();
-            listed(frame.slots())
-        }
+        Some(present) => listed(present.slots.as_slice()),
         None => unreachable!(),
     }
 }

@@ -5,6 +5,7 @@ ghost use Rattle.mg_calls_dom.specs.Finding.{Finds};
 ghost use Rattle.mg_calls_dom.specs.Known.{rows_know};
 ghost use Rattle.mg_calls_dom.specs.Searching as searching;
 ghost use Rattle.mg_model.specs.Access.{allowed, at, covers};
+ghost use Rattle.mg_model.specs.Ranges.{IsObjectRow};
 ghost use Rattle.mg_vcache.specs.Seats.{AllBacked, is_kept};
 ghost use Rattle.mg_volume.specs.Calls.{IsSoundOn, Reads};
 ghost use Rattle.mg_volume.specs.Meaning.{IsBaseAt, now_of, objects_in};
@@ -38,6 +39,7 @@ pub fn reach<D: Disk, L: Ledger>(
     ensures row { IfOk result (λ found. ForSome (D.seen disk.old) (λ image. found ≡ searching.allowed_row (now_of volume.old image) thread address right)) }
     ensures covers { IfOk result (λ found. IfSome found (λ row. find (λ row. covers row address) (objects_in volume.new) ≡ Some row)) }
     ensures own { IfOk result (λ found. IfSome found (λ row. find (λ other. other.base == row.base) (objects_in volume.new) ≡ Some row)) }
+    ensures kept { IfOk result (λ found. IfSome found IsObjectRow) }
     ensures finds { Finds D.Disk (record { thread = thread; address = address; right = right }) result volume.old volume.new cache.old cache.new disk.old disk.new steps.old steps.new }
     ensures known { rows_know (objects_in volume.old) cache.old thread address right ≡ true → (disk.new ≡ disk.old) × (steps.new ≡ steps.old) }
 {

@@ -69,8 +69,7 @@ pub(crate) fn recharge_by_row(
 fn is_outside(object: &ObjRow, off: u64) -> bool
     ensures { result ≡ is_outside object.now off }
 {
-    object.keep_rules();
-    off % 8 != 0 || off >= PAGE_SIZE * object.pages()
+    off % 8 != 0 || off >= PAGE_SIZE * object.pages
 }
 
 // The address of the word at an offset.

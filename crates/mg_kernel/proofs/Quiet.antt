@@ -23,7 +23,7 @@ use Rattle.mg_vcache.specs.Seats.{AllBacked, is_kept}
 use Rattle.mg_vcache.specs.SeatLemmas.{drops_backed, drops_none, same_backed}
 use Rattle.mg_volume.specs.Calls.{Answers, CallStages, IsSoundOn}
 use Rattle.mg_volume.specs.Held.{VolumeHeld}
-use Rattle.mg_volume.specs.Meaning.{now_of, staged_of}
+use Rattle.mg_volume.specs.Meaning.{now_of, staged_in}
 use Rattle.mg_volume.specs.RunLemmas.{serves_wider, stages_serve}
 
 -- it makes no access, and has no word
@@ -100,7 +100,7 @@ unasked-serves facts old new seats seats' disk steps reply t made asks been soun
     let answers : ForSome (facts.seen disk) (λ image. thread_call (now_of old image) t made ≡ (now_of new image, reply)) = λ image told. does.answers image (sound.stands.fits image told) (sound.formed image told) in
     record {
       answers = answers;
-      refused = λ refused. ap staged_of (does.refused refused);
+      refused = λ refused. ap staged_in (does.refused refused);
       failed = tt;
       slots = does.slots;
       backed = λ image told.

@@ -29,7 +29,10 @@ pub record Spelled (k : Kernel) (image : Image) : Type 0 where
 unfoldable pub IsSpelledBy : Kernel → Image → Type 0
 IsSpelledBy k image = Spelled k image
 
--- how many blocks are staged
+-- the blocks that are staged, each with its bytes, and how many they are
+unfoldable pub staged_in : Kernel → List (ℕ × List ℕ)
+staged_in k = held.staged_in k.volume
+
 unfoldable pub staged_of : Kernel → ℕ
 staged_of k = held.staged_of k.volume
 
@@ -69,6 +72,11 @@ pub record StandsOn {D : Type 0} (facts : Ghosts D) (k : Kernel) (disk : D) : Ty
 pub now_kept : (k : Kernel) (image : Image) → IsSpelledBy k image → staged_of k ≡ 0 → volume image ≡ Is (now_of k image)
 unfolding IsSpelledBy staged_of now_of
 now_kept k image is none = laws.now_kept k.volume image is.fitting none
+
+-- if what is staged stays, its number stays
+pub same_number : (a b : Kernel) → staged_in b ≡ staged_in a → staged_of b ≡ staged_of a
+unfolding staged_in staged_of
+same_number a b same = laws.same_number a.volume b.volume same
 
 -- when the seats stay, each key stays kept
 pub same_keys : (a b : Kernel) → seats_in b ≡ seats_in a → (key : Key) → keeps_key b key ≡ keeps_key a key

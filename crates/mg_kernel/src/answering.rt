@@ -41,7 +41,7 @@ pub(crate) fn answer<D: Disk, L: Ledger>(
         Call::Turn => turn(volume, cache, disk, line.thread, steps),
         Call::Next => next(volume, cache, disk, steps),
         Call::Rent => Ok(collect(volume, cache)),
-        _ => match volume.frame(line.thread) {
+        _ => match volume.thread_ref(line.thread) {
             Some(_) => dispatch(volume, cache, disk, line.thread, &line.call, steps),
             None => Ok(Reply::No(Refusal::NoThread)),
         },

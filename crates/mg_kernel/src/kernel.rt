@@ -3,7 +3,7 @@ ghost use Rattle.std.specs.Prelude.{List, ◌≡◌, ◌≤◌, ◌<◌, ◌+◌
 ghost use Rattle.std.specs.Option.{ForSome};
 ghost use Rattle.mg_disk.specs.Disk.{Image};
 ghost use Rattle.mg_disk.specs.Stops.{DiskCalls, DiskCallsBy, Leaves, NothingPending, WritesNothing};
-ghost use Rattle.mg_kernel.specs.Meaning.{StandsOn, is_live, keeps_key, knows, now_of, seats_in, staged_of, words_in};
+ghost use Rattle.mg_kernel.specs.Meaning.{StandsOn, is_live, keeps_key, knows, now_of, seats_in, staged_in, staged_of, words_in};
 ghost use Rattle.mg_kernel.specs.Opening.{Holds, Opens};
 ghost use Rattle.mg_model.specs.Access.{allowed, at, based_at};
 ghost use Rattle.mg_model.specs.Kept.{KeepsLine, Validates, access_limit, line_limit};
@@ -35,7 +35,7 @@ pub struct Kernel {
     cache: VCache,
 }
 
-#[tactic(auto, unfolding(crate::specs::Meaning::now_of, crate::specs::Meaning::seats_in, crate::specs::Meaning::keeps_key, crate::specs::Meaning::knows, crate::specs::Meaning::staged_of, crate::specs::Meaning::is_live, crate::specs::Meaning::total_of, crate::specs::Meaning::words_in, crate::specs::Meaning::IsSpelledBy))]
+#[tactic(auto, unfolding(crate::specs::Meaning::now_of, crate::specs::Meaning::seats_in, crate::specs::Meaning::keeps_key, crate::specs::Meaning::knows, crate::specs::Meaning::staged_in, crate::specs::Meaning::staged_of, crate::specs::Meaning::is_live, crate::specs::Meaning::total_of, crate::specs::Meaning::words_in, crate::specs::Meaning::IsSpelledBy))]
 impl Kernel {
     /// Opens the volume of a disk, whatever a stop left of a commit. All memory that the machine will need is taken here.
     ///
@@ -89,8 +89,8 @@ impl Kernel {
         ensures replies { IfOk result (λ reply. ForSome (D.seen disk.old) (λ image. reply ≡ (step (now_of self.old image) line.now).1)) }
         ensures state { OnOk result (ForSome (D.seen disk.old) (λ image. now_of self.new image ≡ (step (now_of self.old image) line.now).0)) }
         ensures failed { OnErr result (ForSome (D.seen disk.old) (λ image. now_of self.new image ≡ now_of self.old image)) }
-        ensures failed_staged { OnErr result (staged_of self.new ≡ staged_of self.old) }
-        ensures refused { IfOk result (λ reply. IsRefusal reply → staged_of self.new ≡ staged_of self.old) }
+        ensures failed_staged { OnErr result (staged_in self.new ≡ staged_in self.old) }
+        ensures refused { IfOk result (λ reply. IsRefusal reply → staged_in self.new ≡ staged_in self.old) }
         ensures slots { IfOk result HasFewSlots }
         ensures stands { StandsOn D.Disk self.new disk.new }
         ensures writes { WritesNothing D.Disk disk.old disk.new }
@@ -127,7 +127,7 @@ impl Kernel {
         ensures stands { StandsOn D.Disk self.new disk.new }
         ensures writes { WritesNothing D.Disk disk.old disk.new }
         ensures live { is_live self.new ≡ is_live self.old }
-        ensures staged { staged_of self.new ≡ staged_of self.old }
+        ensures staged { staged_in self.new ≡ staged_in self.old }
         ensures counted { CountsAlike (words_in self.old) (words_in self.new) steps.old steps.new }
         ensures keeps { OnOk result (ForSome (D.seen disk.old) (λ image. Validates (now_of self.old image) (record { thread = thread; address = address; right = right }) (λ key. keeps_key self.old key) (λ key. keeps_key self.new key) (steps.new - steps.old))) }
         ensures limit { ForSome (D.seen disk.old) (λ image. steps.new ≤ steps.old + access_limit (λ key. keeps_key self.old key) (now_of self.old image) (record { thread = thread; address = address; right = right })) }
@@ -184,7 +184,7 @@ impl Kernel {
     pub fn lives(&self, thread: u64) -> bool
         ensures { (image : Image) → result ≡ is_thread (now_of self.now image) thread }
     {
-        match self.volume.frame(thread) {
+        match self.volume.thread_ref(thread) {
             Some(_) => true,
             None => false,
         }

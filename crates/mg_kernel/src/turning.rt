@@ -24,7 +24,9 @@ use mg_laws::{
     turns_rest_on_no_cursor,
 };
 use mg_model::{After, Call, Line, Refusal, Reply, Steps, ThrRow, ThrState};
-use mg_script::{Effect, begin, call, resume, stand, turns_are_calls, turns_search_as_calls};
+use mg_script::{
+    Effect, begin, call, resume, standing_after, turns_are_calls, turns_search_as_calls,
+};
 use mg_vcache::VCache;
 use mg_volume::Volume;
 use std::sync::ledger::Ledger;
@@ -134,10 +136,7 @@ fn pc_of(volume: &Volume, thread: u64) -> u64
     ensures aligned { result % 8 ≡ 0 }
 {
     match volume.thread_ref(thread) {
-        Some(row) => {
-            row.keep_rules();
-            row.pc()
-        }
+        Some(row) => row.pc,
         None => unreachable!(),
     }
 }
@@ -169,7 +168,7 @@ fn go_on(volume: &mut Volume, thread: u64, effect: &Effect, reply: &Reply) -> Af
     ensures stages { Stages 1 volume.old volume.new }
 {
     match volume.thread_ref(thread) {
-        Some(row) => match stand(row, effect, reply) {
+        Some(row) => match standing_after(row, effect, reply) {
             Some(stands) => {
                 volume.move_thread(thread, stands.pc, stands.state, &stands.regs);
                 after(stands.state)

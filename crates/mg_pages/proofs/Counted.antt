@@ -11,7 +11,7 @@ use Rattle.mg_model.specs.Volume.{page_words}
 use Rattle.mg_pages.proofs.Opened.{same-shape, stands-again}
 use Rattle.mg_pages.proofs.Tables.{spelled-new}
 use Rattle.mg_pages.specs.declared.pages.Pages.{Pages}
-use Rattle.mg_pages.specs.Meaning.{Keeps, StandsOn, coming, frame_count, is_staged, page_now, staged_of, table_in}
+use Rattle.mg_pages.specs.Meaning.{Keeps, StandsOn, coming, frame_count, is_staged, page_now, staged_in, staged_of, table_in}
 use Rattle.mg_pages.specs.Parts.{KeepsMore, coming_of}
 
 -- what is coming, and the words of a page, if the fields are told
@@ -26,11 +26,12 @@ module _ (q : Pages) (store : Store) (frames : List ℕ) (writes : List (ℕ × 
 
 module _ (p q : Pages) (store : q.blocks.store ≡ p.blocks.store) (writes : q.blocks.writes ≡ p.blocks.writes) (frames : q.frames ≡ p.frames) where
   pub keeps-alike : Keeps p q
-  unfolding coming table_in staged_of is_staged
+  unfolding coming table_in staged_in staged_of is_staged
   keeps-alike = record {
     shape = same-shape p q store (ap (λ (xs : List ℕ). length xs) frames);
     coming = coming-as q p.blocks.store p.frames p.blocks.writes store frames writes;
     table = frames;
+    writes = writes;
     staged = ap (λ (ws : List (ℕ × List ℕ)). length ws) writes;
     each = λ block. ap (λ ws. names ws block) writes;
   }

@@ -43,6 +43,10 @@ table_in p = p.frames
 unfoldable pub coming : Pages → Image → Image
 coming p image = written (replayed (journal.total_of p.blocks.store) image) p.blocks.writes
 
+-- the blocks that are staged, each with its bytes
+unfoldable pub staged_in : Pages → List (ℕ × List ℕ)
+staged_in p = p.blocks.writes
+
 -- how many blocks are staged, and whether this one is
 unfoldable pub staged_of : Pages → ℕ
 staged_of p = length p.blocks.writes
@@ -110,6 +114,7 @@ pub record Keeps (old new : Pages) : Type 0 where
   pub shape : SameShape old new
   pub coming : (image : Image) → coming new image ≡ coming old image
   pub table : table_in new ≡ table_in old
+  pub writes : staged_in new ≡ staged_in old
   pub staged : staged_of new ≡ staged_of old
   pub each : (block : ℕ) → is_staged new block ≡ is_staged old block
 

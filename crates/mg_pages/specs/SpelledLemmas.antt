@@ -13,7 +13,7 @@ use Rattle.mg_model.specs.Replay.{replay, written}
 use Rattle.mg_model.specs.Tests.{all_distinct}
 use Rattle.mg_model.specs.Volume.{bound_pages, whole_table}
 use Rattle.mg_pages.specs.declared.pages.Pages.{Pages}
-use Rattle.mg_pages.specs.Meaning.{IsSpelledBy, Spelled, StandsOn, coming, frame_count, replayed, staged_of, store_of, table_in, total_of}
+use Rattle.mg_pages.specs.Meaning.{IsSpelledBy, Spelled, StandsOn, coming, frame_count, replayed, staged_in, staged_of, store_of, table_in, total_of}
 
 spelled : (p : Pages) (image : Image) → IsSpelledBy p image → Spelled p image
 unfolding IsSpelledBy
@@ -56,6 +56,11 @@ stands_spelled facts store p disk is stands spells =
       settled = stands.settled;
       fits = spells;
     }
+
+-- if what is staged stays, its number stays
+pub same_number : (p q : Pages) → staged_in q ≡ staged_in p → staged_of q ≡ staged_of p
+unfolding staged_in staged_of
+same_number p q same = ap (λ (ws : List (ℕ × List ℕ)). length ws) same
 
 -- the journal can be replayed
 replayed_is : (total : ℕ) (image r : Image) → replay image total ≡ Some r → replayed total image ≡ r

@@ -39,9 +39,9 @@ pub struct Pages {
     ghost sound: { IsSound blocks.store.total frames blocks.writes },
 }
 
-#[tactic(auto, unfolding(crate::specs::Meaning::total_of, crate::specs::Meaning::store_of, crate::specs::Meaning::frame_count, crate::specs::Meaning::table_in, crate::specs::Meaning::coming, crate::specs::Meaning::staged_of, crate::specs::Meaning::is_staged, crate::specs::Meaning::waiting_in, crate::specs::Meaning::kept_in, crate::specs::Meaning::is_live, crate::specs::Meaning::words_in))]
+#[tactic(auto, unfolding(crate::specs::Meaning::total_of, crate::specs::Meaning::store_of, crate::specs::Meaning::frame_count, crate::specs::Meaning::table_in, crate::specs::Meaning::coming, crate::specs::Meaning::staged_in, crate::specs::Meaning::staged_of, crate::specs::Meaning::is_staged, crate::specs::Meaning::waiting_in, crate::specs::Meaning::kept_in, crate::specs::Meaning::is_live, crate::specs::Meaning::words_in))]
 impl Pages {
-    ghost use Rattle.mg_pages.specs.Meaning.{BindsOnly, CountsNone, CountsOne, HasTable, IsBare, IsKept, Keeps, Releases, Restages, SameShape, SetsWord, SpellsTable, StagesMore, StandsOn, Unbinds, IsSpelledBy, coming, frame_count, is_bound, is_live, is_staged, page_now, replayed, staged_of, store_of, table_in, total_of, waiting_in, words_in};
+    ghost use Rattle.mg_pages.specs.Meaning.{BindsOnly, CountsNone, CountsOne, HasTable, IsBare, IsKept, Keeps, Releases, Restages, SameShape, SetsWord, SpellsTable, StagesMore, StandsOn, Unbinds, IsSpelledBy, coming, frame_count, is_bound, is_live, is_staged, page_now, replayed, staged_in, staged_of, store_of, table_in, total_of, waiting_in, words_in};
 
     /// The pages of a volume with this journal and these entries of its frame table, one a frame, 16 to 65,536 of them: the
     /// page that the frame holds, or 0. No page occurs twice. All memory that they will need is taken here.
@@ -114,7 +114,7 @@ impl Pages {
         ensures coming { (image : List (List ℕ)) → coming self.new image ≡ coming self.old image }
         ensures store { store_of self.new ≡ store_of self.old }
         ensures shape { SameShape self.old self.new }
-        ensures staged { staged_of self.new ≡ staged_of self.old }
+        ensures staged { staged_in self.new ≡ staged_in self.old }
         ensures words { words_in self.new ≡ words_in self.old }
         ensures writes { WritesNothing D.Disk disk.old disk.new }
         ensures calls { DiskCalls D.Disk disk.old disk.new result }

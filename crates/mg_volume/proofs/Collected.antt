@@ -7,14 +7,13 @@ use Rattle.mg_disk.specs.Disk.{Image}
 use Rattle.mg_model.specs.declared.accounts.AccRow.{AccRow}
 use Rattle.mg_model.specs.Bank.{all_charged, all_paid, given_to, rate_now, rate_of, rent_accounts, rent_paid, used}
 use Rattle.mg_model.specs.KeptListLemmas.{sum_by-filter-le}
-use Rattle.mg_model.specs.State.{Object, ObjectRow, State}
+use Rattle.mg_model.specs.State.{Object, ObjectRow}
 use Rattle.mg_rent.specs.Charging.{ArePagesOf}
 use Rattle.mg_rent.specs.PaidLemmas.{paid-through, row_pages}
 use Rattle.mg_space.specs.Space.{ArePaid, AreRowsOf}
 use Rattle.mg_volume.specs.Held.{VolumeHeld}
 use Rattle.mg_volume.specs.StateLemmas.{now_accounts, now_rows, now_settings}
 use Rattle.mg_volume.specs.Meaning.{accounts_in, now_of, objects_in, settings_in}
-use Rattle.mg_volume.specs.StagesAccounts.{accounts_at}
 
 pub rate_is : (v : VolumeHeld) (image : Image) (n : ℕ) → n ≡ sum_by (λ (row : ObjectRow). row.pages) (objects_in v) → rate_of (settings_in v).tariff n ≡ rate_now (now_of v image)
 rate_is v image n is =
@@ -42,21 +41,18 @@ accounts-are : (v : VolumeHeld) (image : Image) → v.accounts ≡ (now_of v ima
 unfolding accounts_in
 accounts-are v image = sym (now_accounts v image)
 
--- the accounts that were charged are those of a collection from the state
-pub charged_are : (v : VolumeHeld) (rows : List AccRow) (rate : ℕ) (image : Image)
-    → ((objects : List Object) → AreRowsOf objects v.objects → rows ≡ given_to (all_charged objects rate 1 v.accounts) 1 (all_paid objects rate 1 v.accounts)) → rows ≡ accounts_at rate (now_of v image)
-charged_are v rows rate image told =
-    let objects = (now_of v image).objects in
-    told objects (objects_are v image) ∙ ap (λ (l : List AccRow). given_to (all_charged objects rate 1 l) 1 (all_paid objects rate 1 l)) (accounts-are v image)
+-- the accounts that were charged at the rate of the state are those after its rent
+pub rented : (v : VolumeHeld) (rows : List AccRow) (rate : ℕ) (image : Image) → rate ≡ rate_now (now_of v image)
+    → ((objects : List Object) → AreRowsOf objects v.objects → rows ≡ given_to (all_charged objects rate 1 v.accounts) 1 (all_paid objects rate 1 v.accounts)) → rows ≡ rent_accounts (now_of v image)
+rented v rows rate image rate_is told =
+    let state = now_of v image in
+    told state.objects (objects_are v image)
+    ∙ ap (λ (l : List AccRow). given_to (all_charged state.objects rate 1 l) 1 (all_paid state.objects rate 1 l)) (accounts-are v image)
+    ∙ ap (λ r. given_to (all_charged state.objects r 1 state.accounts) 1 (all_paid state.objects r 1 state.accounts)) rate_is
 
-pub charged_paid : (v : VolumeHeld) (rate paid : ℕ) (image : Image) → ((objects : List Object) → AreRowsOf objects v.objects → paid ≡ all_paid objects rate 1 v.accounts) → paid ≡ all_paid (now_of v image).objects rate 1 (now_of v image).accounts
-charged_paid v rate paid image told =
-    let objects = (now_of v image).objects in
-    told objects (objects_are v image) ∙ ap (λ (l : List AccRow). all_paid objects rate 1 l) (accounts-are v image)
-
--- and at the rate of the state they are its rent
-pub rented : (state : State) (accounts : List AccRow) (rate : ℕ) → rate ≡ rate_now state → accounts ≡ accounts_at rate state → accounts ≡ rent_accounts state
-rented state accounts rate rate_is is = is ∙ ap (λ r. accounts_at r state) rate_is
-
-pub rent_is : (state : State) (paid rate : ℕ) → rate ≡ rate_now state → paid ≡ all_paid state.objects rate 1 state.accounts → paid ≡ rent_paid state
-rent_is state paid rate rate_is is = is ∙ ap (λ r. all_paid state.objects r 1 state.accounts) rate_is
+-- and what they paid is the rent
+pub rent_is : (v : VolumeHeld) (paid rate : ℕ) (image : Image) → rate ≡ rate_now (now_of v image)
+    → ((objects : List Object) → AreRowsOf objects v.objects → paid ≡ all_paid objects rate 1 v.accounts) → paid ≡ rent_paid (now_of v image)
+rent_is v paid rate image rate_is told =
+    let state = now_of v image in
+    told state.objects (objects_are v image) ∙ ap (λ (l : List AccRow). all_paid state.objects rate 1 l) (accounts-are v image) ∙ ap (λ r. all_paid state.objects r 1 state.accounts) rate_is

@@ -20,7 +20,7 @@ use Rattle.mg_pages.specs.Meaning as pages
 use Rattle.mg_volume.proofs.FreeFrame.{free_frame}
 use Rattle.mg_volume.proofs.StandingPages.{with_pages}
 use Rattle.mg_volume.specs.Held.{VolumeHeld}
-use Rattle.mg_volume.specs.Meaning.{IsKept, Keeps, has_page, is_live, is_page_in, is_sound, now_of, objects_in, staged_of, threads_in, total_of}
+use Rattle.mg_volume.specs.Meaning.{IsKept, Keeps, has_page, is_live, is_page_in, is_sound, now_of, objects_in, staged_in, staged_of, threads_in, total_of}
 use Rattle.mg_volume.specs.PageWordLemmas.{objects-set, word-spelled}
 use Rattle.mg_volume.specs.Sound.{all_spelled, is_sound_held, sound_is}
 
@@ -103,11 +103,12 @@ counted (Err e) p p' steps steps' one none = counted-none (pages.words_in p) (pa
 
 -- nothing changed but the count
 pub keeps_now : (v : VolumeHeld) (p : Pages) → pages.Keeps v.pages p → Keeps v (with_pages v p)
-unfolding now_of staged_of is_live total_of threads_in
+unfolding now_of staged_in staged_of is_live total_of threads_in
 keeps_now v p keeps = record {
   now = λ image.
       ap (λ r. record (now_of v image) { objects = all_spelled r v.settings.frames (pages.table_in p) v.objects }) (keeps.coming image)
       ∙ ap (λ table. record (now_of v image) { objects = all_spelled (pages.coming v.pages image) v.settings.frames table v.objects }) keeps.table;
+  writes = keeps.writes;
   staged = keeps.staged;
   live = keeps.shape.live;
   total = keeps.shape.total;

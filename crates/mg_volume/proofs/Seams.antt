@@ -12,10 +12,6 @@ set-seam (n ∷ ns) (o ∷ os) (suc k) d below within =
     let e : suc k + 1 ≡ suc (k + 1) = omega arith in
     ap (λ xs. n ∷ xs) (set-seam ns os k d (omega arith) (omega arith)) ∙ ap (λ j. take j (n ∷ ns) ++ drop (suc (k + 1)) (o ∷ os)) (sym e) ∙ ap (λ j. take (suc k + 1) (n ∷ ns) ++ drop j (o ∷ os)) (sym e)
 
--- all of them
-pub seam-end : (new old : List ℕ) (k : ℕ) → length new ≡ k → length old ≡ k → take k new ++ drop k old ≡ new
-seam-end new old k whole same = grind (arith, common_steps)
-
 -- as many, and the next of the old ones
 pub seam-long : (new old : List ℕ) (k : ℕ) → length new ≡ length old → length (take k new ++ drop k old) ≡ length old
 seam-long new old k same = grind (arith, common_steps)

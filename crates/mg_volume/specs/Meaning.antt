@@ -69,6 +69,10 @@ now_of v image = record {
   threads = threads_in v;
 }
 
+-- the blocks that are staged, each with its bytes, and how many they are
+unfoldable pub staged_in : VolumeHeld → List (ℕ × List ℕ)
+staged_in v = pages.staged_in v.pages
+
 unfoldable pub staged_of : VolumeHeld → ℕ
 staged_of v = pages.staged_of v.pages
 
@@ -143,6 +147,7 @@ is_sound state =
 -- nothing changed but the count of words
 pub record Keeps (old new : VolumeHeld) : Type 0 where
   pub now : (image : Image) → now_of new image ≡ now_of old image
+  pub writes : staged_in new ≡ staged_in old
   pub staged : staged_of new ≡ staged_of old
   pub live : is_live new ≡ is_live old
   pub total : total_of new ≡ total_of old

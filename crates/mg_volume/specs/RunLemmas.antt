@@ -35,11 +35,12 @@ alike_then w0 w1 w2 s0 s1 s2 (n, rose, words) (m, rose', words') =
 
 -- nothing changed, and one change after another
 pub keeps_none : (v : VolumeHeld) → Keeps v v
-keeps_none v = record { now = λ image. refl; staged = refl; live = refl; total = refl }
+keeps_none v = record { now = λ image. refl; writes = refl; staged = refl; live = refl; total = refl }
 
 pub keeps_then : (a b c : VolumeHeld) → Keeps a b → Keeps b c → Keeps a c
 keeps_then a b c first second = record {
   now = λ image. second.now image ∙ first.now image;
+  writes = second.writes ∙ first.writes;
   staged = second.staged ∙ first.staged;
   live = second.live ∙ first.live;
   total = second.total ∙ first.total;

@@ -2,11 +2,9 @@
 use Rattle.std.specs.Prelude.{◌≡◌, ◌⊎◌, ◌+◌, ◌*◌, ◌/◌, ◌≤◌, ◌<◌, ℕ, Bool, true, false, List, slice_get, Some}
 use Rattle.mg_disk.specs.Disk.{Image}
 use Rattle.mg_model.specs.declared.accounts.AccRow.{AccRow}
-use Rattle.mg_model.specs.Bank.{all_charged, all_paid, given_to}
 use Rattle.mg_model.specs.Layout.{first_account_block, first_thread_block}
 use Rattle.mg_model.specs.Limits.{account_limit}
 use Rattle.mg_model.specs.Replay.{block_of}
-use Rattle.mg_model.specs.State.{State}
 use Rattle.mg_pages.specs.declared.pages.Pages.{Pages}
 use Rattle.mg_pages.specs.Meaning as pages
 use Rattle.mg_rows.specs.Blocks.{account_in}
@@ -33,7 +31,3 @@ pub record StagesAccounts (most : ℕ) (named : ℕ → Bool) (rows : List AccRo
 -- rows that differ from these in blocks alone that a test names
 pub record DifferWithin (named : ℕ → Bool) (old new : List AccRow) : Type 0 where
   pub each : (i : ℕ) → i < account_limit → named (i / 64) ≡ false → slice_get new i ≡ slice_get old i
-
--- the accounts after a collection at this rate
-abbrev pub accounts_at : ℕ → State → List AccRow
-accounts_at rate state = given_to (all_charged state.objects rate 1 state.accounts) 1 (all_paid state.objects rate 1 state.accounts)

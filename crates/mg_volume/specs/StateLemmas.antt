@@ -11,7 +11,7 @@ use Rattle.mg_pages.specs.SpelledLemmas as laws
 use Rattle.mg_pages.specs.Meaning as pages
 use Rattle.mg_volume.specs.Contents.{IsSet, volume_of_replay}
 use Rattle.mg_volume.specs.Held.{VolumeHeld}
-use Rattle.mg_volume.specs.Meaning.{IsSpelledBy, SameShape, Spelled, StandsOn, accounts_in, counters_in, now_of, objects_in, settings_in, staged_of, threads_in}
+use Rattle.mg_volume.specs.Meaning.{IsSpelledBy, SameShape, Spelled, StandsOn, accounts_in, counters_in, now_of, objects_in, settings_in, staged_in, staged_of, threads_in}
 use Rattle.mg_volume.specs.Sound.{coming_kept, rows-spelled}
 
 -- it has the settings, and as many blocks as they need
@@ -21,6 +21,11 @@ set_of v image s = record {
   super = s.super;
   long = let total = laws.size_of v.pages image s.fitting in let long = laws.long_of v.pages image s.fitting in let frames = ap total_blocks s.frames in omega arith;
 }
+
+-- if what is staged stays, its number stays
+pub same_number : (v w : VolumeHeld) → staged_in w ≡ staged_in v → staged_of w ≡ staged_of v
+unfolding staged_in staged_of
+same_number v w same = laws.same_number v.pages w.pages same
 
 -- when nothing is staged the state is what is kept
 pub now_kept : (v : VolumeHeld) (image : Image) → IsSpelledBy v image → staged_of v ≡ 0 → volume image ≡ Is (now_of v image)

@@ -1,32 +1,28 @@
 // What a volume stages of its accounts.
-ghost use Rattle.std.specs.Prelude.{List, ◌≡◌, ◌≤◌, ◌<◌, ◌+◌, ◌-◌, ◌*◌, ◌/◌, ◌++◌, ◌∷◌, ◌^◌, ◌==◌, [], ℕ, IfOk, MatchResult, None, OnErr, OnOk, Some, false, is_some, length, true};
+ghost use Rattle.std.specs.Prelude.{List, ◌≡◌, ◌≤◌, ◌<◌, ◌+◌, ◌-◌, ◌*◌, ◌/◌, ◌++◌, ◌∷◌, ◌^◌, ◌==◌, [], ℕ, IfOk, MatchResult, None, OnErr, OnOk, Some, false, length, true};
 ghost use Rattle.mg_bank.specs.Bank.{credits_of};
 ghost use Rattle.mg_bank.specs.Refusals.{opening_refusal, paying_refusal};
-ghost use Rattle.mg_model.specs.Bank.{account_of, all_paid, balance_of, given_to, rate_now, rent_accounts, rent_paid, taken_from};
+ghost use Rattle.mg_model.specs.Bank.{given_to, rate_now, rent_accounts, rent_paid, taken_from};
 ghost use Rattle.mg_model.specs.declared.replies.Refusal.TheVariants.{Calendar};
-ghost use Rattle.mg_model.specs.Limits.{period_limit, step_limit};
+ghost use Rattle.mg_model.specs.Limits.{period_limit};
 ghost use Rattle.mg_rent.specs.Charging.{OweAtMost};
 ghost use Rattle.mg_volume.specs.Calls.{Stages};
 ghost use Rattle.mg_volume.specs.Meaning.{accounts_in, counters_in, now_of, objects_in, staged_of};
-ghost use Rattle.mg_volume.specs.StagesAccounts.{accounts_at};
 ghost use Rattle.mg_volume.specs.Staging.{ObjectsStillStaged};
 
 use crate::account_block::{stage_both, stage_first};
 use crate::volume::Volume;
-use mg_bank::Bank;
 use mg_model::Refusal;
-use mg_rent::{charge_all, may_collect, rate};
+use mg_rent::collect_rent;
 
-// The block of the table that has the row of this account, which is there.
-fn block_of(bank: &Bank, account: u64) -> u64
-    requires there { is_some (account_of bank.now.accounts account) ≡ true }
+// The block of the table that has the row of this account, 1 to 1,024.
+fn block_of(account: u64) -> u64
+    requires at_least_1 { 1 ≤ account }
+    requires at_most_1024 { account ≤ 1024 }
     ensures block { result ≡ (account - 1) / 64 }
     ensures below_16 { result < 16 }
 {
-    match bank.row(account) {
-        Some(_) => (account - 1) / 64,
-        None => unreachable!(),
-    }
+    (account - 1) / 64
 }
 
 // How many blocks of the table have the rows of this number of accounts.
@@ -40,10 +36,10 @@ fn block_count(accounts: u64) -> u64
 
 #[tactic(auto, unfolding(crate::specs::Meaning::settings_in, crate::specs::Meaning::counters_in, crate::specs::Meaning::objects_in, crate::specs::Meaning::accounts_in, crate::specs::Meaning::threads_in, crate::specs::Meaning::now_of, crate::specs::Meaning::staged_of, crate::specs::Meaning::is_live, crate::specs::Meaning::total_of, crate::specs::Meaning::words_in))]
 impl Volume {
-    /// Stages one more account, with the password `fresh` and these credits of `account`, which `password` opens; gives its number, the last.
-    /// It owes nothing. The refusals come in this order: no such account, or another password than its own (Account); too few
-    /// credits (Credit); 1,024 accounts (Limit). Nothing changes then. At most 158 blocks are staged, and two more at most
-    /// then.
+    /// Stages one more account, with the password `fresh` and these credits of `account`, which `password` opens. Its number, the
+    /// last, is the answer. It owes nothing. The refusals come in this order: no such account, or another password than its own
+    /// (Account); too few credits (Credit); 1,024 accounts (Limit). Nothing changes then. At most 158 blocks are staged, and two
+    /// more at most then.
     pub fn open_account(
         &mut self,
         account: u64,
@@ -60,14 +56,11 @@ impl Volume {
         ensures objects { OnOk result (ObjectsStillStaged self.old self.new) }
         ensures stays { OnErr result (self.new ≡ self.old) }
     {
-        match self.bank().opening(account, password, credits) {
-            Some(word) => Err(word),
-            None => {
-                let number = self.bank.len() + 1;
-                self.add_account(account, credits, fresh);
-                Ok(number)
-            }
-        }
+        let number = self.bank.open_account(account, password, credits, fresh)?;
+        let first = block_of(account);
+        let last = block_of(number);
+        stage_both(&mut self.pages, self.bank.rows(), first, last);
+        Ok(number)
     }
 
     /// Stages that these credits of account `from`, which `password` opens, go to account `to`, which may be the same. The
@@ -82,66 +75,15 @@ impl Volume {
         ensures objects { OnOk result (ObjectsStillStaged self.old self.new) }
         ensures stays { OnErr result (self.new ≡ self.old) }
     {
-        match self.bank().paying(from, password, to, credits) {
-            Some(word) => Err(word),
-            None => {
-                self.transfer(from, to, credits);
-                Ok(())
-            }
-        }
-    }
-
-    // Stages one more account, the last, with this password and with credits of the payer, which is there and has that many.
-    // There are fewer than 1,024 accounts. At most 158 blocks are staged, and two more at most then.
-    fn add_account(&mut self, payer: u64, amount: u64, password: u64)
-        requires payer { is_some (account_of (accounts_in self.old) payer) ≡ true }
-        requires enough { amount ≤ balance_of (accounts_in self.old) payer }
-        requires fewer_than_1024_accounts { length (accounts_in self.old) < 1024 }
-        requires at_most_158_staged { staged_of self.old ≤ 158 }
-        ensures now { (image : List (List ℕ)) → now_of self.new image ≡ record (now_of self.old image) { accounts = taken_from (accounts_in self.old) payer amount ++ record { password = password; balance = amount; owed = 0 } ∷ [] } }
-        ensures rows { objects_in self.new ≡ objects_in self.old }
-        ensures stages { Stages 2 self.old self.new }
-        ensures objects { ObjectsStillStaged self.old self.new }
-    {
-        let first = block_of(&self.bank, payer);
-        let count = self.bank.len();
-        self.bank.add_account(payer, amount, password);
-        stage_both(&mut self.pages, self.bank.rows(), first, count / 64);
-    }
-
-    // Stages that credits of one account go to another, which may be the same. Both are there, and the first has that many. At
-    // most 158 blocks are staged, and two more at most then.
-    fn transfer(&mut self, from: u64, to: u64, amount: u64)
-        requires from { is_some (account_of (accounts_in self.old) from) ≡ true }
-        requires to { is_some (account_of (accounts_in self.old) to) ≡ true }
-        requires enough { amount ≤ balance_of (accounts_in self.old) from }
-        requires at_most_158_staged { staged_of self.old ≤ 158 }
-        ensures now { (image : List (List ℕ)) → now_of self.new image ≡ record (now_of self.old image) { accounts = given_to (taken_from (accounts_in self.old) from amount) to amount } }
-        ensures rows { objects_in self.new ≡ objects_in self.old }
-        ensures stages { Stages 2 self.old self.new }
-        ensures objects { ObjectsStillStaged self.old self.new }
-    {
-        let first = block_of(&self.bank, from);
-        let second = block_of(&self.bank, to);
-        self.bank.transfer(from, to, amount);
+        self.bank.pay(from, password, to, credits)?;
+        let first = block_of(from);
+        let second = block_of(to);
         stage_both(&mut self.pages, self.bank.rows(), first, second);
+        Ok(())
     }
 
-    /// The rate of the rent now: credits for each page of an account and period, at most `2^20`.
-    pub fn rate(&self) -> u64
-        ensures rate { (image : List (List ℕ)) → result ≡ rate_now (now_of self.now image) }
-        ensures at_most_step_limit { result ≤ step_limit }
-    {
-        rate(&self.params().tariff(), self.used())
-    }
-
-    /// Stages the rent of a period: each account pays for its pages what it can, with what it owes already, and owes the rest;
-    /// account 1 receives the sum, which is the answer. The period stays: the caller begins the next one with
-    /// [`Volume::stage_globals`]. In the last period, `2^24 - 1`, it is refused (Calendar), and nothing changes. At most 144 blocks
-    /// are staged, and 16 more at most then.
-    ///
-    /// The sums are exact if no account owes more than `2^60`, as in every state that is well formed. Whatever accounts owe,
-    /// nothing but the accounts changes, and no credit comes or goes.
+    /// Stages the rent of a period, as [`Volume::collect_rent`] does, and gives the sum that was paid. In the last period,
+    /// `2^24 - 1`, it is refused (Calendar), and nothing changes. At most 144 blocks are staged, and 16 more at most then.
     pub fn collect(&mut self) -> Result<u64, Refusal>
         requires at_most_144_staged { staged_of self.old ≤ 144 }
         ensures refusal { MatchResult result (λ _. ((counters_in self.old).period == period_limit) ≡ false) (λ word. (word ≡ Calendar) × (((counters_in self.old).period == period_limit) ≡ true)) }
@@ -154,29 +96,38 @@ impl Volume {
         ensures objects { OnOk result (ObjectsStillStaged self.old self.new) }
         ensures stays { OnErr result (self.new ≡ self.old) }
     {
-        may_collect(self.globals().period())?;
-        let rate = self.rate();
-        Ok(self.charge(rate))
+        let (_, paid) = self.collect_rent()?;
+        Ok(paid)
     }
 
-    // Stages the accounts after a collection at this rate, and gives the sum that was paid.
-    fn charge(&mut self, rate: u64) -> u64
-        requires rate { rate ≤ step_limit }
+    /// Stages the rent of a period: each account pays for its pages what it can, with what it owes already, and owes the rest;
+    /// account 1 receives the sum. The answer is the rate, credits for each page, and the sum. The period stays: the caller
+    /// begins the next one with [`Volume::stage_globals`]. In the last period, `2^24 - 1`, it is refused (Calendar), and nothing
+    /// changes. At most 144 blocks are staged, and 16 more at most then.
+    ///
+    /// The sums are exact if no account owes more than `2^60`, as in every state that is well formed. Whatever accounts owe,
+    /// nothing but the accounts changes, and no credit comes or goes.
+    pub fn collect_rent(&mut self) -> Result<(u64, u64), Refusal>
         requires at_most_144_staged { staged_of self.old ≤ 144 }
-        ensures now { (image : List (List ℕ)) → now_of self.new image ≡ record (now_of self.old image) { accounts = accounts_in self.new } }
-        ensures accounts { OweAtMost (2 ^ 60) (accounts_in self.old) → (image : List (List ℕ)) → accounts_in self.new ≡ accounts_at rate (now_of self.old image) }
-        ensures paid { OweAtMost (2 ^ 60) (accounts_in self.old) → (image : List (List ℕ)) → result ≡ all_paid (now_of self.old image).objects rate 1 (now_of self.old image).accounts }
+        ensures refusal { MatchResult result (λ _. ((counters_in self.old).period == period_limit) ≡ false) (λ word. (word ≡ Calendar) × (((counters_in self.old).period == period_limit) ≡ true)) }
+        ensures rate { IfOk result (λ told. (image : List (List ℕ)) → told.0 ≡ rate_now (now_of self.old image)) }
+        ensures now { OnOk result ((image : List (List ℕ)) → now_of self.new image ≡ record (now_of self.old image) { accounts = accounts_in self.new }) }
+        ensures accounts { OnOk result (OweAtMost (2 ^ 60) (accounts_in self.old) → (image : List (List ℕ)) → accounts_in self.new ≡ rent_accounts (now_of self.old image)) }
+        ensures paid { IfOk result (λ told. OweAtMost (2 ^ 60) (accounts_in self.old) → (image : List (List ℕ)) → told.1 ≡ rent_paid (now_of self.old image)) }
         ensures sum { credits_of (accounts_in self.new) ≡ credits_of (accounts_in self.old) }
-        ensures rows { objects_in self.new ≡ objects_in self.old }
-        ensures stages { Stages 16 self.old self.new }
-        ensures objects { ObjectsStillStaged self.old self.new }
+        ensures rows { OnOk result (objects_in self.new ≡ objects_in self.old) }
+        ensures stages { OnOk result (Stages 16 self.old self.new) }
+        ensures objects { OnOk result (ObjectsStillStaged self.old self.new) }
+        ensures stays { OnErr result (self.new ≡ self.old) }
     {
         // This says that the frames are in their range.
         self.params.keep_rules();
-        let count = self.bank.len();
-        let paid = charge_all(&mut self.bank, rate);
-        let blocks = block_count(count);
+        let tariff = self.params().tariff();
+        let used = self.used();
+        let period = self.globals().period();
+        let told = collect_rent(&mut self.bank, &tariff, used, period)?;
+        let blocks = block_count(self.bank.len());
         stage_first(&mut self.pages, self.bank.rows(), blocks);
-        paid
+        Ok(told)
     }
 }

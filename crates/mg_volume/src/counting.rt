@@ -1,5 +1,6 @@
 // The block of the counters, if it is staged: its words.
 ghost use Rattle.std.specs.Prelude.{◌≡◌, true, false};
+ghost use Rattle.mg_model.specs.Ranges.{IsCounters};
 ghost use Rattle.mg_volume.specs.Standing.{RespellsCounters};
 
 use mg_layout::GLOBALS_BLOCK;
@@ -10,6 +11,7 @@ use mg_pages::Pages;
 pub(crate) fn respell_counters(pages: &mut Pages, counters: &Globals) -> bool
     ensures not_staged { result ≡ false → pages.new ≡ pages.old }
     ensures staged { result ≡ true → RespellsCounters counters.now pages.old pages.new }
+    ensures kept { IsCounters counters.now }
 {
     if !pages.put(GLOBALS_BLOCK, 0, counters.draws()) {
         return false;

@@ -36,6 +36,6 @@ impl Volume {
         self.params.keep_rules();
         accounts_keep_rules(self.bank.rows());
         self.threads.keep_rules();
-        self.globals.keep_rules();
+        let _draws = self.globals.draws();
     }
 }

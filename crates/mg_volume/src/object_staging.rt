@@ -81,8 +81,6 @@ impl Volume {
         ensures objects { ObjectsStillStaged self.old self.new }
         ensures here { is_object_staged self.new row.base ≡ true }
     {
-        // This says that the row keeps its ranges.
-        row.keep_rules();
         let place = self.objects.update(row, &mut self.bank);
         stage_row(&mut self.pages, &self.objects, place);
     }
@@ -99,8 +97,6 @@ impl Volume {
         ensures objects { ObjectsStillStaged self.old self.new }
         ensures here { is_object_staged self.new row.base ≡ true }
     {
-        // This says that the row keeps its ranges.
-        row.keep_rules();
         let place = self.objects.insert(row, &mut self.bank);
         stage_row(&mut self.pages, &self.objects, place);
     }

@@ -47,7 +47,6 @@ impl Volume {
         ensures here { result ≡ true → are_counters_staged self.new ≡ true }
     {
         rows_are_spelled_in_one_way();
-        counters.keep_rules();
         if !respell_counters(&mut self.pages, counters) {
             return false;
         }
@@ -83,7 +82,6 @@ impl Volume {
     {
         stage_any(&mut self.pages, FIRST_THREAD_BLOCK + number - 1, &row);
         self.threads.put(number, row);
-        self.threads.keep_rules();
     }
 
     // No two threads have one number, as in each volume.
@@ -166,8 +164,7 @@ impl Volume {
         ) {
             return false;
         }
-        self.threads.stand(number, pc, state, regs);
-        self.threads.keep_rules();
+        self.threads.move_to(number, pc, state, regs);
         true
     }
 
@@ -187,8 +184,7 @@ impl Volume {
         self.keep_number(number);
         match self.threads.get(number) {
             Some(_row) => {
-                self.threads.stand(number, pc, state, regs);
-                self.threads.keep_rules();
+                self.threads.move_to(number, pc, state, regs);
                 stage_held(&mut self.pages, &self.threads, number);
             }
             None => unreachable!(),

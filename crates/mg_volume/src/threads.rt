@@ -88,9 +88,9 @@ impl Threads {
     pub(crate) fn put(&mut self, number: u64, row: Option<ThrRow>)
         requires t_at_least_1 { 1 ≤ number }
         requires t_at_most_256 { number ≤ 256 }
-        ensures { self.new ≡ rows_with number row self.old }
+        ensures rows { self.new ≡ rows_with number row self.old }
+        ensures few { length self.new ≤ 256 }
     {
-        keep_range(&row);
         let place = number as usize - 1;
         self.taken[place] = row.is_some();
         self.ready[place] = turn_mark(&row);
@@ -98,16 +98,17 @@ impl Threads {
     }
 
     /// Where the thread with this number, 1 to 256, is from now on, if it is there: its pc, a multiple of 8, its state and its registers.
-    pub(crate) fn stand(&mut self, number: u64, pc: u64, state: ThrState, regs: &[u64; 8])
+    pub(crate) fn move_to(&mut self, number: u64, pc: u64, state: ThrState, regs: &[u64; 8])
         requires t_at_least_1 { 1 ≤ number }
         requires t_at_most_256 { number ≤ 256 }
         requires aligned { pc % 8 ≡ 0 }
         ensures stands { (row : ThreadRow) → option_map (λ thread. thread.1) (find (λ thread. thread.0 == number) self.old) ≡ Some row → self.new ≡ rows_with number (Some (stands_at pc state regs.now row)) self.old }
         ensures there { (row : ThreadRow) → option_map (λ thread. thread.1) (find (λ thread. thread.0 == number) self.old) ≡ Some row → option_map (λ thread. thread.1) (find (λ thread. thread.0 == number) self.new) ≡ Some (stands_at pc state regs.now row) }
         ensures kept { (row : ThreadRow) → option_map (λ thread. thread.1) (find (λ thread. thread.0 == number) self.old) ≡ Some row → IsThreadRow (stands_at pc state regs.now row) }
+        ensures few { length self.new ≤ 256 }
     {
         let place = number as usize - 1;
-        stand(&mut self.rows[place], pc, state, regs);
+        move_row(&mut self.rows[place], pc, state, regs);
         self.taken[place] = self.rows[place].is_some();
         self.ready[place] = turn_mark(&self.rows[place]);
     }
@@ -160,52 +161,32 @@ fn first_ready(marks: &[u8]) -> Option<usize>
 
 // Whether a row is that of a thread that is Ready.
 fn has_turn(row: &Option<ThrRow>) -> bool
-    ensures { result ≡ has_turn row.now }
+    ensures value { result ≡ has_turn row.now }
+    ensures kept { ForSome row.now IsThreadRow }
 {
     match row {
-        Some(row) => row.state() == ThrState::Ready,
+        Some(row) => row.state == ThrState::Ready,
         None => false,
     }
 }
 
 // The mark of a row.
 fn turn_mark(row: &Option<ThrRow>) -> u8
-    ensures { result ≡ turn_mark row.now }
+    ensures value { result ≡ turn_mark row.now }
+    ensures kept { ForSome row.now IsThreadRow }
 {
     if has_turn(row) { READY } else { 0 }
 }
 
 // A thread moves elsewhere, if there is one.
-fn stand(row: &mut Option<ThrRow>, pc: u64, state: ThrState, regs: &[u64; 8])
+fn move_row(row: &mut Option<ThrRow>, pc: u64, state: ThrState, regs: &[u64; 8])
     requires aligned { pc % 8 ≡ 0 }
-    ensures stands { row.new ≡ option_map (stands_at pc state regs.now) row.old }
-    ensures kept { ForSome row.new IsThreadRow }
+    ensures { row.new ≡ option_map (stands_at pc state regs.now) row.old }
 {
     if let Some(row) = row {
         row.set_pc(pc);
         row.set_state(state);
-        set_registers(row, regs);
-    }
-}
-
-// Other registers.
-fn set_registers(row: &mut ThrRow, regs: &[u64; 8])
-    ensures registers { row.new ≡ record row.old { regs = regs.now } }
-    ensures kept { IsThreadRow row.new }
-{
-    row.keep_rules();
-    for k in 0..8 {
-        row.set_register(k, regs[k]);
-    }
-    row.keep_rules();
-}
-
-// A row keeps its ranges. It does nothing when it runs.
-fn keep_range(row: &Option<ThrRow>)
-    ensures { ForSome row.now IsThreadRow }
-{
-    if let Some(row) = row {
-        row.keep_rules();
+        row.set_regs(*regs);
     }
 }
 

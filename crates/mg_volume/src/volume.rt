@@ -205,7 +205,6 @@ impl Volume {
         ensures accounts { result.now.accounts ≡ accounts_in self.now }
         ensures pages { (n : ℕ) → pages_at result.now.pages n ≡ sum_by (λ row. row.pages) (filter (λ row. row.account == n) (objects_in self.now)) }
     {
-        let _objects = &self.objects;
         &self.bank
     }
 

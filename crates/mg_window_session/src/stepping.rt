@@ -105,6 +105,7 @@ fn store_at<T: Device>(windows: &mut Windows<T>, i: usize, off: u64, value: u64)
 }
 
 /// The device that an access of a thread reaches: its place, and the address from its base on, in bytes.
+#[tactic(auto, using(mg_kernel::specs::Meaning::same_number))]
 fn reach<T: Device, D: Disk, L: Ledger>(
     kernel: &mut Kernel,
     windows: &Windows<T>,

@@ -89,6 +89,7 @@ fn calls(disk: &MemDisk) -> u64 {
 }
 
 /// The reply to a line, and how often it failed before, once at most. None if it fails again, or if too much is staged.
+#[tactic(auto, using(mg_kernel::specs::Meaning::same_number))]
 fn answered_again<D: Disk, L: Ledger>(
     kernel: &mut Kernel,
     disk: &mut D,

@@ -18,9 +18,10 @@ returns-in-None-clause-refusal g c image told =
 pub returns-in-Some-clause-place : goal.returns-in-Some-clause-place
 returns-in-Some-clause-place g c =
     let held = rw c.in-Some.is at c.in_ok-object.ensures.covers in
+    let kept = rw c.in-Some.is at c.in_ok-object.ensures.kept in
     let inside = found-passes (λ row. covers row c.args.address) (objects_in c.reach.new.volume) c.in-Some.object held in (
       inside,
-      found-any (λ row. covers row c.args.address) (λ row. is_page_in (c.args.address / 4096) row) (objects_in c.reach.new.volume) c.in-Some.object held (page-in c.in-Some.object c.args.address inside c.keep_rules.ensures.place),
+      found-any (λ row. covers row c.args.address) (λ row. is_page_in (c.args.address / 4096) row) (objects_in c.reach.new.volume) c.in-Some.object held (page-in c.in-Some.object c.args.address inside kept.place),
       c.if-address-ne0.false,
     )
 

@@ -16,8 +16,8 @@ returns-in-Some-clause-via g c =
     IfOk-weaker c.list_among.result _ _
     (λ via under image told.
     let state = now_of c.args.volume.now image in
-    let slots : c.slots.result.now ≡ domain_of state c.args.thread =
-    c.slots.ensures ∙ sym (ap (λ (o : Option CallFrame). option_map_or (λ (frame : CallFrame). frame.slots) o []) is) ∙ ap (λ (o : Option Thread). option_map_or (λ (x : Thread). last_slots x.row.frames) o []) (sym (told_thread c.args.volume.now image c.args.thread (Some thread) lives)) in
+    let slots : c.as_slice.result.now ≡ domain_of state c.args.thread =
+    c.as_slice.ensures.value ∙ ap (λ (frame : CallFrame). frame.slots) c.present.view_is ∙ sym (ap (λ (o : Option CallFrame). option_map_or (λ (frame : CallFrame). frame.slots) o []) is) ∙ ap (λ (o : Option Thread). option_map_or (λ (x : Thread). last_slots x.row.frames) o []) (sym (told_thread c.args.volume.now image c.args.thread (Some thread) lives)) in
     subst (λ slots. MatchOption via (list_any (λ slot. slot_opens state c.args.sought.now slot) slots ≡ false) (λ via. IsOpenedBy state c.args.sought.now slots via)) slots (under image told))
     c.list_among.ensures.via
 

@@ -18,10 +18,10 @@ returns c = record {
   answers = λ image spelled formed.
       let state = now_of c.args.volume.now image in
       let (thread, lives, is) = c.in-Some.ensures.found in
-      let slots : domain_of state c.args.thread ≡ c.slots.result.now =
+      let slots : domain_of state c.args.thread ≡ c.as_slice.result.now =
       ap (λ (o : Option Thread). option_map_or (λ (x : Thread). last_slots x.row.frames) o []) (told_thread c.args.volume.now image c.args.thread (Some thread) lives)
       ∙ ap (λ (o : Option CallFrame). option_map_or (λ (frame : CallFrame). frame.slots) o []) is
-      ∙ sym c.slots.ensures in
+      ∙ sym (c.as_slice.ensures.value ∙ ap (λ (frame : CallFrame). frame.slots) c.present.view_is) in
       ap (λ (slots : List Slot). (state, Slots (length slots) (map (λ (slot : Slot). slot.base) slots ++ replicate (8 - length slots) 0))) slots ∙ ap (λ reply. (state, reply)) (sym c.listed.ensures);
   stages = stages_none 0 c.args.volume.now;
   refused = search rules;

@@ -16,7 +16,7 @@ use Rattle.mg_model.specs.State.{Thread}
 use Rattle.mg_model.specs.Threads.{make_thread}
 use Rattle.mg_model.specs.WellFormed.{IsWellFormed}
 use Rattle.mg_vcache.specs.Seats.{AllBacked, is_kept}
-use Rattle.mg_volume.specs.Meaning.{now_of, staged_of}
+use Rattle.mg_volume.specs.Meaning.{now_of, staged_in}
 use Rattle.mg_volume.specs.RunLemmas.{then_stages}
 use Rattle.mg_calls_thr.proofs.making.validated_make.Goals as goal
 
@@ -34,7 +34,7 @@ returns-in-Ok g c =
     ∙ c.make.ensures.answers image (sound.stands.fits image (c.word_object.ensures.finds.reads.writes.same ∙ told)) (subst IsWellFormed (sym same) (c.requires.sound.formed image told)) (ap (λ s. access_refusal s c.args.thread c.args.pc X) same ∙ refusal) in
     record {
       answers = answers;
-      refused = λ refused. ap staged_of (c.make.ensures.refused refused) ∙ c.word_object.ensures.finds.reads.keeps.staged;
+      refused = λ refused. ap staged_in (c.make.ensures.refused refused) ∙ c.word_object.ensures.finds.reads.keeps.writes;
       failed = search rules;
       slots = c.make.ensures.slots;
       backed = λ image told.

@@ -1,8 +1,9 @@
 use Rattle.std.proofs.Common.{ap, arith, rules, subst, sym, ◌∙◌}
 use Rattle.mg_calls_dom.specs.Served.{CallServes, of_line}
-use Rattle.mg_kernel.proofs.Counted.{gone-line, held-gone, held-lives, of-thread}
+use Rattle.mg_kernel.proofs.Counted.{gone-line, held-gone, of-thread}
 use Rattle.mg_kernel.proofs.Served.{lives-line, serves_as}
-use Rattle.mg_kernel.proofs.Threads.{by-thread, found-lives, gone}
+use Rattle.mg_kernel.proofs.Threads.{by-thread, gone}
+use Rattle.mg_kernel.proofs.Turned.{row-lives, row-thread, unmapped}
 use Rattle.mg_kernel.specs.Calls.{of_living}
 use Rattle.mg_model.specs.declared.calls.Call.TheVariants as call
 use Rattle.mg_model.specs.Backed.{KeepsBacked, by_each}
@@ -14,7 +15,7 @@ use Rattle.mg_volume.specs.Meaning.{now_of}
 use Rattle.mg_kernel.proofs.answering.answer.Goals as goal
 
 pub dispatch-requires-clause-lives : goal.dispatch-requires-clause-lives
-dispatch-requires-clause-lives g c = found-lives c.args.volume.now c.args.line.now.thread c.in-Some.ensures.found.0 c.in-Some.ensures.found.1
+dispatch-requires-clause-lives g c = row-lives c.args.volume.now c.args.line.now.thread _ c.in-Some.ensures.found
 
 pub returns-in-Next : goal.returns-in-Next
 returns-in-Next g c =
@@ -48,7 +49,7 @@ returns-in-Some g c =
     serves_as 130 132 g.D.Disk (of_living t made) (of_line c.args.line.now) c.dispatch.result c.args.volume.now c.dispatch.new.volume c.args.cache.now c.dispatch.new.cache c.args.disk.now c.dispatch.new.disk c.args.steps.now c.dispatch.new.steps (omega arith)
     (λ image told.
     let state = now_of c.args.volume.now image in
-    lives-line state t made (of-thread made state t c.in_default.not-Bad c.in_default.not-Turn c.in_default.not-Next c.in_default.not-Rent) (held-lives c.args.volume.now image t c.in-Some.ensures.found.0 c.in-Some.ensures.found.1))
+    lives-line state t made (of-thread made state t c.in_default.not-Bad c.in_default.not-Turn c.in_default.not-Next c.in_default.not-Rent) (row-thread c.args.volume.now t _ c.in-Some.ensures.found image))
     c.dispatch.ensures
 
 pub returns-in-None : goal.returns-in-None
@@ -57,7 +58,7 @@ returns-in-None g c = record {
       let state = now_of c.args.volume.now image in
       let t = c.args.line.now.thread in
       let made = c.args.line.now.call in
-      by-thread made state t c.in_default.not-Bad c.in_default.not-Turn c.in_default.not-Next c.in_default.not-Rent ∙ gone c.args.volume.now image t (thread_call state t made) c.in-None.ensures.found;
+      by-thread made state t c.in_default.not-Bad c.in_default.not-Turn c.in_default.not-Next c.in_default.not-Rent ∙ gone c.args.volume.now image t (thread_call state t made) (unmapped _ c.in-None.ensures.found);
   refused = search rules;
   failed = search rules;
   slots = search rules;
@@ -66,7 +67,7 @@ returns-in-None g c = record {
       let state = now_of c.args.volume.now image in
       let t = c.args.line.now.thread in
       let made = c.args.line.now.call in
-      gone-line state t made (of-thread made state t c.in_default.not-Bad c.in_default.not-Turn c.in_default.not-Next c.in_default.not-Rent) (λ key. is_kept c.args.cache.now key) c.args.steps.now (held-gone c.args.volume.now image t c.in-None.ensures.found);
+      gone-line state t made (of-thread made state t c.in_default.not-Bad c.in_default.not-Turn c.in_default.not-Next c.in_default.not-Rent) (λ key. is_kept c.args.cache.now key) c.args.steps.now (held-gone c.args.volume.now image t (unmapped _ c.in-None.ensures.found));
   limit = search rules;
   serves = search rules;
   cause = search rules;

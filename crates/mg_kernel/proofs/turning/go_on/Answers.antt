@@ -9,13 +9,13 @@ use Rattle.mg_kernel.proofs.turning.go_on.Goals as goal
 pub move_thread-requires-clause-lives : goal.move_thread-requires-clause-lives
 move_thread-requires-clause-lives c = row-lives c.args.volume.now c.args.thread c.in-Some.row.now c.in-Some.ensures.found
 
-pub returns-in-Some-stand-clause-left : goal.returns-in-Some-stand-clause-left
-returns-in-Some-stand-clause-left c image =
+pub returns-in-Some-standing_after-clause-left : goal.returns-in-Some-standing_after-clause-left
+returns-in-Some-standing_after-clause-left c image =
     let change = λ (row : ThreadRow). resumed c.args.effect.now c.args.reply.now row in
-    let stands = stood c.in-Some-stand.stands in
+    let stands = stood c.in-Some-standing_after.stands in
     let row = c.in-Some.row.now in
     let held = find (λ (thread : Thread). thread.number == c.args.thread) (threads_in c.args.volume.now) in
-    let same = c.in-Some-stand.ensures.value in
+    let same = c.in-Some-standing_after.ensures.value in
     after-change c.args.thread change (now_of c.args.volume.now image) (now_of c.move_thread.new.self image) row (stands row) c.after.result (row-told c.args.volume.now c.args.thread row c.in-Some.ensures.found image)
     (c.move_thread.ensures.now change (changes-alike change stands held row c.in-Some.ensures.found same) image) (sym same) c.after.ensures
 

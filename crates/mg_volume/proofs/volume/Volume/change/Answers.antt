@@ -35,7 +35,7 @@ invariant_of-self c = record {
       let change = rw (← c.self.view_is) at c.requires.change in
       let staged = c.stage_row.ensures.block in
       rw (c.update-place.ensures.accounts, c.update-place.ensures.objects)
-      (put_held (the_view c.self.inside) c.args.row c.update-place.result c.self.invariant.kept change c.update-place.ensures.place c.stage_row.new.pages c.keep_rules.ensures staged.shape.frames staged.table);
+      (put_held (the_view c.self.inside) c.args.row c.update-place.result c.self.invariant.kept change c.update-place.ensures.place c.stage_row.new.pages c.update-place.ensures.row staged.shape.frames staged.table);
   paid = c.update-place.ensures.paid;
 }
 

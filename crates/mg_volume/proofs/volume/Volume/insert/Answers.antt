@@ -13,7 +13,7 @@ unfolding staged_of
 stage_row-requires-clause-staged_or_fewer_than_160 c =
     let join = rw (← c.self.view_is) at c.requires.join in
     let room = rw (← c.self.view_is) at c.requires.staged_or_fewer_than_160 in
-    inserted_room (the_view c.self.inside) c.args.row c.insert-place.result c.keep_rules.ensures c.self.invariant.kept join c.insert-place.ensures.place room
+    inserted_room (the_view c.self.inside) c.args.row c.insert-place.result c.insert-place.ensures.row c.self.invariant.kept join c.insert-place.ensures.place room
 
 pub invariant_of-self : goal.invariant_of-self
 invariant_of-self c = record {
@@ -21,7 +21,7 @@ invariant_of-self c = record {
       let join = rw (← c.self.view_is) at c.requires.join in
       let staged = c.stage_row.ensures.block in
       rw (c.insert-place.ensures.accounts, c.insert-place.ensures.objects)
-      (inserted_held (the_view c.self.inside) c.args.row c.insert-place.result c.keep_rules.ensures c.self.invariant.kept join c.insert-place.ensures.place c.stage_row.new.pages staged.shape.frames staged.table);
+      (inserted_held (the_view c.self.inside) c.args.row c.insert-place.result c.insert-place.ensures.row c.self.invariant.kept join c.insert-place.ensures.place c.stage_row.new.pages staged.shape.frames staged.table);
   paid = c.insert-place.ensures.paid;
 }
 
@@ -30,6 +30,6 @@ returns c =
     let v = the_view c.self.inside in
     let join = rw (← c.self.view_is) at c.requires.join in
     let staged = rw (c.insert-place.ensures.objects) at c.stage_row.ensures in
-    let all = inserted_changes v c.args.row c.insert-place.result c.keep_rules.ensures c.self.invariant.kept join c.insert-place.ensures.place c.stage_row.new.pages staged in
-    let here = inserted_here v c.args.row c.insert-place.result c.keep_rules.ensures c.self.invariant.kept join c.insert-place.ensures.place c.stage_row.new.pages staged in
+    let all = inserted_changes v c.args.row c.insert-place.result c.insert-place.ensures.row c.self.invariant.kept join c.insert-place.ensures.place c.stage_row.new.pages staged in
+    let here = inserted_here v c.args.row c.insert-place.result c.insert-place.ensures.row c.self.invariant.kept join c.insert-place.ensures.place c.stage_row.new.pages staged in
     rw (← c.self.view_is, c.insert-place.ensures.accounts, c.insert-place.ensures.objects) (record { now = all.now; rows = all.rows; stages = all.stages; objects = all.objects; here = here })

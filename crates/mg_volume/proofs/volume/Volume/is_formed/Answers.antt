@@ -16,5 +16,5 @@ returns c =
     let words : All (λ (row : AccRow). IsWord row.password) v.accounts = subst (All (λ (row : AccRow). IsWord row.password)) c.rows.ensures c.accounts_keep_rules.ensures in
     let threads : All (λ (t : ℕ × ThreadRow). IsThreadRow t.1) v.threads = c.keep_rules-2.ensures.rows in
     let P : VolumeHeld → Type 0 = λ w. (image : List (List ℕ)) → AreBytes image → IsSpelledBy w image → staged_of w ≡ 0 → is_sound (now_of w image) ≡ true → IsWellFormed (now_of w image) in
-    let held : P v = λ image. opened_formed v image c.self.invariant.kept c.keep_rules.ensures.rules c.keep_rules-3.ensures words threads in
+    let held : P v = λ image. opened_formed v image c.self.invariant.kept c.keep_rules.ensures.rules c.draws-draws.ensures.kept words threads in
     subst P c.self.view_is held

@@ -21,8 +21,8 @@ returns c =
     let high = c.keep_number.ensures.at_most_256 in
     let found = c.in-Some.ensures.found in
     let told = c.if-not-respell.ensures.staged refl in
-    let read = moved_read v p c.args.number row (stands row) low high found told c.rows_are_spelled_in_one_way.ensures.threads (c.stand.ensures.kept row (sym found)) in
-    let all = thread_changes v p c.args.number (Some (stands row)) c.stand.new.self told.bytes low high (c.stand.ensures.stands row (sym found)) (restaged _ told.bytes c.self.inside.pages p told.restages) read in
+    let read = moved_read v p c.args.number row (stands row) low high found told c.rows_are_spelled_in_one_way.ensures.threads (c.move_to.ensures.kept row (sym found)) in
+    let all = thread_changes v p c.args.number (Some (stands row)) c.move_to.new.self told.bytes low high (c.move_to.ensures.stands row (sym found)) (restaged _ told.bytes c.self.inside.pages p told.restages) read in
     let same = rw (← c.self.view_is) at c.numbers_differ.ensures in
     let lives = rw (← c.self.view_is) at c.requires.lives in
     rw (← c.self.view_is)
@@ -33,5 +33,5 @@ returns c =
       rows = λ _. all.rows;
       stages = λ _. all.stages;
       objects = λ _. all.objects;
-      here = λ _. thread_here (with_threads v c.stand.new.self p) c.args.number told.restages.here;
+      here = λ _. thread_here (with_threads v c.move_to.new.self p) c.args.number told.restages.here;
     })

@@ -22,9 +22,9 @@ stage_held-requires-clause-staged_or_fewer_than_160 c = thread_room (the_view c.
 pub invariant_of-self : goal.invariant_of-self
 invariant_of-self c = record {
   kept =
-      let held = c.stage_held.ensures (stands_at c.args.pc c.args.state c.args.regs.now c.in-Some._row.now) (c.stand.ensures.there c.in-Some._row.now (sym c.in-Some.ensures.found)) in
+      let held = c.stage_held.ensures (stands_at c.args.pc c.args.state c.args.regs.now c.in-Some._row.now) (c.move_to.ensures.there c.in-Some._row.now (sym c.in-Some.ensures.found)) in
       let v = the_view c.self.inside in
-      held_same v v.counters c.stand.new.self c.stage_held.new.pages c.self.invariant.kept c.keep_rules.ensures.at_most_256 held.staged.shape.frames held.staged.table;
+      held_same v v.counters c.move_to.new.self c.stage_held.new.pages c.self.invariant.kept c.move_to.ensures.few held.staged.shape.frames held.staged.table;
   paid = c.self.invariant.paid;
 }
 
@@ -34,8 +34,8 @@ returns c =
     let row = c.in-Some._row.now in
     let stands = stands_at c.args.pc c.args.state c.args.regs.now in
     let found = c.in-Some.ensures.found in
-    let held = c.stage_held.ensures (stands row) (c.stand.ensures.there row (sym found)) in
-    let all = thread_changes v c.stage_held.new.pages c.args.number (Some (stands row)) c.stand.new.self held.bytes c.keep_number.ensures.at_least_1 c.keep_number.ensures.at_most_256 (c.stand.ensures.stands row (sym found)) held.staged (λ image s. held.read) in
+    let held = c.stage_held.ensures (stands row) (c.move_to.ensures.there row (sym found)) in
+    let all = thread_changes v c.stage_held.new.pages c.args.number (Some (stands row)) c.move_to.new.self held.bytes c.keep_number.ensures.at_least_1 c.keep_number.ensures.at_most_256 (c.move_to.ensures.stands row (sym found)) held.staged (λ image s. held.read) in
     let same = rw (← c.self.view_is) at c.numbers_differ.ensures in
     let lives = rw (← c.self.view_is) at c.requires.lives in
     rw (← c.self.view_is)
@@ -45,5 +45,5 @@ returns c =
       rows = all.rows;
       stages = all.stages;
       objects = all.objects;
-      here = thread_here (with_threads v c.stand.new.self c.stage_held.new.pages) c.args.number held.staged.here;
+      here = thread_here (with_threads v c.move_to.new.self c.stage_held.new.pages) c.args.number held.staged.here;
     })
