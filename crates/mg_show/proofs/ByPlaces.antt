@@ -6,12 +6,12 @@ use Rattle.std.proofs.lemmas.List.{length-take, take_all, take_more}
 use Rattle.mg_model.specs.State.{ObjectRow}
 use Rattle.mg_show.specs.Reached.{by_place}
 
-module _ (text : ℕ → ObjectRow → List ℕ) where
+module _ {A : Type 0} (text : ℕ → ObjectRow → List A) where
   places-append : (j : ℕ) (xs ys : List (ℕ × ObjectRow)) → by_place text j (xs ++ ys) ≡ by_place text j xs ++ by_place text (j + length xs) ys
   places-append j [] ys = let e : j ≡ j + 0 = omega arith in ap (λ n. by_place text n ys) e
   places-append j (x ∷ xs) ys =
       let e : j + 1 + length xs ≡ j + length (x ∷ xs) = omega arith in
-      ap (λ (rest : List ℕ). text j x.1 ++ rest) (places-append (j + 1) xs ys ∙ ap (λ n. by_place text (j + 1) xs ++ by_place text n ys) e)
+      ap (λ (rest : List A). text j x.1 ++ rest) (places-append (j + 1) xs ys ∙ ap (λ n. by_place text (j + 1) xs ++ by_place text n ys) e)
       ∙ sym (append_assoc (text j x.1) (by_place text (j + 1) xs) (by_place text (j + length (x ∷ xs)) ys))
 
   -- one object more
@@ -21,23 +21,23 @@ module _ (text : ℕ → ObjectRow → List ℕ) where
       let o = slice_index_or objects i (0, row) in
       let e : 0 + length (take i objects) ≡ i = let l = length-take i objects in omega arith in
       ap (λ r. by_place text 0 (take i objects) ++ text i r) (is (0, row))
-      ∙ ap (λ (rest : List ℕ). by_place text 0 (take i objects) ++ rest) (sym (append-nil (text i o.1)))
+      ∙ ap (λ (rest : List A). by_place text 0 (take i objects) ++ rest) (sym (append-nil (text i o.1)))
       ∙ sym (ap (by_place text 0) (take_more objects i (0, row) below) ∙ places-append 0 (take i objects) (o ∷ []) ∙ ap (λ n. by_place text 0 (take i objects) ++ by_place text n (o ∷ [])) e)
 
   pub places-all : (objects : List (ℕ × ObjectRow)) (i : ℕ) → length objects ≤ i → by_place text 0 (take i objects) ≡ by_place text 0 objects
   places-all objects i end = ap (by_place text 0) (take_all i objects end)
 
   -- where the text by its place is a text of each object alone
-  same_from : (own : ObjectRow → List ℕ) (j : ℕ) (objects : List (ℕ × ObjectRow))
+  same_from : (own : ObjectRow → List A) (j : ℕ) (objects : List (ℕ × ObjectRow))
       → ((i : ℕ) → i < length objects → (d : ℕ × ObjectRow) → text (j + i) (slice_index_or objects i d).1 ≡ own (slice_index_or objects i d).1)
       → by_place text j objects ≡ flat_map (λ (o : ℕ × ObjectRow). own o.1) objects
   same_from own j [] are = refl
   same_from own j (o ∷ objects) are =
       let here = let e : j ≡ j + 0 = omega arith in ap (λ n. text n o.1) e ∙ are 0 (omega arith) o in
       let rest = same_from own (j + 1) objects (λ i below d. let e : j + 1 + i ≡ j + suc i = omega arith in ap (λ n. text n (slice_index_or objects i d).1) e ∙ are (suc i) (omega arith) d) in
-      ap (λ (t : List ℕ). t ++ by_place text (j + 1) objects) here ∙ ap (λ (t : List ℕ). own o.1 ++ t) rest
+      ap (λ (t : List A). t ++ by_place text (j + 1) objects) here ∙ ap (λ (t : List A). own o.1 ++ t) rest
 
-  pub places-same : (own : ObjectRow → List ℕ) (objects : List (ℕ × ObjectRow))
+  pub places-same : (own : ObjectRow → List A) (objects : List (ℕ × ObjectRow))
       → ((i : ℕ) → i < length objects → (d : ℕ × ObjectRow) → text i (slice_index_or objects i d).1 ≡ own (slice_index_or objects i d).1)
       → by_place text 0 objects ≡ flat_map (λ (o : ℕ × ObjectRow). own o.1) objects
   places-same own objects are = same_from own 0 objects (λ i below d. let e : 0 + i ≡ i = omega arith in ap (λ n. text n (slice_index_or objects i d).1) e ∙ are i below d)

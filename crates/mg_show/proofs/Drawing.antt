@@ -1,23 +1,31 @@
--- Arrows by the bits of rights, and the graph by the bytes of objects.
-use Rattle.std.specs.Prelude.{◌≡◌, ℕ, ◌-◌, ◌%◌, ◌<◌, ◌==◌, ◌&&◌, ◌||◌, not, Bool, false, List, [], ◌∷◌, ◌++◌, codes, flat_map, length, None, Option, Some, slice_get, slice_index, slice_index_or}
-use Rattle.std.specs.List.{list_any}
+-- The graph by the bytes and the ranks of objects is that of the state.
+use Rattle.std.specs.Prelude.{◌≡◌, ℕ, suc, ◌+◌, ◌-◌, ◌<◌, ◌==◌, ◌&&◌, ◌||◌, Bool, true, false, List, [], ◌∷◌, ◌++◌, codes, find, flat_map, if◌then◌else◌, length, map, None, Option, Some, slice_get, slice_index, slice_index_or, take}
+use Rattle.std.specs.List.{HoldsAt, list_any}
 use Rattle.std.specs.Option.{option_map, option_map_or}
-use Rattle.std.proofs.Common.{refl, sym, ap, ◌∙◌, append_assoc}
-use Rattle.std.proofs.lemmas.List.Folds.{list_any-append}
+use Rattle.std.proofs.Common.{refl, sym, ap, ◌∙◌, append_assoc, append-nil, arith, get_or}
+use Rattle.std.proofs.Math.Path.{fun_ext}
+use Rattle.std.proofs.lemmas.List.{get_or_default}
+use Rattle.std.proofs.lemmas.List.Folds.{flat_map-map, list_any-append}
+use Rattle.mg_disk.specs.Disk.{Image}
 use Rattle.mg_model.specs.declared.rights.Right.{Right}
 use Rattle.mg_model.specs.declared.rights.Right.TheVariants.{R}
 use Rattle.mg_model.specs.declared.slots.Slot.{Slot}
 use Rattle.mg_model.specs.Access.{holds, last_slots}
 use Rattle.mg_model.specs.Rights.{has_right}
-use Rattle.mg_model.specs.State.{CallFrame, ObjectRow, ThreadRow}
-use Rattle.mg_show.specs.DotText.{arrow, object_name, object_node, quoted, thread_name}
-use Rattle.mg_show.specs.Drawn.{all_named, domains_drawn, entry_bits, graph_drawn, graph_end, graph_head, list_drawn, lists_drawn, marked_drawn, named_by, named_drawn, node_drawn, opened, shape, slot_bits, slot_drawn, threads_drawn}
-use Rattle.mg_show.specs.Reached.{Marks, by_byte, given}
-use Rattle.mg_show.specs.ReachText.{letters_by}
-use Rattle.mg_show.specs.Walked.{AreOpened}
-use Rattle.mg_show.proofs.ByPlaces.{places-same}
-use Rattle.mg_show.proofs.Letters.{any-right, any_same, letters_same, rights-letters}
-use Rattle.mg_show.proofs.Marked.{marks-given}
+use Rattle.mg_model.specs.State.{CallFrame, Object, ObjectRow, State, Thread, ThreadRow}
+use Rattle.mg_show.specs.DotFrom.{is_among, part_text, reached, thread_part}
+use Rattle.mg_show.specs.DotText.{arrow, dot_text, entry_arrow, holds_now, is_list, list_arrows, object_name, quoted, slot_arrow, thread_name, thread_node}
+use Rattle.mg_show.specs.Drawn.{bases_of, domains_drawn, entries_drawn, entry_bits, graph_end, graph_head, lists_ranked, node_if, nodes_ranked, part_ranked, slot_bits, threads_drawn}
+use Rattle.mg_show.specs.Marking.{given, is_within, named_by}
+use Rattle.mg_show.specs.Reached.{listed}
+use Rattle.mg_show.specs.ReachText.{letters, letters_by}
+use Rattle.mg_show.specs.Shown.{bare, numbered, object_in, state_shown}
+use Rattle.mg_show.specs.Walked.{AreOpened, AreRanked}
+use Rattle.mg_show.specs.WritingLemmas.{flat_more}
+use Rattle.mg_show.specs.declared.held.Shown.{Shown}
+use Rattle.mg_show.proofs.ByPlaces.{places-more, places-same}
+use Rattle.mg_show.proofs.Letters.{any-right, rights-letters}
+use Rattle.mg_show.proofs.Listing.{held-bare}
 
 -- one text behind another, as it is printed
 pub printed : (x y z a b : List ℕ) → y ≡ x ++ a → z ≡ y ++ b → z ≡ x ++ (a ++ b)
@@ -39,70 +47,198 @@ label-parts h p a =
     ap (λ t. (t ++ (codes " pages" ++ 92 ∷ 110 ∷ codes "account ")) ++ a) (append_assoc h (92 ∷ 110 ∷ []) p)
     ∙ ap (λ t. t ++ a) (sym (append_assoc (h ++ 92 ∷ 110 ∷ p) (codes " pages") (92 ∷ 110 ∷ codes "account ")))
 
--- the object with a base was found, or there is none
-pub held-found : (period password : ℕ) (right : Right) (row : ObjectRow) (found : Option (ℕ × ObjectRow)) → Some row ≡ option_map (λ (o : ℕ × ObjectRow). o.1) found
-    → holds period row password right ≡ option_map_or (λ (o : ℕ × ObjectRow). holds period o.1 password right) found false
-held-found period password right row None is = absurd (cc)
-held-found period password right row (Some o) is = let same : row ≡ o.1 = cc in ap (λ (r : ObjectRow). holds period r password right) same
-
-pub held-none : (period password : ℕ) (right : Right) (found : Option (ℕ × ObjectRow)) → None ≡ option_map (λ (o : ℕ × ObjectRow). o.1) found
-    → false ≡ option_map_or (λ (o : ℕ × ObjectRow). holds period o.1 password right) found false
-held-none period password right None is = refl
-held-none period password right (Some o) is = absurd (cc)
-
 -- bits that have the rights that pass
-module _ (bits : ℕ) (has : Right → Bool) (same : (right : Right) → has_right bits right ≡ has right) where
-  pub slot-drawn : (t base : ℕ) → slot_bits t base bits ≡ slot_drawn t base has
-  slot-drawn t base =
-      ap (λ (ls : List ℕ). arrow (thread_name t) (object_name base) ls (has_right bits R)) (rights-letters bits ∙ letters_same (has_right bits) has same)
-      ∙ ap (λ counts. arrow (thread_name t) (object_name base) (letters_by has) counts) (same R)
+module _ (s : State) (base password bits : ℕ) (same : (right : Right) → has_right bits right ≡ holds_now s base password right) where
+  pub slot-drawn : (t : ℕ) → slot_bits t base bits ≡ slot_arrow s t (record { base = base; password = password })
+  slot-drawn t = λ i. arrow (thread_name t) (object_name base) ((rights-letters bits ∙ ap letters_by (fun_ext same)) i) (same R i)
 
-  pub named-drawn : (list base : ℕ) → entry_bits list base bits ≡ named_drawn list base has
-  named-drawn list base =
-      ap (λ (ls : List ℕ). arrow (object_name list) (object_name base) ls (not (bits % 64 == 0))) (rights-letters bits ∙ letters_same (has_right bits) has same)
-      ∙ ap (λ counts. arrow (object_name list) (object_name base) (letters_by has) counts) (sym (any-right bits) ∙ any_same (has_right bits) has same)
+  pub entry-drawn : (list : ℕ) → (base == 0) ≡ false → entry_bits list base bits ≡ entry_arrow s list (base, password)
+  entry-drawn list some =
+      (λ i. arrow (object_name list) (object_name base) ((rights-letters bits ∙ ap letters_by (fun_ext same)) i)
+      ((sym (any-right bits) ∙ ap (λ (has : Right → Bool). list_any (λ (l : ℕ × Right). has l.1) letters) (fun_ext same)) i))
+      ∙ sym (ap (λ v. if v then [] else arrow (object_name list) (object_name base) (letters_by (holds_now s base password))
+      (list_any (λ (l : ℕ × Right). holds_now s base password l.1) letters)) some)
 
 -- the slots of the present frame
 pub slots-last : (frames : List CallFrame) (last : CallFrame) (slots : List Slot) → slice_get frames (length frames - 1) ≡ Some last → slots ≡ last.slots → slots ≡ last_slots frames
 slots-last frames last slots is are = are ∙ sym (ap (λ (f : Option CallFrame). option_map_or (λ (f : CallFrame). f.slots) f []) is)
 
 -- what slots give on an object, with R
-module _ (period : ℕ) (row : ObjectRow) where
-  named-given : (slots : List Slot) → given period (named_by slots) row R ≡ list_any (λ (slot : Slot). slot.base == row.base && holds period row slot.password R) slots
-  named-given [] = refl
-  named-given (slot ∷ slots) = ap (λ v. (slot.base == row.base && holds period row slot.password R) || v) (named-given slots)
+named-given : (period : ℕ) (row : ObjectRow) (slots : List Slot)
+    → given (holds period) (named_by slots) row R
+    ≡ list_any (λ (slot : Slot). slot.base == row.base && holds period row slot.password R) slots
+named-given period row [] = refl
+named-given period row (slot ∷ slots) =
+    ap (λ v. (slot.base == row.base && holds period row slot.password R) || v) (named-given period row slots)
 
-  all-given : (threads : List (ℕ × ThreadRow)) → given period (all_named threads) row R ≡ opened period threads row
-  all-given [] = refl
-  all-given (t ∷ threads) =
-      let slots = last_slots t.1.frames in
-      list_any-append (λ (entry : ℕ × ℕ). entry.0 == row.base && holds period row entry.1 R) (named_by slots) (all_named threads)
-      ∙ ap (λ v. v || given period (all_named threads) row R) (named-given slots)
-      ∙ ap (λ v. list_any (λ (slot : Slot). slot.base == row.base && holds period row slot.password R) slots || v) (all-given threads)
+pub all-given : (period : ℕ) (row : ObjectRow) (threads : List (ℕ × ThreadRow))
+    → given (holds period) (flat_map (λ (t : ℕ × ThreadRow). named_by (last_slots t.1.frames)) threads) row R
+    ≡ list_any (λ (thread : Thread). list_any (λ (slot : Slot). slot.base == row.base && holds period row slot.password R)
+    (last_slots thread.row.frames)) (map numbered threads)
+all-given period row [] = refl
+all-given period row (t ∷ threads) =
+    list_any-append (λ (entry : ℕ × ℕ). entry.0 == row.base && holds period row entry.1 R) (named_by (last_slots t.1.frames))
+    (flat_map (λ (t : ℕ × ThreadRow). named_by (last_slots t.1.frames)) threads)
+    ∙ (λ i. named-given period row (last_slots t.1.frames) i || all-given period row threads i)
 
--- bytes that have what slots give have R for what is read as a list
-pub are-opened : (objects : List (ℕ × ObjectRow)) (period : ℕ) (threads : List (ℕ × ThreadRow)) (zeros bytes : List ℕ) → ((i : ℕ) → slice_index zeros i ≡ 0) → Marks objects period (all_named threads) zeros bytes → AreOpened objects period threads bytes
-are-opened objects period threads zeros bytes none marks i below d = marks-given objects period (all_named threads) zeros bytes none marks i below d R ∙ all-given period (slice_index_or objects i d).1 threads
+-- an arrow by the rights that an object holds
+abbrev entry_by : (ℕ → ℕ → Right → Bool) → ℕ → ℕ × ℕ → List ℕ
+entry_by has list entry =
+    if entry.0 == 0 then []
+    else arrow (object_name list) (object_name entry.0) (letters_by (has entry.0 entry.1))
+    (list_any (λ (l : ℕ × Right). has entry.0 entry.1 l.1) letters)
 
--- the graph by bytes that have what slots give is that by the slots
-pub marked-drawn : (image : List (List ℕ)) (frames : ℕ) (table : List ℕ) (objects : List (ℕ × ObjectRow)) (period : ℕ) (threads : List (ℕ × ThreadRow)) (zeros bytes : List ℕ)
-    → ((i : ℕ) → slice_index zeros i ≡ 0) → Marks objects period (all_named threads) zeros bytes
-    → marked_drawn image frames table bytes objects period threads ≡ graph_drawn image frames table objects period threads
-marked-drawn image frames table objects period threads zeros bytes none marks =
-    let before = graph_head ++ threads_drawn threads in
-    let domains = domains_drawn objects period threads in
-    ap (λ (nodes : List ℕ). before ++ nodes ++ domains ++ lists_drawn image frames table bytes objects period ++ graph_end) nodes-same
-    ∙ ap (λ (lists : List ℕ). before ++ flat_map (λ (o : ℕ × ObjectRow). object_node (shape (opened period threads o.1)) o.1) objects ++ domains ++ lists ++ graph_end) lists-same
+-- the entries of a list, one more
+pub entries-more : (shown : Shown) (list : ℕ) (slots : List Slot) (i : ℕ) (d : Slot) → i < length slots
+    → entries_drawn shown list (named_by (take i slots))
+    ++ entry_arrow (bare shown) list ((get_or slots i d).base, (get_or slots i d).password)
+    ≡ entries_drawn shown list (named_by (take (i + 1) slots))
+entries-more shown list slots i d below =
+    let arrow = entry_arrow (bare shown) list in
+    let slot : Slot → ℕ × ℕ = λ (slot : Slot). (slot.base, slot.password) in
+    ap (λ (t : List ℕ). t ++ arrow (slot (get_or slots i d))) (flat_map-map arrow slot (take i slots))
+    ∙ flat_more (λ (s : Slot). arrow (slot s)) slots i d below
+    ∙ sym (flat_map-map arrow slot (take (i + 1) slots))
+
+-- the lists, one more, whose arrows are put if it is left
+module _ (shown : Shown) (r : Image) (n : ℕ) (bytes ranks : List ℕ) (i : ℕ) where
+  abbrev arrows : ℕ → ObjectRow → List ℕ
+  arrows i row = if is_within (slice_index ranks i) n && has_right (slice_index bytes i) R
+      then entries_drawn shown row.base (listed shown r row) else []
+
+  pub list-next : (row : ObjectRow) (v : Bool) → i < length shown.objects → HoldsAt (λ (o : ℕ × ObjectRow). row ≡ o.1) shown.objects i
+      → v ≡ (is_within (slice_index ranks i) n && has_right (slice_index bytes i) R)
+      → lists_ranked shown r n bytes ranks (take i shown.objects) ++ (if v then entries_drawn shown row.base (listed shown r row) else [])
+      ≡ lists_ranked shown r n bytes ranks (take (i + 1) shown.objects)
+  list-next row v below is test =
+      ap (λ v. lists_ranked shown r n bytes ranks (take i shown.objects)
+      ++ (if v then entries_drawn shown row.base (listed shown r row) else [])) test
+      ∙ places-more arrows shown.objects i below row is
+
+  pub list-past : i < length shown.objects → false ≡ (is_within (slice_index ranks i) n && has_right (slice_index bytes i) R)
+      → lists_ranked shown r n bytes ranks (take i shown.objects) ≡ lists_ranked shown r n bytes ranks (take (i + 1) shown.objects)
+  list-past below test =
+      let none : ℕ × ObjectRow = (0, record { base = 0; pages = 0; account = 0; passwords = []; entries = []; extension = None }) in
+      sym (append-nil (lists_ranked shown r n bytes ranks (take i shown.objects)))
+      ∙ list-next (slice_index_or shown.objects i none).1 false below
+      (λ d. ap (λ (o : ℕ × ObjectRow). o.1) (get_or_default shown.objects i none d below)) test
+
+-- two tests
+if-both : (v w : Bool) (text : List ℕ) → (if v then (if w then text else []) else []) ≡ (if v && w then text else [])
+if-both true w text = refl
+if-both false w text = refl
+
+module _ (shown : Shown) (r : Image) (drawn : List (ℕ × ThreadRow)) (bytes ranks : List ℕ) (opens : AreOpened shown bytes) where
+  abbrev s : State
+  s = state_shown shown r
+
+  -- some threads, objects and lists of a graph
+  abbrev graph : List Thread → (ℕ → Bool) → (ℕ → Bool) → List ℕ
+  graph threads nodes lists =
+      graph_head
+      ++ flat_map (λ (thread : Thread). thread_node thread.number) threads
+      ++ flat_map (λ (object : Object). node_if (nodes object.row.base) (is_list s object.row) object.row) s.objects
+      ++ flat_map (λ (thread : Thread). flat_map (slot_arrow s thread.number) (last_slots thread.row.frames)) threads
+      ++ flat_map (λ (object : Object). if lists object.row.base then list_arrows s object else []) s.objects
+      ++ codes "}" ++ 10 ∷ []
+
+  told : (n : ℕ) (nodes lists : ℕ → Bool)
+      → ((i : ℕ) → i < length shown.objects → (d : ℕ × ObjectRow)
+      → is_within (slice_index ranks i) (n + 1) ≡ nodes (slice_index_or shown.objects i d).1.base)
+      → ((i : ℕ) → i < length shown.objects → (d : ℕ × ObjectRow)
+      → is_within (slice_index ranks i) n ≡ lists (slice_index_or shown.objects i d).1.base)
+      → part_ranked shown r n bytes ranks drawn ≡ graph (map numbered drawn) nodes lists
+  told n nodes lists shows leaves =
+      (λ i. graph_head ++ threads-same i ++ nodes-same i ++ domains-same i ++ lists-same i ++ graph_end)
+      ∙ sym (append_assoc (graph_head ++ flat_map (λ (thread : Thread). thread_node thread.number) (map numbered drawn)
+      ++ flat_map (λ (object : Object). node_if (nodes object.row.base) (is_list s object.row) object.row) s.objects
+      ++ flat_map (λ (thread : Thread). flat_map (slot_arrow s thread.number) (last_slots thread.row.frames)) (map numbered drawn)
+      ++ flat_map (λ (object : Object). if lists object.row.base then list_arrows s object else []) s.objects) (codes "}") (10 ∷ []))
+    where
+      threads-same : threads_drawn drawn ≡ flat_map (λ (thread : Thread). thread_node thread.number) (map numbered drawn)
+      threads-same = sym (flat_map-map (λ (thread : Thread). thread_node thread.number) numbered drawn)
+
+      domains-same : domains_drawn shown drawn
+          ≡ flat_map (λ (thread : Thread). flat_map (slot_arrow s thread.number) (last_slots thread.row.frames)) (map numbered drawn)
+      domains-same =
+          sym (
+          flat_map-map (λ (thread : Thread). flat_map (slot_arrow s thread.number) (last_slots thread.row.frames)) numbered drawn
+          ∙ ap (λ (has : ℕ → ℕ → Right → Bool). flat_map (λ (t : ℕ × ThreadRow). flat_map (λ (slot : Slot).
+          arrow (thread_name (t.0 + 1)) (object_name slot.base) (letters_by (has slot.base slot.password)) (has slot.base slot.password R))
+          (last_slots t.1.frames)) drawn) (held-bare shown r)
+          )
+
+      nodes-same : nodes_ranked n bytes ranks shown.objects
+          ≡ flat_map (λ (object : Object). node_if (nodes object.row.base) (is_list s object.row) object.row) s.objects
+      nodes-same =
+          places-same (λ i row. node_if (is_within (slice_index ranks i) (n + 1)) (has_right (slice_index bytes i) R) row)
+          (λ row. node_if (nodes row.base) (is_list s row) row) shown.objects
+          (λ i below d. λ k. node_if (shows i below d k) (opens i below d k) (slice_index_or shown.objects i d).1)
+          ∙ sym (flat_map-map (λ (object : Object). node_if (nodes object.row.base) (is_list s object.row) object.row)
+          (object_in shown r) shown.objects)
+
+      lists-same : lists_ranked shown r n bytes ranks shown.objects
+          ≡ flat_map (λ (object : Object). if lists object.row.base then list_arrows s object else []) s.objects
+      lists-same =
+          places-same (λ i row. if is_within (slice_index ranks i) n && has_right (slice_index bytes i) R
+          then entries_drawn shown row.base (listed shown r row) else [])
+          (λ row. if lists row.base then (if is_list s row then flat_map (entry_arrow s row.base) (listed shown r row) else []) else [])
+          shown.objects
+          (λ i below d.
+          let row = (slice_index_or shown.objects i d).1 in
+          (λ k. if leaves i below d k && opens i below d k
+          then flat_map (λ (entry : ℕ × ℕ). entry_by (sym (held-bare shown r) k) row.base entry) (listed shown r row) else [])
+          ∙ sym (if-both (lists row.base) (is_list s row) (flat_map (entry_arrow s row.base) (listed shown r row))))
+          ∙ sym (flat_map-map (λ (object : Object). if lists object.row.base then list_arrows s object else [])
+          (object_in shown r) shown.objects)
+
+  -- all of it
+  pub dot-told : ((i : ℕ) → i < length shown.objects → slice_index ranks i ≡ 1) → drawn ≡ shown.threads.items
+      → part_ranked shown r 1 bytes ranks drawn ≡ dot_text s
+  dot-told ones all =
+      told 1 (λ base. true) (λ base. true) (λ i below d. ap (λ n. is_within n 2) (ones i below))
+      (λ i below d. ap (λ n. is_within n 1) (ones i below))
+      ∙ ap (λ (threads : List (ℕ × ThreadRow)). graph (map numbered threads) (λ base. true) (λ base. true)) all
+
+  -- a part
+  pub part-told : (bases : List ℕ) (n : ℕ) → AreRanked shown r bases (n + 1) ranks
+      → part_ranked shown r n bytes ranks drawn ≡ part_text s (map numbered drawn) bases n
+  part-told bases n are =
+      let e : n + 1 ≡ suc n = omega arith in
+      told n (is_among (reached s bases (suc n))) (is_among (reached s bases n))
+      (λ i below d. are.is i below d (n + 1) (omega arith)
+      ∙ ap (λ k. is_among (reached s bases k) (slice_index_or shown.objects i d).1.base) e)
+      (λ i below d. are.is i below d n (omega arith))
+
+-- the part from a thread
+found-same : (number : ℕ) (threads : List (ℕ × ThreadRow))
+    → find (λ (thread : Thread). thread.number == number) (map numbered threads)
+    ≡ option_map numbered (find (λ (t : ℕ × ThreadRow). t.0 + 1 == number) threads)
+found-same number [] = refl
+found-same number (t ∷ threads) = by_test (t.0 + 1 == number) (found-same number threads)
   where
-    is-opened : AreOpened objects period threads bytes
-    is-opened = are-opened objects period threads zeros bytes none marks
+    by_test : (v : Bool) → find (λ (thread : Thread). thread.number == number) (map numbered threads)
+        ≡ option_map numbered (find (λ (t : ℕ × ThreadRow). t.0 + 1 == number) threads)
+        → (if v then Some (numbered t) else find (λ (thread : Thread). thread.number == number) (map numbered threads))
+        ≡ option_map numbered (if v then Some t else find (λ (t : ℕ × ThreadRow). t.0 + 1 == number) threads)
+    by_test true rest = refl
+    by_test false rest = rest
 
-    nodes-same : by_byte node_drawn bytes 0 objects ≡ flat_map (λ (o : ℕ × ObjectRow). object_node (shape (opened period threads o.1)) o.1) objects
-    nodes-same =
-        places-same (λ i row. node_drawn (slice_index bytes i) row) (λ row. object_node (shape (opened period threads row)) row) objects
-        (λ i below d. ap (λ v. object_node (shape v) (slice_index_or objects i d).1) (is-opened i below d))
-
-    lists-same : lists_drawn image frames table bytes objects period ≡ flat_map (λ (o : ℕ × ObjectRow). list_drawn image frames table objects period (opened period threads o.1) o.1) objects
-    lists-same =
-        places-same (λ i row. list_drawn image frames table objects period (has_right (slice_index bytes i) R) row) (λ row. list_drawn image frames table objects period (opened period threads row) row) objects
-        (λ i below d. ap (λ v. list_drawn image frames table objects period v (slice_index_or objects i d).1) (is-opened i below d))
+pub thread-told : (shown : Shown) (r : Image) (number steps : ℕ) (found : Option (ℕ × ThreadRow))
+    → found ≡ find (λ (t : ℕ × ThreadRow). t.0 + 1 == number) shown.threads.items
+    → part_text (state_shown shown r) (map numbered (option_map_or (λ (t : ℕ × ThreadRow). t ∷ []) found []))
+    (bases_of (option_map_or (λ (t : ℕ × ThreadRow). last_slots t.1.frames) found [])) (steps - 1)
+    ≡ thread_part (state_shown shown r) number steps
+thread-told shown r number steps found is =
+    by found
+    ∙ ap (λ (thread : Option Thread). part_text (state_shown shown r) (option_map_or (λ (thread : Thread). thread ∷ []) thread [])
+    (bases_of (option_map_or (λ (thread : Thread). last_slots thread.row.frames) thread [])) (steps - 1))
+    (ap (option_map numbered) is ∙ sym (found-same number shown.threads.items))
+  where
+    by : (found : Option (ℕ × ThreadRow))
+        → part_text (state_shown shown r) (map numbered (option_map_or (λ (t : ℕ × ThreadRow). t ∷ []) found []))
+        (bases_of (option_map_or (λ (t : ℕ × ThreadRow). last_slots t.1.frames) found [])) (steps - 1)
+        ≡ part_text (state_shown shown r) (option_map_or (λ (thread : Thread). thread ∷ []) (option_map numbered found) [])
+        (bases_of (option_map_or (λ (thread : Thread). last_slots thread.row.frames) (option_map numbered found) [])) (steps - 1)
+    by None = refl
+    by (Some t) = refl

@@ -8,7 +8,6 @@ use Rattle.mg_disk.specs.declared.disk.Disk as disks
 use Rattle.mg_disk.specs.Disk.{Image}
 use Rattle.mg_io.specs.Known.{AppendsPrefix}
 use Rattle.mg_io.specs.declared.traits.Sink as sinks
-use Rattle.mg_serve.specs.declared.status.Status.TheVariants as status
 use Rattle.mg_show.specs.declared.faults.ShowFault.{ShowFault}
 use Rattle.mg_show.specs.declared.faults.ShowFault.TheVariants as fault
 use Rattle.mg_show.specs.Putting.{PutsAll, status_of}

@@ -1,5 +1,5 @@
 -- What holds of all threads holds of the one that is found.
-use Rattle.std.specs.Prelude.{◌≡◌, Bool, true, false, All, List, [], ◌∷◌, find, if◌then◌else◌, Option, Some}
+use Rattle.std.specs.Prelude.{◌≡◌, Bool, true, false, All, List, [], ◌∷◌, find, if◌then◌else◌, Some}
 use Rattle.std.proofs.Common.{subst, sym}
 use Rattle.std.proofs.lemmas.List.Elements.{All-head, All-tail}
 

@@ -2,6 +2,8 @@
 use Rattle.std.specs.Prelude.{◌≡◌, ℕ, zero, suc, ◌/◌, ◌%◌, ◌<◌, ◌==◌, ◌||◌, not, Bool, true, false, List, [], ◌∷◌, filter, if◌then◌else◌, map}
 use Rattle.std.specs.List.{list_any}
 use Rattle.std.proofs.Common.{refl, sym, ap, ◌∙◌, arith, ⊎_elim}
+use Rattle.std.proofs.Math.Bool.{or-false}
+use Rattle.std.proofs.Math.Path.{fun_ext}
 use Rattle.std.proofs.lemmas.Bool.{cases_Bool, eq-eqb, eqb-true, or_parts}
 use Rattle.mg_model.specs.declared.rights.Right.{Right}
 use Rattle.mg_model.specs.declared.rights.Right.TheVariants.{R, W, X, D, P, O}
@@ -17,20 +19,6 @@ tests r w x d p o X = x
 tests r w x d p o D = d
 tests r w x d p o P = p
 tests r w x d p o O = o
-
-pub letters_six : (has : Right → Bool) → letters_by has ≡ letters_by (tests (has R) (has W) (has X) (has D) (has P) (has O))
-letters_six has = refl
-
-pub letters_same : (has other : Right → Bool) → ((right : Right) → has right ≡ other right) → letters_by has ≡ letters_by other
-letters_same has other same =
-    letters_six has
-    ∙ ap (λ v. letters_by (tests v (has W) (has X) (has D) (has P) (has O))) (same R)
-    ∙ ap (λ v. letters_by (tests (other R) v (has X) (has D) (has P) (has O))) (same W)
-    ∙ ap (λ v. letters_by (tests (other R) (other W) v (has D) (has P) (has O))) (same X)
-    ∙ ap (λ v. letters_by (tests (other R) (other W) (other X) v (has P) (has O))) (same D)
-    ∙ ap (λ v. letters_by (tests (other R) (other W) (other X) (other D) v (has O))) (same P)
-    ∙ ap (λ v. letters_by (tests (other R) (other W) (other X) (other D) (other P) v)) (same O)
-    ∙ sym (letters_six other)
 
 pub none-has : (bits : ℕ) → bits % 64 ≡ 0 → (right : Right) → has_right bits right ≡ false
 none-has bits none R = let e : bits / 1 % 2 ≡ 0 = omega arith in ap (λ n. n == 1) e
@@ -76,19 +64,6 @@ rights-letters bits =
 
 -- Whether there is one
 
-pub or_false : (b : Bool) → (b || false) ≡ b
-or_false true = refl
-or_false false = refl
-
-pub any_same : (has other : Right → Bool) → ((right : Right) → has right ≡ other right) → list_any (λ (l : ℕ × Right). has l.1) letters ≡ list_any (λ (l : ℕ × Right). other l.1) letters
-any_same has other same =
-    ap (λ v. v || (has W || (has X || (has D || (has P || (has O || false)))))) (same R)
-    ∙ ap (λ v. other R || (v || (has X || (has D || (has P || (has O || false)))))) (same W)
-    ∙ ap (λ v. other R || (other W || (v || (has D || (has P || (has O || false)))))) (same X)
-    ∙ ap (λ v. other R || (other W || (other X || (v || (has P || (has O || false)))))) (same D)
-    ∙ ap (λ v. other R || (other W || (other X || (other D || (v || (has O || false)))))) (same P)
-    ∙ ap (λ v. other R || (other W || (other X || (other D || (other P || (v || false)))))) (same O)
-
 -- bits have a right unless the last six are 0
 pub any-right : (bits : ℕ) → list_any (λ (l : ℕ × Right). has_right bits l.1) letters ≡ not (bits % 64 == 0)
 any-right bits = ⊎_elim none some (cases_Bool (bits % 64 == 0))
@@ -97,10 +72,13 @@ any-right bits = ⊎_elim none some (cases_Bool (bits % 64 == 0))
     six = has_right bits R || (has_right bits W || (has_right bits X || (has_right bits D || (has_right bits P || has_right bits O))))
 
     any-six : list_any (λ (l : ℕ × Right). has_right bits l.1) letters ≡ six
-    any-six = ap (λ v. has_right bits R || (has_right bits W || (has_right bits X || (has_right bits D || (has_right bits P || v))))) (or_false (has_right bits O))
+    any-six = ap (λ v. has_right bits R || (has_right bits W || (has_right bits X || (has_right bits D || (has_right bits P || v)))))
+        (or-false (has_right bits O))
 
     none : (bits % 64 == 0) ≡ true → list_any (λ (l : ℕ × Right). has_right bits l.1) letters ≡ not (bits % 64 == 0)
-    none is = any_same (has_right bits) (λ right. false) (none-has bits (eqb-true (bits % 64) 0 is)) ∙ sym (ap not is)
+    none is =
+        ap (λ (has : Right → Bool). list_any (λ (l : ℕ × Right). has l.1) letters) (fun_ext (none-has bits (eqb-true (bits % 64) 0 is)))
+        ∙ sym (ap not is)
 
     six-has : (bits % 64 == 0) ≡ false → six ≡ true
     six-has is = ⊎_elim (λ (e : six ≡ true). e) (λ e. let z = eq-eqb (bits % 64) 0 (has-none bits e) in absurd (cc)) (cases_Bool six)

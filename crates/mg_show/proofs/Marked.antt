@@ -1,18 +1,16 @@
--- A byte for each object, and the rights that capabilities add to it.
-use Rattle.std.specs.Prelude.{◌≡◌, ◌≢◌, ℕ, ◌+◌, ◌<◌, ◌≤◌, ◌==◌, ◌&&◌, ◌⊎◌, ◌||◌, Bool, true, false, All, List, [], ◌∷◌, ◌++◌, length, slice_index, slice_index_or, slice_set}
+-- A mark for each object, and what capabilities add to it.
+use Rattle.std.specs.Prelude.{◌≡◌, ◌≢◌, ℕ, ◌+◌, ◌<◌, ◌≤◌, ◌==◌, ◌&&◌, ◌⊎◌, ◌||◌, Bool, true, false, All, List, [], ◌∷◌, ◌++◌, length, slice_index, slice_index_or, slice_set, take}
 use Rattle.std.specs.List.{AllPairs, AllWithin, HoldsAt}
-use Rattle.std.proofs.Common.{refl, sym, ap, ◌∙◌, arith, ⊎_elim}
+use Rattle.std.proofs.Common.{refl, sym, ap, ◌∙◌, arith, get_or, subst, ⊎_elim}
+use Rattle.std.proofs.Math.Bool.{or-false}
 use Rattle.std.proofs.lemmas.Bool.{cases_eq, cases_lt, eq-eqb, ne_eqb}
 use Rattle.std.proofs.lemmas.List.Folds.{list_any-append}
-use Rattle.std.proofs.lemmas.List.{get_or-set_other, get_or-set_same, length-set}
-use Rattle.mg_model.specs.declared.rights.Right.{Right}
-use Rattle.mg_model.specs.Access.{holds}
+use Rattle.std.proofs.lemmas.List.{get_or-set_other, get_or-set_same, length-set, map_more}
+use Rattle.mg_model.specs.declared.slots.Slot.{Slot}
 use Rattle.mg_model.specs.Ranges.{IsObjectRow}
-use Rattle.mg_model.specs.Rights.{has_right}
 use Rattle.mg_model.specs.State.{ObjectRow}
 use Rattle.mg_objects.specs.Held.{AreApart}
-use Rattle.mg_show.proofs.Letters.{none-has, or_false}
-use Rattle.mg_show.specs.Reached.{IsCut, IsPlaceOf, Marks, given}
+use Rattle.mg_show.specs.Marking.{IsCut, IsPlaceOf, Marks, given, named_by}
 
 -- bases rise
 pub bases-rise : (objects : List (ℕ × ObjectRow)) → All (λ (o : ℕ × ObjectRow). IsObjectRow o.1) objects → AreApart objects → AllPairs (λ (a b : ℕ × ObjectRow). a.1.base < b.1.base) objects
@@ -61,71 +59,73 @@ module _ (objects : List (ℕ × ObjectRow)) (base m : ℕ) (row : ObjectRow) (r
   above-more high k d from before =
       ⊎_elim (λ more. let l = rise m k d more before in let h = here m d refl in omega arith) (λ le. let h = here k d (omega arith) in omega arith) (cases_lt m k)
 
--- Bytes that have more rights
+-- Marks that get more
 
 or_assoc : (a b c : Bool) → ((a || b) || c) ≡ (a || (b || c))
 or_assoc true b c = refl
 or_assoc false b c = refl
 
-module _ (objects : List (ℕ × ObjectRow)) (period : ℕ) where
-  pub marks_none : (bytes : List ℕ) → Marks objects period [] bytes bytes
-  marks_none bytes = record { long = refl; rights = λ i below d right. sym (or_false (has_right (slice_index bytes i) right)) }
+module _ {Key : Type 0} (has : ℕ → Key → Bool) (gives : ObjectRow → ℕ → Key → Bool) (objects : List (ℕ × ObjectRow)) where
+  pub marks_none : (marks : List ℕ) → Marks has gives objects [] marks marks
+  marks_none marks = record { long = refl; are = λ i below d key. sym (or-false (has (slice_index marks i) key)) }
 
-  pub marks_then : (p q : List (ℕ × ℕ)) (a b c : List ℕ) → Marks objects period p a b → Marks objects period q b c → Marks objects period (p ++ q) a c
+  pub marks_then : (p q : List (ℕ × ℕ)) (a b c : List ℕ)
+      → Marks has gives objects p a b → Marks has gives objects q b c → Marks has gives objects (p ++ q) a c
   marks_then p q a b c first second = record {
     long = second.long ∙ first.long;
-    rights = λ i below d right.
+    are = λ i below d key.
         let row = (slice_index_or objects i d).1 in
-        let test : ℕ × ℕ → Bool = λ entry. entry.0 == row.base && holds period row entry.1 right in
-        second.rights i below d right
-        ∙ ap (λ v. v || given period q row right) (first.rights i below d right)
-        ∙ or_assoc (has_right (slice_index a i) right) (given period p row right) (given period q row right)
-        ∙ ap (λ v. has_right (slice_index a i) right || v) (sym (list_any-append test p q));
+        second.are i below d key
+        ∙ ap (λ v. v || given gives q row key) (first.are i below d key)
+        ∙ or_assoc (has (slice_index a i) key) (given gives p row key) (given gives q row key)
+        ∙ ap (λ v. has (slice_index a i) key || v)
+        (sym (list_any-append (λ (entry : ℕ × ℕ). entry.0 == row.base && gives row entry.1 key) p q));
   }
 
-  -- where no byte had a right, each has those that the capabilities give
-  pub marks-given : (capabilities : List (ℕ × ℕ)) (zeros bytes : List ℕ) → ((i : ℕ) → slice_index zeros i ≡ 0) → Marks objects period capabilities zeros bytes
-      → (i : ℕ) → i < length objects → (d : ℕ × ObjectRow) → (right : Right) → has_right (slice_index bytes i) right ≡ given period capabilities (slice_index_or objects i d).1 right
-  marks-given capabilities zeros bytes none marks i below d right =
-      marks.rights i below d right ∙ ap (λ v. v || given period capabilities (slice_index_or objects i d).1 right) (ap (λ n. has_right n right) (none i) ∙ none-has 0 refl right)
+  -- one capability more
+  pub marks_more : (slots : List Slot) (i : ℕ) (d : Slot) (a b c : List ℕ) → i < length slots
+      → Marks has gives objects (named_by (take i slots)) a b
+      → Marks has gives objects (named_by (get_or slots i d ∷ [])) b c → Marks has gives objects (named_by (take (i + 1) slots)) a c
+  marks_more slots i d a b c below first second =
+      subst (λ named. Marks has gives objects named a c) (sym (map_more (λ (slot : Slot). (slot.base, slot.password)) slots i d below))
+      (marks_then (named_by (take i slots)) (named_by (get_or slots i d ∷ [])) a b c first second)
 
-  module _ (base password : ℕ) (bytes : List ℕ) where
-    other_row : (row : ObjectRow) (right : Right) → row.base ≢ base → given period ((base, password) ∷ []) row right ≡ false
-    other_row row right other = ap (λ v. (v && holds period row password right) || false) (ne_eqb base row.base (λ e. other (sym e)))
+  module _ (base password : ℕ) (marks : List ℕ) where
+    other_row : (row : ObjectRow) (key : Key) → row.base ≢ base → given gives ((base, password) ∷ []) row key ≡ false
+    other_row row key other = ap (λ v. (v && gives row password key) || false) (ne_eqb base row.base (λ e. other (sym e)))
 
-    same_row : (row : ObjectRow) (right : Right) → row.base ≡ base → given period ((base, password) ∷ []) row right ≡ holds period row password right
-    same_row row right same = ap (λ v. (v && holds period row password right) || false) (eq-eqb base row.base (sym same)) ∙ or_false (holds period row password right)
+    same_row : (row : ObjectRow) (key : Key) → row.base ≡ base → given gives ((base, password) ∷ []) row key ≡ gives row password key
+    same_row row key same =
+        ap (λ v. (v && gives row password key) || false) (eq-eqb base row.base (sym same)) ∙ or-false (gives row password key)
+
+    kept : (i : ℕ) (row : ObjectRow) (key : Key) → row.base ≢ base
+        → has (slice_index marks i) key ≡ (has (slice_index marks i) key || given gives ((base, password) ∷ []) row key)
+    kept i row key other =
+        sym (ap (λ v. has (slice_index marks i) key || v) (other_row row key other) ∙ or-false (has (slice_index marks i) key))
 
     -- a capability that names no object
-    pub marks_no : All (λ (o : ℕ × ObjectRow). o.1.base ≢ base) objects → Marks objects period ((base, password) ∷ []) bytes bytes
-    marks_no none = record {
-      long = refl;
-      rights = λ i below d right.
-          sym (ap (λ v. has_right (slice_index bytes i) right || v) (other_row (slice_index_or objects i d).1 right (none i d below)) ∙ or_false (has_right (slice_index bytes i) right));
-    }
+    pub marks_no : All (λ (o : ℕ × ObjectRow). o.1.base ≢ base) objects → Marks has gives objects ((base, password) ∷ []) marks marks
+    marks_no none = record { long = refl; are = λ i below d key. kept i (slice_index_or objects i d).1 key (none i d below) }
 
     -- one that names an object
-    pub marks_one : (i v : ℕ) (row : ObjectRow) → length bytes ≡ length objects → IsPlaceOf objects base i → HoldsAt (λ (o : ℕ × ObjectRow). row ≡ o.1) objects i
-        → ((right : Right) → has_right v right ≡ (has_right (slice_index bytes i) right || holds period row password right)) → Marks objects period ((base, password) ∷ []) bytes (slice_set bytes i v)
-    marks_one i v row long place is more = record { long = length-set bytes i v; rights = at }
-      where
-        at : (k : ℕ) → k < length objects → (d : ℕ × ObjectRow) → (right : Right)
-            → has_right (slice_index (slice_set bytes i v) k) right ≡ (has_right (slice_index bytes k) right || given period ((base, password) ∷ []) (slice_index_or objects k d).1 right)
-        at k below d right = ⊎_elim same other (cases_eq k i)
-          where
-            same : k ≡ i → has_right (slice_index (slice_set bytes i v) k) right ≡ (has_right (slice_index bytes k) right || given period ((base, password) ∷ []) (slice_index_or objects k d).1 right)
-            same e =
-                let w = place.within in
-                let o = slice_index_or objects i d in
-                ap (λ n. has_right (slice_index (slice_set bytes i v) n) right) e
-                ∙ ap (λ n. has_right n right) (get_or-set_same bytes i v 0 (omega arith))
-                ∙ more right
-                ∙ ap (λ (r : ObjectRow). has_right (slice_index bytes i) right || holds period r password right) (is d)
-                ∙ ap (λ v. has_right (slice_index bytes i) right || v) (sym (same_row o.1 right (place.is d)))
-                ∙ ap (λ n. has_right (slice_index bytes n) right || given period ((base, password) ∷ []) (slice_index_or objects n d).1 right) (sym e)
-
-            other : k ≢ i → has_right (slice_index (slice_set bytes i v) k) right ≡ (has_right (slice_index bytes k) right || given period ((base, password) ∷ []) (slice_index_or objects k d).1 right)
-            other ne =
-                let o = slice_index_or objects k d in
-                ap (λ n. has_right n right) (get_or-set_other bytes i k v 0 ne)
-                ∙ sym (ap (λ v. has_right (slice_index bytes k) right || v) (other_row o.1 right (λ e. ne (place.only k below d e))) ∙ or_false (has_right (slice_index bytes k) right))
+    pub marks_one : (i v : ℕ) → length marks ≡ length objects → IsPlaceOf objects base i
+        → ((d : ℕ × ObjectRow) (key : Key)
+        → has v key ≡ (has (slice_index marks i) key || gives (slice_index_or objects i d).1 password key))
+        → Marks has gives objects ((base, password) ∷ []) marks (slice_set marks i v)
+    marks_one i v long place more = record {
+      long = length-set marks i v;
+      are = λ k below d key.
+          ⊎_elim
+          (λ (e : k ≡ i).
+          let w = place.within in
+          let row = (slice_index_or objects i d).1 in
+          ap (λ n. has (slice_index (slice_set marks i v) n) key) e
+          ∙ ap (λ n. has n key) (get_or-set_same marks i v 0 (omega arith))
+          ∙ more d key
+          ∙ ap (λ v. has (slice_index marks i) key || v) (sym (same_row row key (place.is d)))
+          ∙ ap (λ n. has (slice_index marks n) key || given gives ((base, password) ∷ []) (slice_index_or objects n d).1 key) (sym e))
+          (λ (ne : k ≢ i).
+          ap (λ n. has n key) (get_or-set_other marks i k v 0 ne)
+          ∙ kept k (slice_index_or objects k d).1 key (λ e. ne (place.only k below d e)))
+          (cases_eq k i);
+    }

@@ -1,16 +1,12 @@
 -- The objects of a state are those that are held, in the same order.
-use Rattle.std.specs.Prelude.{◌≡◌, ℕ, ◌+◌, nat_lt, List, [], ◌∷◌, flat_map, if◌then◌else◌, map, None, Option, Some, true, false}
+use Rattle.std.specs.Prelude.{◌≡◌, ℕ, ◌+◌, nat_lt, List, [], ◌∷◌, if◌then◌else◌, map, None, Option, Some, true, false}
 use Rattle.std.proofs.Common.{refl, sym, ap, ◌∙◌, ⊎_elim}
 use Rattle.std.proofs.lemmas.Bool.{cases_Bool}
-use Rattle.std.proofs.lemmas.List.Folds.{flat_map-map}
-use Rattle.std.proofs.lemmas.Simd.{map-map}
 use Rattle.mg_check.specs.RowsRead as rows
 use Rattle.mg_model.specs.Objects.{with_object}
 use Rattle.mg_model.specs.State.{Object, ObjectRow}
 use Rattle.mg_model.specs.Volume.{object_spelled, objects_spelled}
 use Rattle.mg_objects.specs.Held.{by_base, into_place, live_from, objects_in}
-use Rattle.mg_show.specs.StateText.{words_text}
-use Rattle.mg_show.specs.WordText.{row_text, rows_text}
 
 -- the rows that are there, in either words
 pub live-same : {R : Type 0} (i : ℕ) (items : List (Option R)) → rows.live_from i items ≡ live_from i items
@@ -43,16 +39,3 @@ module _ (image : List (List ℕ)) (frames : ℕ) (table : List ℕ) where
   -- the objects that the rows of a volume spell are those of its table
   pub objects-in-order : (items : List (Option ObjectRow)) → objects_spelled image frames table (rows.live_from 0 items) ≡ map (λ (o : ℕ × ObjectRow). object_spelled image frames table o.1) (objects_in items)
   objects-in-order items = ap (objects_spelled image frames table) (live-same 0 items) ∙ ordered (live_from 0 items)
-
-  -- what is put of each object, and their rows
-  pub texts-in-order : (text : Object → List ℕ) (items : List (Option ObjectRow))
-      → flat_map text (objects_spelled image frames table (rows.live_from 0 items)) ≡ flat_map (λ (o : ℕ × ObjectRow). text (object_spelled image frames table o.1)) (objects_in items)
-  texts-in-order text items = ap (flat_map text) (objects-in-order items) ∙ flat_map-map text spelled (objects_in items)
-
-  pub rows-in-order : (items : List (Option ObjectRow)) → map (λ (object : Object). object.row) (objects_spelled image frames table (rows.live_from 0 items)) ≡ map (λ (o : ℕ × ObjectRow). o.1) (objects_in items)
-  rows-in-order items = ap (map (λ (object : Object). object.row)) (objects-in-order items) ∙ map-map (λ (object : Object). object.row) spelled (objects_in items)
-
-  -- their words
-  pub words-in-order : (items : List (Option ObjectRow)) → flat_map (λ (object : Object). words_text object.row.base object.words) (objects_spelled image frames table (rows.live_from 0 items)) ≡ rows_text image frames table (objects_in items)
-  unfolding row_text
-  words-in-order items = texts-in-order (λ (object : Object). words_text object.row.base object.words) items

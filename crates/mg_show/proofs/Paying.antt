@@ -5,10 +5,9 @@ use Rattle.std.proofs.lemmas.Bool.{cases_Bool, cond-false, cond-true}
 use Rattle.std.proofs.lemmas.List.{length-take-le}
 use Rattle.std.proofs.lemmas.List.Sums.{sum_by-cons}
 use Rattle.std.proofs.Math.Seq.{take-suc}
-use Rattle.mg_bank.specs.Bank.{pages_at}
 use Rattle.mg_model.specs.declared.accounts.AccRow.{AccRow}
 use Rattle.mg_model.specs.State.{ObjectRow}
-use Rattle.mg_space.specs.Space.{ArePaid, paid_by}
+use Rattle.mg_space.specs.Space.{paid_by}
 use Rattle.mg_show.specs.StateText.{account_text, accounts_text, pages_paid}
 
 accounts-append : (paid : ℕ → ℕ) (n m : ℕ) (xs ys : List AccRow) → m ≡ n + length xs → accounts_text paid n (xs ++ ys) ≡ accounts_text paid n xs ++ accounts_text paid m ys
@@ -65,19 +64,6 @@ paid-cons n o objects ih = ⊎_elim own other (cases_Bool (o.1.account == n))
         omega arith
 
 -- the pages of objects with their places are those of the objects
-paid-rows : (n : ℕ) (objects : List (ℕ × ObjectRow)) → paid_by n objects ≡ pages_paid (map (λ (o : ℕ × ObjectRow). o.1) objects) n
+pub paid-rows : (n : ℕ) (objects : List (ℕ × ObjectRow)) → paid_by n objects ≡ pages_paid (map (λ (o : ℕ × ObjectRow). o.1) objects) n
 paid-rows n [] = refl
 paid-rows n (o ∷ objects) = paid-cons n o objects (paid-rows n objects)
-
-accounts-same : (paid also : ℕ → ℕ) → ((n : ℕ) → paid n ≡ also n) → (n : ℕ) (xs : List AccRow) → accounts_text paid n xs ≡ accounts_text also n xs
-accounts-same paid also same n [] = refl
-accounts-same paid also same n (x ∷ xs) =
-    ap (λ k. account_text n x k ++ accounts_text paid (n + 1) xs) (same n)
-    ∙ ap (λ v. account_text n x (also n) ++ v) (accounts-same paid also same (n + 1) xs)
-
--- what the bank keeps is what the objects' payers pay
-pub accounts-paid : (pages : List ℕ) (objects : List (ℕ × ObjectRow)) → ArePaid pages objects → (xs ys : List AccRow) → xs ≡ ys
-    → accounts_text (pages_at pages) 1 xs ≡ accounts_text (pages_paid (map (λ (o : ℕ × ObjectRow). o.1) objects)) 1 ys
-accounts-paid pages objects paid xs ys same =
-    accounts-same (pages_at pages) (pages_paid (map (λ (o : ℕ × ObjectRow). o.1) objects)) (λ n. paid n ∙ paid-rows n objects) 1 xs
-    ∙ ap (accounts_text (pages_paid (map (λ (o : ℕ × ObjectRow). o.1) objects)) 1) same

@@ -1,18 +1,18 @@
 -- What the words of a command line ask for, by their number.
-use Rattle.std.proofs.Common.{ℕ, zero, suc, ◌<◌, ◌≤◌, ◌≡◌, List, [], ◌∷◌, length, get_or, None, Some, refl, sym, ap, ◌∙◌, arith}
+use Rattle.std.proofs.Common.{ℕ, ◌<◌, ◌≤◌, ◌≡◌, List, [], ◌∷◌, length, get_or, None, Some, refl, ap, ◌∙◌, arith}
 use Rattle.std.specs.Prelude.{String}
 use Rattle.std.specs.String.{string_bytes}
 use Rattle.std.specs.declared.alloc.Global.{Global}
-use Rattle.mg_volume_session.specs.ByCommand.{words_of}
+use Rattle.mg_io.specs.Arguments.{arguments}
 use Rattle.mg_show.specs.declared.command.Text.TheVariants as texts
 use Rattle.mg_show.specs.Commands.{part_named, spelled}
 
-pub one_word : (words : List (String Global)) → 1 ≤ length words → length words < 2 → Some texts.State ≡ spelled (words_of words)
+pub one_word : (words : List (String Global)) → 1 ≤ length words → length words < 2 → Some texts.State ≡ spelled (arguments words)
 one_word [] some few = absurd (omega arith)
 one_word (a ∷ []) some few = refl
 one_word (a ∷ b ∷ words) some few = absurd (omega arith)
 
-pub three_or_four : (words : List (String Global)) → 3 ≤ length words → length words < 5 → None ≡ spelled (words_of words)
+pub three_or_four : (words : List (String Global)) → 3 ≤ length words → length words < 5 → None ≡ spelled (arguments words)
 three_or_four [] some few = absurd (omega arith)
 three_or_four (a ∷ []) some few = absurd (omega arith)
 three_or_four (a ∷ b ∷ []) some few = absurd (omega arith)
@@ -20,7 +20,7 @@ three_or_four (a ∷ b ∷ c ∷ []) some few = refl
 three_or_four (a ∷ b ∷ c ∷ d ∷ []) some few = refl
 three_or_four (a ∷ b ∷ c ∷ d ∷ e ∷ words) some few = absurd (omega arith)
 
-pub six_or_more : (words : List (String Global)) → 6 ≤ length words → None ≡ spelled (words_of words)
+pub six_or_more : (words : List (String Global)) → 6 ≤ length words → None ≡ spelled (arguments words)
 six_or_more [] many = absurd (omega arith)
 six_or_more (a ∷ []) many = absurd (omega arith)
 six_or_more (a ∷ b ∷ []) many = absurd (omega arith)
@@ -33,7 +33,7 @@ six_or_more (a ∷ b ∷ c ∷ d ∷ e ∷ f ∷ words) many = refl
 pub five_words : (words : List (String Global)) (word start number steps : String Global) (w s n k : List ℕ) → 5 ≤ length words → length words < 6
     → word ≡ get_or words 1 word → start ≡ get_or words 2 start → number ≡ get_or words 3 number → steps ≡ get_or words 4 steps
     → w ≡ string_bytes word → s ≡ string_bytes start → n ≡ string_bytes number → k ≡ string_bytes steps
-    → part_named w s n k ≡ spelled (words_of words)
+    → part_named w s n k ≡ spelled (arguments words)
 five_words [] word start number steps w s n k some few p q r t wb sb nb kb = absurd (omega arith)
 five_words (a ∷ []) word start number steps w s n k some few p q r t wb sb nb kb = absurd (omega arith)
 five_words (a ∷ b ∷ []) word start number steps w s n k some few p q r t wb sb nb kb = absurd (omega arith)

@@ -1,39 +1,63 @@
--- The texts of a volume that is held are those of the state that its rows spell.
-use Rattle.std.specs.Prelude.{◌≡◌, ℕ, List, length}
-use Rattle.std.proofs.Common.{ap, ◌∙◌}
-use Rattle.mg_check.specs.RowsRead.{AreKept, state_in}
+-- The state of a volume that is held is the one that its rows spell, and its text.
+use Rattle.std.specs.Prelude.{◌≡◌, ℕ, ◌++◌, flat_map, length, map}
+use Rattle.std.proofs.Common.{ap, sym, ◌∙◌}
+use Rattle.std.proofs.Math.Path.{fun_ext}
+use Rattle.std.proofs.lemmas.List.Folds.{flat_map-map}
+use Rattle.std.proofs.lemmas.Simd.{map-map}
+use Rattle.mg_bank.specs.Bank.{pages_at}
+use Rattle.mg_check.specs.RowsRead.{state_in}
 use Rattle.mg_check.specs.declared.volume_rows.VolumeRows.{VolumeRows}
 use Rattle.mg_disk.specs.Disk.{Image}
-use Rattle.mg_model.specs.State.{Counters, ThreadRow}
+use Rattle.mg_model.specs.State.{Object, ObjectRow, ThreadRow}
+use Rattle.mg_model.specs.Volume.{object_spelled}
 use Rattle.mg_objects.specs.Held.{objects_in}
 use Rattle.mg_space.specs.Space.{ArePaid}
-use Rattle.mg_show.specs.Commands.{text_of}
-use Rattle.mg_show.specs.Drawn.{graph_drawn}
-use Rattle.mg_show.specs.PartDrawn.{object_drawn, thread_drawn}
-use Rattle.mg_show.specs.Reached.{threads_reached}
-use Rattle.mg_show.specs.Shown.{text_shown}
-use Rattle.mg_show.specs.declared.command.Text.{Text}
-use Rattle.mg_show.specs.declared.command.Text.TheVariants as texts
+use Rattle.mg_show.specs.Shown.{numbered, object_in, state_shown}
+use Rattle.mg_show.specs.StateText.{accounts_text, counters_text, object_text, pages_paid, settings_text, state_text, thread_text, words_text}
+use Rattle.mg_show.specs.WordText.{row_text, rows_text}
 use Rattle.mg_show.specs.declared.held.Shown.{Shown}
-use Rattle.mg_show.proofs.DrawnState.{dot-told}
-use Rattle.mg_show.proofs.PartState.{object-told, thread-told}
-use Rattle.mg_show.proofs.Reaching.{reach-told}
-use Rattle.mg_show.proofs.StateParts.{state-told}
+use Rattle.mg_show.proofs.ObjectsInOrder.{objects-in-order}
+use Rattle.mg_show.proofs.Paying.{paid-rows}
+use Rattle.mg_show.proofs.RowsKept.{accounts-placed}
 
-module _ (rows : VolumeRows) (kept : AreKept rows) (r : Image) (shown : Shown) (params : shown.params ≡ rows.params) (counters : shown.counters ≡ rows.globals) (threads : shown.threads.items ≡ rows.threads.items) (objects : shown.objects ≡ objects_in rows.objects.items)
-    (accounts : shown.bank.accounts ≡ rows.accounts.items) (paid : ArePaid shown.bank.pages shown.objects) (frames : shown.frames ≡ rows.table.items) where
-  period : shown.counters.period ≡ rows.globals.period
-  period = ap (λ (g : Counters). g.period) counters
+pub state-told : (rows : VolumeRows) (r : Image) (shown : Shown) → shown.params ≡ rows.params → shown.counters ≡ rows.globals
+    → shown.threads.items ≡ rows.threads.items
+    → shown.objects ≡ objects_in rows.objects.items → shown.bank.accounts ≡ rows.accounts.items → shown.frames ≡ rows.table.items
+    → length rows.table.items ≡ rows.params.frames
+    → state_shown shown r ≡ state_in rows r
+state-told rows r shown params counters threads objects accounts frames entries = λ i. record {
+  settings = params i;
+  counters = counters i;
+  objects = objects-same i;
+  accounts = (accounts ∙ sym (accounts-placed 0 rows.accounts.items)) i;
+  threads = map numbered (threads i);
+}
+  where
+    objects-same : (state_shown shown r).objects ≡ (state_in rows r).objects
+    objects-same =
+        (λ i. map (λ (o : ℕ × ObjectRow). object_spelled r (length (frames i)) (frames i) o.1) (objects i))
+        ∙ ap (λ n. map (λ (o : ℕ × ObjectRow). object_spelled r n rows.table.items o.1) (objects_in rows.objects.items)) entries
+        ∙ sym (objects-in-order r rows.params.frames rows.table.items rows.objects.items)
 
-  pub text-told : (asked : Text) → text_shown asked shown r ≡ text_of asked (state_in rows r)
-  text-told texts.State = state-told rows r shown params counters threads objects accounts paid frames kept.held.entries
-  text-told texts.Reach =
-      ap (λ (ts : List (ℕ × ThreadRow)). threads_reached r (length shown.frames) shown.frames shown.objects shown.counters.period ts) threads ∙ reach-told rows kept r shown.objects shown.frames shown.counters.period objects frames period
-  text-told texts.Dot =
-      ap (λ (ts : List (ℕ × ThreadRow)). graph_drawn r (length shown.frames) shown.frames shown.objects shown.counters.period ts) threads ∙ dot-told rows kept r shown.objects shown.frames shown.counters.period objects frames period
-  text-told (texts.DotThread number steps) =
-      ap (λ (ts : List (ℕ × ThreadRow)). thread_drawn r (length shown.frames) shown.frames shown.objects shown.counters.period ts number steps) threads
-      ∙ thread-told rows kept r shown.objects shown.frames shown.counters.period objects frames period number steps
-  text-told (texts.DotObject base steps) =
-      ap (λ (ts : List (ℕ × ThreadRow)). object_drawn r (length shown.frames) shown.frames shown.objects shown.counters.period ts base steps) threads
-      ∙ object-told rows kept r shown.objects shown.frames shown.counters.period objects frames period base steps
+-- the text of the state, table by table
+pub text-told : (shown : Shown) (r : Image) → ArePaid shown.bank.pages shown.objects
+    → settings_text shown.params
+    ++ counters_text shown.counters
+    ++ accounts_text (pages_at shown.bank.pages) 1 shown.bank.accounts
+    ++ flat_map (λ (o : ℕ × ObjectRow). object_text o.1) shown.objects
+    ++ flat_map (λ (t : ℕ × ThreadRow). thread_text (numbered t)) shown.threads.items
+    ++ rows_text r (length shown.frames) shown.frames shown.objects
+    ≡ state_text (state_shown shown r)
+unfolding row_text
+text-told shown r paid =
+    let payers = fun_ext (λ n. paid n ∙ paid-rows n shown.objects) in
+    let bare = map-map (λ (object : Object). object.row) (object_in shown r) shown.objects in
+    let objects = flat_map-map (λ (object : Object). object_text object.row) (object_in shown r) shown.objects in
+    let words = flat_map-map (λ (object : Object). words_text object.row.base object.words) (object_in shown r) shown.objects in
+    λ i.
+    settings_text shown.params
+    ++ counters_text shown.counters
+    ++ accounts_text ((payers ∙ ap pages_paid (sym bare)) i) 1 shown.bank.accounts
+    ++ sym objects i
+    ++ sym (flat_map-map thread_text numbered shown.threads.items) i
+    ++ sym words i

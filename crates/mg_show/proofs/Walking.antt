@@ -1,295 +1,277 @@
 -- What is reached step by step, and the ranks that a walk gives.
-use Rattle.std.specs.Prelude.{◌≡◌, ℕ, zero, suc, ◌+◌, ◌-◌, ◌<◌, ◌≤◌, ◌==◌, ◌&&◌, ◌||◌, ◌⊎◌, nat_le, not, Bool, true, false, List, [], ◌∷◌, ◌++◌, flat_map, if◌then◌else◌, length, None, slice_index, slice_index_or}
-use Rattle.std.specs.List.{list_any}
-use Rattle.std.proofs.Common.{refl, sym, ap, inl, inr, subst, ◌∙◌, arith, ⊎_elim}
-use Rattle.std.proofs.lemmas.Bool.{and_parts, cases_Bool, cases_eq, eq-eqb, eqb-true, le-leb, leb-true, ne_eqb}
+use Rattle.std.specs.Prelude.{◌≡◌, ℕ, zero, suc, ◌+◌, ◌<◌, ◌≤◌, ◌==◌, ◌&&◌, ◌||◌, nat_le, Bool, true, false, List, [], ◌∷◌, ◌++◌, flat_map, if◌then◌else◌, length, map, None, slice_index, slice_index_or, take}
+use Rattle.std.specs.List.{HoldsAt}
+use Rattle.std.proofs.Common.{append-nil, refl, sym, ap, subst, ◌∙◌, arith, ⊎_elim}
+use Rattle.std.proofs.Math.Bool.{and-false, and-true, or-false}
+use Rattle.std.proofs.lemmas.Bool.{cases_lt, le-leb, lt-leb}
+use Rattle.std.proofs.lemmas.Bool.Decides.{nat_tests}
 use Rattle.std.proofs.lemmas.List.Folds.{list_any-append}
-use Rattle.mg_model.specs.State.{ObjectRow}
-use Rattle.mg_show.specs.DotFrom.{is_among}
-use Rattle.mg_show.specs.Reached.{by_place}
-use Rattle.mg_show.specs.Walked.{AreFirst, AreRanked, Ranked, is_within, named_by_lists, walked}
-use Rattle.mg_show.proofs.ByPlaces.{places-same}
-use Rattle.mg_show.proofs.Ranking.{kept-rank}
+use Rattle.std.proofs.lemmas.List.{get_or_default, map-append}
+use Rattle.std.proofs.lemmas.Simd.{map-map}
+use Rattle.mg_disk.specs.Disk.{Image}
+use Rattle.mg_model.specs.declared.rights.Right.TheVariants.{R}
+use Rattle.mg_model.specs.declared.slots.Slot.{Slot}
+use Rattle.mg_model.specs.Access.{entries_of}
+use Rattle.mg_model.specs.Rights.{has_right}
+use Rattle.mg_model.specs.State.{Object, ObjectRow}
+use Rattle.mg_show.specs.DotFrom.{is_among, reached}
+use Rattle.mg_show.specs.DotText.{is_list}
+use Rattle.mg_show.specs.Drawn.{bases_of}
+use Rattle.mg_show.specs.Marking.{Marks, given, gives_rank, is_within, named_by}
+use Rattle.mg_show.specs.Reached.{by_place, listed}
+use Rattle.mg_show.specs.Shown.{object_in, state_shown}
+use Rattle.mg_show.specs.Walked.{AreOpened, AreRanked, listed_at}
+use Rattle.mg_show.specs.declared.held.Shown.{Shown}
+use Rattle.mg_show.proofs.ByPlaces.{places-more}
+use Rattle.mg_show.proofs.Marked.{marks_none, marks_then}
 
 -- Tests
 
-bool-same : (a b : Bool) → (a ≡ true → b ≡ true) → (b ≡ true → a ≡ true) → a ≡ b
-bool-same true true there back = refl
-bool-same true false there back = sym (there refl)
-bool-same false true there back = back refl
-bool-same false false there back = refl
+or_assoc : (a b c : Bool) → ((a || b) || c) ≡ (a || (b || c))
+or_assoc true b c = refl
+or_assoc false b c = refl
 
-or-left : (a b : Bool) → a ≡ true → (a || b) ≡ true
-or-left true b e = refl
-or-left false b e = absurd (cc)
+crossed : (a b c d : Bool) → ((a || b) || (c || d)) ≡ ((a || c) || (b || d))
+crossed true b c d = refl
+crossed false true true d = refl
+crossed false true false d = refl
+crossed false false c d = refl
 
-or-right : (a b : Bool) → b ≡ true → (a || b) ≡ true
-or-right true b e = refl
-or-right false b e = e
+over : (a b c : Bool) → ((a && c) || (b && c)) ≡ ((a || b) && c)
+over true b true = refl
+over true true false = refl
+over true false false = refl
+over false b c = refl
 
-or-cases : (a b : Bool) → (a || b) ≡ true → (a ≡ true) ⊎ (b ≡ true)
-or-cases true b e = inl refl
-or-cases false b e = inr e
+-- the bases that capabilities name
+abbrev pub bases_in : List (ℕ × ℕ) → List ℕ
+bases_in entries = map (λ (entry : ℕ × ℕ). entry.0) entries
 
--- what is among the bases that a list names if it is read
-record Names (v w : Bool) (bases : List ℕ) (base : ℕ) : Type 0 where
-  pub first : v ≡ true
-  pub second : w ≡ true
-  pub is : is_among bases base ≡ true
+bases-append : (p q : List (ℕ × ℕ)) (base : ℕ)
+    → is_among (bases_in (p ++ q)) base ≡ (is_among (bases_in p) base || is_among (bases_in q) base)
+bases-append p q base =
+    ap (λ bs. is_among bs base) (map-append (λ (entry : ℕ × ℕ). entry.0) p q)
+    ∙ list_any-append (λ (b : ℕ). b == base) (bases_in p) (bases_in q)
 
-names-from : (v w : Bool) (bases : List ℕ) (base : ℕ) → is_among (if v && w then bases else []) base ≡ true → Names v w bases base
-names-from true true bases base is = record { first = refl; second = refl; is = is }
-names-from true false bases base is = absurd (cc)
-names-from false w bases base is = absurd (cc)
+-- the list of an object that is reached in two ways
+one-list : (a b c l v : Bool) (entries : List (ℕ × ℕ)) (base : ℕ) → a ≡ (b || c) → v ≡ l
+    → is_among (if a && l then bases_in entries else []) base
+    ≡ (is_among (if b && l then bases_in entries else []) base || is_among (bases_in (if c && v then entries else [])) base)
+one-list a b c l v entries base e same =
+    ap (λ a. is_among (if a && l then bases_in entries else []) base) e
+    ∙ by b c l
+    ∙ ap (λ l'. is_among (if b && l then bases_in entries else []) base
+    || is_among (bases_in (if c && l' then entries else [])) base) (sym same)
+  where
+    twice : (x : Bool) → x ≡ (x || x)
+    twice true = refl
+    twice false = refl
 
-names-to : (v w : Bool) (bases : List ℕ) (base : ℕ) → v ≡ true → w ≡ true → is_among bases base ≡ true → is_among (if v && w then bases else []) base ≡ true
-names-to v w bases base first second is = ap (λ t. is_among (if t && w then bases else []) base) first ∙ ap (λ t. is_among (if t then bases else []) base) second ∙ is
-
--- Among texts by place
-
-module _ (text : ℕ → ObjectRow → List ℕ) (base : ℕ) where
-  record Found (j : ℕ) (objects : List (ℕ × ObjectRow)) : Type 0 where
-    pub i : ℕ
-    pub below : i < length objects
-    pub is : (d : ℕ × ObjectRow) → is_among (text (j + i) (slice_index_or objects i d).1) base ≡ true
-
-  place-from : (j : ℕ) (objects : List (ℕ × ObjectRow)) → is_among (by_place text j objects) base ≡ true → Found j objects
-  place-from j [] is = absurd (cc)
-  place-from j (o ∷ objects) is = ⊎_elim here (λ there. later (place-from (j + 1) objects there)) (or-cases (is_among (text j o.1) base) (is_among (by_place text (j + 1) objects) base) (sym (list_any-append (λ (b : ℕ). b == base) (text j o.1) (by_place text (j + 1) objects)) ∙ is))
-    where
-      here : is_among (text j o.1) base ≡ true → Found j (o ∷ objects)
-      here is = record { i = 0; below = omega arith; is = λ d. let e : j + 0 ≡ j = omega arith in ap (λ n. is_among (text n o.1) base) e ∙ is }
-
-      later : Found (j + 1) objects → Found j (o ∷ objects)
-      later found = record {
-        i = suc found.i;
-        below = let l = found.below in omega arith;
-        is = λ d. let e : j + suc found.i ≡ j + 1 + found.i = omega arith in ap (λ n. is_among (text n (slice_index_or objects found.i d).1) base) e ∙ found.is d;
-      }
-
-  place-to : (j : ℕ) (objects : List (ℕ × ObjectRow)) (i : ℕ) (d : ℕ × ObjectRow) → i < length objects → is_among (text (j + i) (slice_index_or objects i d).1) base ≡ true → is_among (by_place text j objects) base ≡ true
-  place-to j [] i d below is = absurd (omega arith)
-  place-to j (o ∷ objects) zero d below is =
-      let e : j ≡ j + 0 = omega arith in
-      list_any-append (λ (b : ℕ). b == base) (text j o.1) (by_place text (j + 1) objects)
-      ∙ or-left (is_among (text j o.1) base) (is_among (by_place text (j + 1) objects) base) (ap (λ n. is_among (text n o.1) base) e ∙ is)
-  place-to j (o ∷ objects) (suc i) d below is =
-      let e : j + 1 + i ≡ j + suc i = omega arith in
-      list_any-append (λ (b : ℕ). b == base) (text j o.1) (by_place text (j + 1) objects)
-      ∙ or-right (is_among (text j o.1) base) (is_among (by_place text (j + 1) objects) base)
-      (place-to (j + 1) objects i d (omega arith) (ap (λ n. is_among (text n (slice_index_or objects i d).1) base) e ∙ is))
-
-  -- the same from place 0 on
-  record First (objects : List (ℕ × ObjectRow)) : Type 0 where
-    pub i : ℕ
-    pub below : i < length objects
-    pub is : (d : ℕ × ObjectRow) → is_among (text i (slice_index_or objects i d).1) base ≡ true
-
-  first-from : (objects : List (ℕ × ObjectRow)) → is_among (by_place text 0 objects) base ≡ true → First objects
-  first-from objects is =
-      let found = place-from 0 objects is in
-      record { i = found.i; below = found.below; is = λ d. let e : found.i ≡ 0 + found.i = omega arith in ap (λ n. is_among (text n (slice_index_or objects found.i d).1) base) e ∙ found.is d }
-
-  first-to : (objects : List (ℕ × ObjectRow)) (i : ℕ) (d : ℕ × ObjectRow) → i < length objects → is_among (text i (slice_index_or objects i d).1) base ≡ true → is_among (by_place text 0 objects) base ≡ true
-  first-to objects i d below is = let e : 0 + i ≡ i = omega arith in place-to 0 objects i d below (ap (λ n. is_among (text n (slice_index_or objects i d).1) base) e ∙ is)
+    by : (b c l : Bool) → is_among (if (b || c) && l then bases_in entries else []) base
+        ≡ (is_among (if b && l then bases_in entries else []) base || is_among (bases_in (if c && l then entries else [])) base)
+    by true true true = twice (is_among (bases_in entries) base)
+    by true false true = sym (or-false (is_among (bases_in entries) base))
+    by true true false = refl
+    by true false false = refl
+    by false true true = refl
+    by false true false = refl
+    by false false l = refl
 
 -- Ranks
 
-within-old : (k m r : ℕ) (v : Bool) → k ≤ m → is_within k (if r == 0 && v then m + 1 else r) ≡ is_within k r
-within-old k m zero true low = ⊎_elim (λ t. let l = leb-true (m + 1) k t in absurd (omega arith)) (λ f. ap (λ v. not (m + 1 == 0) && v) f ∙ none (not (m + 1 == 0))) (cases_Bool (nat_le (m + 1) k))
-  where
-    none : (v : Bool) → (v && false) ≡ false
-    none true = refl
-    none false = refl
-within-old k m zero false low = refl
-within-old k m (suc r) v low = ap (is_within k) (kept-rank (m + 1) r v)
+-- what is reached in one step more has this rank, or is reached before
+exact : (m rank : ℕ) → is_within rank (suc m) ≡ (is_within rank m || (rank == suc m))
+exact m rank = grind (arith, nat_tests)
 
-within-is : (k r : ℕ) → 1 ≤ r → r ≤ k → is_within k r ≡ true
-within-is k r some few = ap (λ z. not z && nat_le r k) (ne_eqb r 0 (λ e. absurd (omega arith))) ∙ le-leb r k few
+same-rank : (m a b : ℕ) → 1 ≤ m → ((n : ℕ) → n ≤ m → is_within a n ≡ is_within b n) → (a == m) ≡ (b == m)
+same-rank zero a b some same = absurd (omega arith)
+same-rank (suc m) a b some same = let x = same m (omega arith) in let y = same (suc m) (omega arith) in grind (arith, nat_tests)
 
-within-new : (m r : ℕ) (v : Bool) → r ≤ m → is_within (m + 1) (if r == 0 && v then m + 1 else r) ≡ (is_within m r || v)
-within-new m zero true few = within-is (m + 1) (m + 1) (omega arith) (omega arith)
-within-new m zero false few = refl
-within-new m (suc r) v few = ap (is_within (m + 1)) (kept-rank (m + 1) r v) ∙ within-is (m + 1) (suc r) (omega arith) (omega arith) ∙ sym (or-left (is_within m (suc r)) v (within-is m (suc r) (omega arith) few))
+-- what capabilities give that are ranked
+any-rank : (rank n : ℕ) (caps : List (ℕ × ℕ)) (row : ObjectRow)
+    → given (gives_rank rank) caps row n ≡ (is_among (bases_in caps) row.base && nat_le rank n)
+any-rank rank n [] row = refl
+any-rank rank n (c ∷ caps) row =
+    ap (λ v. (c.0 == row.base && nat_le rank n) || v) (any-rank rank n caps row)
+    ∙ over (c.0 == row.base) (is_among (bases_in caps) row.base) (nat_le rank n)
 
-record Within (k r : ℕ) : Type 0 where
-  pub some : 1 ≤ r
-  pub few : r ≤ k
+-- a rank leaves the lower ones alone
+lower : (rank : ℕ) (objects : List (ℕ × ObjectRow)) (caps : List (ℕ × ℕ)) (a b : List ℕ)
+    → Marks is_within (gives_rank rank) objects caps a b
+    → (i : ℕ) → i < length objects → (d : ℕ × ObjectRow) → (n : ℕ) → n < rank
+    → is_within (slice_index b i) n ≡ is_within (slice_index a i) n
+lower rank objects caps a b marks i below d n low =
+    let row = (slice_index_or objects i d).1 in
+    marks.are i below d n
+    ∙ ap (λ v. is_within (slice_index a i) n || v)
+    (any-rank rank n caps row ∙ ap (λ v. is_among (bases_in caps) row.base && v) (lt-leb rank n low)
+    ∙ and-false (is_among (bases_in caps) row.base))
+    ∙ or-false (is_within (slice_index a i) n)
 
-within-from : (k r : ℕ) → is_within k r ≡ true → Within k r
-within-from k zero is = absurd (cc)
-within-from k (suc r) is = record { some = omega arith; few = leb-true (suc r) k (and_parts (not (suc r == 0)) (nat_le (suc r) k) is).1 }
+module _ (shown : Shown) (r : Image) (bases : List ℕ) where
+  abbrev far : ℕ → List ℕ
+  far n = reached (state_shown shown r) bases n
 
--- what has a rank at all, where none is above n
-pub within-all : (n r : ℕ) → r ≤ n → not (r == 0) ≡ is_within n r
-within-all n zero few = refl
-within-all n (suc r) few = ap not (ne_eqb (suc r) 0 (λ e. absurd (omega arith))) ∙ sym (within-is n (suc r) (omega arith) few)
+  abbrev none : ℕ × ObjectRow
+  none = (0, record { base = 0; pages = 0; account = 0; passwords = []; entries = []; extension = None })
 
-module _ (is_read : ObjectRow → Bool) (names : ObjectRow → List ℕ) (objects : List (ℕ × ObjectRow)) where
-  abbrev step : List ℕ → List ℕ
-  step bases = named_by_lists is_read names objects bases
+  -- a step more
+  step : (m : ℕ) (caps : List (ℕ × ℕ)) (ranks ranks' : List ℕ) → AreRanked shown r bases m ranks
+      → Marks is_within (gives_rank (m + 1)) shown.objects caps ranks ranks'
+      → ((base : ℕ) → (is_among (far m) base || is_among (bases_in caps) base) ≡ is_among (far (m + 1)) base)
+      → AreRanked shown r bases (m + 1) ranks'
+  step m caps ranks ranks' old new grows = record {
+    is = λ i below d k low.
+        let base = (slice_index_or shown.objects i d).1.base in
+        ⊎_elim
+        (λ (more : m < k).
+        let e : m + 1 ≡ k = omega arith in
+        late i below d k (omega arith)
+        ∙ ap (λ v. v || is_among (bases_in caps) base) (old.is i below d m (omega arith))
+        ∙ grows base
+        ∙ ap (λ n. is_among (far n) base) e)
+        (λ le. lower (m + 1) shown.objects caps ranks ranks' new i below d k (omega arith) ∙ old.is i below d k le)
+        (cases_lt m k);
+    few = λ i below k high. late i below none k high ∙ sym (late i below none (m + 1) (omega arith));
+  }
+    where
+      late : (i : ℕ) → i < length shown.objects → (d : ℕ × ObjectRow) → (k : ℕ) → m + 1 ≤ k
+          → is_within (slice_index ranks' i) k
+          ≡ (is_within (slice_index ranks i) m || is_among (bases_in caps) (slice_index_or shown.objects i d).1.base)
+      late i below d k high =
+          let row = (slice_index_or shown.objects i d).1 in
+          new.are i below d k
+          ∙ ap (λ v. v || given (gives_rank (m + 1)) caps row k) (old.few i below k (omega arith))
+          ∙ ap (λ v. is_within (slice_index ranks i) m || v)
+          (any-rank (m + 1) k caps row ∙ ap (λ v. is_among (bases_in caps) row.base && v) (le-leb (m + 1) k high)
+          ∙ and-true (is_among (bases_in caps) row.base))
 
-  abbrev step_text : List ℕ → ℕ → ObjectRow → List ℕ
-  step_text bases i row = if is_among bases row.base && is_read row then names row else []
-
-  step-places : (bases : List ℕ) → by_place (step_text bases) 0 objects ≡ step bases
-  step-places bases = places-same (step_text bases) (λ row. if is_among bases row.base && is_read row then names row else []) objects (λ i below d. refl)
-
-  -- one that is named by a list
-  step-to : (bases : List ℕ) (base i : ℕ) (d : ℕ × ObjectRow) → i < length objects → is_among bases (slice_index_or objects i d).1.base ≡ true → is_read (slice_index_or objects i d).1 ≡ true → is_among (names (slice_index_or objects i d).1) base ≡ true
-      → is_among (step bases) base ≡ true
-  step-to bases base i d below among read named =
-      let row = (slice_index_or objects i d).1 in
-      sym (ap (λ bs. is_among bs base) (step-places bases))
-      ∙ first-to (step_text bases) base objects i d below (names-to (is_among bases row.base) (is_read row) (names row) base among read named)
-
-  step-from : (bases : List ℕ) (base : ℕ) → is_among (step bases) base ≡ true → First (step_text bases) base objects
-  step-from bases base is = first-from (step_text bases) base objects (ap (λ bs. is_among bs base) (step-places bases) ∙ is)
-
-  -- nothing is named by no list
-  step-none : (os : List (ℕ × ObjectRow)) → named_by_lists is_read names os [] ≡ []
-  step-none [] = refl
-  step-none (o ∷ os) = step-none os
-
-  module _ (bases : List ℕ) where
-    abbrev far : ℕ → List ℕ
-    far n = walked step bases n
-
-    abbrev none : ℕ × ObjectRow
-    none = (0, record { base = 0; pages = 0; account = 0; passwords = []; entries = []; extension = None })
-
-    grows : (n base : ℕ) → is_among (far n) base ≡ true → is_among (far (suc n)) base ≡ true
-    grows zero base is = absurd (cc)
-    grows (suc n) base is =
-        list_any-append (λ (b : ℕ). b == base) bases (step (far (suc n)))
-        ∙ ⊎_elim (λ first. or-left (is_among bases base) (is_among (step (far (suc n))) base) first) (λ later. or-right (is_among bases base) (is_among (step (far (suc n))) base) (wider (grows n) (step-from (far n) base later)))
-        (or-cases (is_among bases base) (is_among (step (far n)) base) (sym (list_any-append (λ (b : ℕ). b == base) bases (step (far n))) ∙ is))
-      where
-        wider : ((b : ℕ) → is_among (far n) b ≡ true → is_among (far (suc n)) b ≡ true) → First (step_text (far n)) base objects → is_among (step (far (suc n))) base ≡ true
-        wider more found =
-            let row = (slice_index_or objects found.i none).1 in
-            let named = names-from (is_among (far n) row.base) (is_read row) (names row) base (found.is none) in
-            step-to (far (suc n)) base found.i none found.below (more row.base named.first) named.second named.is
-
-    grows-by : (d n base : ℕ) → is_among (far n) base ≡ true → is_among (far (d + n)) base ≡ true
-    grows-by zero n base is = let e : n ≡ 0 + n = omega arith in subst (λ k. is_among (far k) base ≡ true) e is
-    grows-by (suc d) n base is = let e : suc (d + n) ≡ suc d + n = omega arith in subst (λ k. is_among (far k) base ≡ true) e (grows (d + n) base (grows-by d n base is))
-
-    grows-to : (n m base : ℕ) → n ≤ m → is_among (far n) base ≡ true → is_among (far m) base ≡ true
-    grows-to n m base low is = let e : (m - n) + n ≡ m = omega arith in subst (λ k. is_among (far k) base ≡ true) e (grows-by (m - n) n base is)
-
-    begins : (m base : ℕ) → 1 ≤ m → is_among bases base ≡ true → is_among (far m) base ≡ true
-    begins zero base some is = absurd (omega arith)
-    begins (suc m) base some is = list_any-append (λ (b : ℕ). b == base) bases (step (far m)) ∙ or-left (is_among bases base) (is_among (step (far m)) base) is
-
-    goes-on : (m base : ℕ) → is_among (step (far m)) base ≡ true → is_among (far (suc m)) base ≡ true
-    goes-on m base is = list_any-append (λ (b : ℕ). b == base) bases (step (far m)) ∙ or-right (is_among bases base) (is_among (step (far m)) base) is
-
-    -- the start
-    pub ranked-first : (ranks : List ℕ) → AreFirst objects bases ranks → AreRanked objects far 1 ranks
-    ranked-first ranks first = record {
-      few = λ i below. few (is_among bases (slice_index_or objects i none).1.base) (slice_index ranks i) (first i below none);
-      is = λ i below d k low.
-          ap (is_within k) (first i below d) ∙ by_k k low (is_among bases (slice_index_or objects i d).1.base) (slice_index_or objects i d).1.base refl;
-    }
-      where
-        few : (v : Bool) (rank : ℕ) → rank ≡ (if v then 1 else 0) → rank ≤ 1
-        few true rank e = omega arith
-        few false rank e = omega arith
-
-        zeroth : (v : Bool) → is_within 0 (if v then 1 else 0) ≡ false
-        zeroth true = refl
-        zeroth false = refl
-
-        one : (v : Bool) → is_within 1 (if v then 1 else 0) ≡ (v || false)
-        one true = refl
-        one false = refl
-
-        by_k : (k : ℕ) → k ≤ 1 → (v : Bool) (base : ℕ) → v ≡ is_among bases base → is_within k (if v then 1 else 0) ≡ is_among (far k) base
-        by_k zero low v base e = zeroth v
-        by_k (suc zero) low v base e =
-            one v ∙ ap (λ t. t || false) e ∙ sym (list_any-append (λ (b : ℕ). b == base) bases (step []) ∙ ap (λ bs. is_among bases base || is_among bs base) (step-none objects))
-        by_k (suc (suc k)) low v base e = absurd (omega arith)
-
-    -- a step more
-    module _ (m : ℕ) (some : 1 ≤ m) (reads : ℕ → Bool) (ranks ranks' : List ℕ) (are : (i : ℕ) → i < length objects → (d : ℕ × ObjectRow) → reads i ≡ is_read (slice_index_or objects i d).1)
-        (old : AreRanked objects far m ranks) (new : Ranked objects (m + 1) (by_place (λ i row. if slice_index ranks i == m && reads i then names row else []) 0 objects) ranks ranks') where
-      abbrev text : ℕ → ObjectRow → List ℕ
-      text i row = if slice_index ranks i == m && reads i then names row else []
-
-      -- what is named by a list with rank m
-      from-new : (base : ℕ) → is_among (by_place text 0 objects) base ≡ true → is_among (far (suc m)) base ≡ true
-      from-new base is = goes-on m base (by_found (first-from text base objects is))
-        where
-          by_found : First text base objects → is_among (step (far m)) base ≡ true
-          by_found found =
-              let row = (slice_index_or objects found.i none).1 in
-              let named = names-from (slice_index ranks found.i == m) (reads found.i) (names row) base (found.is none) in
-              let at = eqb-true (slice_index ranks found.i) m named.first in
-              step-to (far m) base found.i none found.below
-              (sym (old.is found.i found.below none m (omega arith)) ∙ within-is m (slice_index ranks found.i) (omega arith) (omega arith))
-              (sym (are found.i found.below none) ∙ named.second) named.is
-
-      -- what is named by a list that is reached
-      to-new : (base : ℕ) → First (step_text (far m)) base objects → (is_among (far m) base || is_among (by_place text 0 objects) base) ≡ true
-      to-new base found = ⊎_elim last before (cases_eq rank m)
-        where
-          row : ObjectRow
-          row = (slice_index_or objects found.i none).1
-
-          rank : ℕ
-          rank = slice_index ranks found.i
-
-          named : Names (is_among (far m) row.base) (is_read row) (names row) base
-          named = names-from (is_among (far m) row.base) (is_read row) (names row) base (found.is none)
-
-          within : Within m rank
-          within = within-from m rank (old.is found.i found.below none m (omega arith) ∙ named.first)
-
-          last : rank ≡ m → (is_among (far m) base || is_among (by_place text 0 objects) base) ≡ true
-          last e =
-              or-right (is_among (far m) base) (is_among (by_place text 0 objects) base)
-              (first-to text base objects found.i none found.below
-              (names-to (rank == m) (reads found.i) (names row) base (eq-eqb rank m e) (are found.i found.below none ∙ named.second) named.is))
-
-          before : (rank ≡ m → ⊥) → (is_among (far m) base || is_among (by_place text 0 objects) base) ≡ true
-          before ne =
-              let s = within.some in
-              let f = within.few in
-              or-left (is_among (far m) base) (is_among (by_place text 0 objects) base)
-              (grows-to (suc rank) m base (omega arith)
-              (goes-on rank base
-              (step-to (far rank) base found.i none found.below (sym (old.is found.i found.below none rank f) ∙ within-is rank rank s (omega arith)) named.second named.is)))
-
-      same : (base : ℕ) → (is_among (far m) base || is_among (by_place text 0 objects) base) ≡ is_among (far (suc m)) base
-      same base =
-          bool-same (is_among (far m) base || is_among (by_place text 0 objects) base) (is_among (far (suc m)) base)
-          (λ is. ⊎_elim (grows m base) (from-new base) (or-cases (is_among (far m) base) (is_among (by_place text 0 objects) base) is))
-          (λ is. ⊎_elim
-          (λ first. or-left (is_among (far m) base) (is_among (by_place text 0 objects) base) (begins m base some first))
-          (λ later. to-new base (step-from (far m) base later))
-          (or-cases (is_among bases base) (is_among (step (far m)) base) (sym (list_any-append (λ (b : ℕ). b == base) bases (step (far m))) ∙ is)))
-
-      pub ranked-more : AreRanked objects far (m + 1) ranks'
-      ranked-more = record {
-        few = λ i below.
-            let f = old.few i below in
-            few-new (slice_index ranks i == 0 && is_among (by_place text 0 objects) (slice_index_or objects i none).1.base) (slice_index ranks i) (slice_index ranks' i) f (new.is i below none);
+  -- the start
+  pub ranked-first : (slots : List Slot) (zeros ranks : List ℕ) → bases ≡ bases_of slots
+      → ((i : ℕ) → i < length shown.objects → slice_index zeros i ≡ 0)
+      → Marks is_within (gives_rank 1) shown.objects (named_by slots) zeros ranks → AreRanked shown r bases 1 ranks
+  ranked-first slots zeros ranks are none marks =
+      step 0 (named_by slots) zeros ranks
+      (record {
         is = λ i below d k low.
-            let base = (slice_index_or objects i d).1.base in
-            let v = is_among (by_place text 0 objects) base in
-            ap (is_within k) (new.is i below d)
-            ∙ ⊎_elim
-            (λ (e : k ≡ m + 1).
-            ap (λ n. is_within n (if slice_index ranks i == 0 && v then m + 1 else slice_index ranks i)) e
-            ∙ within-new m (slice_index ranks i) v (old.few i below)
-            ∙ ap (λ t. t || v) (old.is i below d m (omega arith))
-            ∙ same base
-            ∙ (let s : suc m ≡ k = omega arith in ap (λ n. is_among (far n) base) s))
-            (λ ne. let l : k ≤ m = omega arith in within-old k m (slice_index ranks i) v l ∙ old.is i below d k l)
-            (cases_eq k (m + 1));
-      }
-        where
-          few-new : (v : Bool) (r r' : ℕ) → r ≤ m → r' ≡ (if v then m + 1 else r) → r' ≤ m + 1
-          few-new true r r' few e = omega arith
-          few-new false r r' few e = omega arith
+            let base = (slice_index_or shown.objects i d).1.base in
+            let e : 0 ≡ k = omega arith in
+            subst (λ n. is_within (slice_index zeros i) n ≡ is_among (far n) base) e (ap (λ n. is_within n 0) (none i below));
+        few = λ i below k high. ap (λ n. is_within n k) (none i below) ∙ sym (ap (λ n. is_within n 0) (none i below));
+      })
+      marks
+      (λ base.
+      ap (λ bs. is_among bs base) (map-map (λ (entry : ℕ × ℕ). entry.0) (λ (slot : Slot). (slot.base, slot.password)) slots ∙ sym are
+      ∙ sym (append-nil bases))
+      ∙ ap (λ (rest : List ℕ). is_among (bases ++ rest) base) (sym (unread (state_shown shown r).objects)))
+    where
+      unread : (objects : List Object)
+          → flat_map (λ (object : Object). if is_among [] object.row.base && is_list (state_shown shown r) object.row
+          then map (λ (entry : ℕ × ℕ). entry.0) (entries_of object.words) else []) objects ≡ []
+      unread [] = refl
+      unread (object ∷ objects) = unread objects
+
+  -- what lists name that are reached in one step more
+  module _ (bytes ranks : List ℕ) (m : ℕ) (base : ℕ) where
+    abbrev named : List ℕ → List (ℕ × ObjectRow) → List ℕ
+    named from objects =
+        flat_map (λ (object : Object). if is_among from object.row.base && is_list (state_shown shown r) object.row
+        then map (λ (entry : ℕ × ℕ). entry.0) (entries_of object.words) else []) (map (object_in shown r) objects)
+
+    abbrev last : ℕ → ObjectRow → List (ℕ × ℕ)
+    last i row = if slice_index ranks i == suc m && has_right (slice_index bytes i) R then listed shown r row else []
+
+    halves : (j : ℕ) (objects : List (ℕ × ObjectRow))
+        → ((i : ℕ) → i < length objects → (d : ℕ × ObjectRow) → let b = (slice_index_or objects i d).1.base in
+        is_among (far (suc m)) b ≡ (is_among (far m) b || (slice_index ranks (j + i) == suc m)))
+        → ((i : ℕ) → i < length objects → (d : ℕ × ObjectRow)
+        → has_right (slice_index bytes (j + i)) R ≡ is_list (state_shown shown r) (slice_index_or objects i d).1)
+        → is_among (named (far (suc m)) objects) base
+        ≡ (is_among (named (far m) objects) base || is_among (bases_in (by_place last j objects)) base)
+    halves j [] within opens = refl
+    halves j (o ∷ objects) within opens =
+        let b = o.1.base in
+        let e : j + 0 ≡ j = omega arith in
+        let entries = listed shown r o.1 in
+        let l = is_list (state_shown shown r) o.1 in
+        let test = λ (b : ℕ). b == base in
+        let here =
+        one-list (is_among (far (suc m)) b) (is_among (far m) b) (slice_index ranks j == suc m) l
+        (has_right (slice_index bytes j) R) entries base
+        (subst (λ n. is_among (far (suc m)) b ≡ (is_among (far m) b || (slice_index ranks n == suc m))) e (within 0 (omega arith) o))
+        (subst (λ n. has_right (slice_index bytes n) R ≡ l) e (opens 0 (omega arith) o))
+        in
+        let rest =
+        halves (j + 1) objects
+        (λ i below d.
+        let e : j + suc i ≡ j + 1 + i = omega arith in
+        subst (λ n. let b = (slice_index_or objects i d).1.base in is_among (far (suc m)) b
+        ≡ (is_among (far m) b || (slice_index ranks n == suc m))) e (within (suc i) (omega arith) d))
+        (λ i below d.
+        let e : j + suc i ≡ j + 1 + i = omega arith in
+        subst (λ n. has_right (slice_index bytes n) R ≡ is_list (state_shown shown r) (slice_index_or objects i d).1) e
+        (opens (suc i) (omega arith) d))
+        in
+        let a = if is_among (far (suc m)) b && l then bases_in entries else [] in
+        let c = if is_among (far m) b && l then bases_in entries else [] in
+        list_any-append test a (named (far (suc m)) objects)
+        ∙ (λ k. here k || rest k)
+        ∙ crossed (is_among c base) (is_among (bases_in (last j o.1)) base) (is_among (named (far m) objects) base)
+        (is_among (bases_in (by_place last (j + 1) objects)) base)
+        ∙ sym (λ k. list_any-append test c (named (far m) objects) k || bases-append (last j o.1) (by_place last (j + 1) objects) base k)
+
+  pub ranked-more : (bytes : List ℕ) (m : ℕ) (ranks ranks' : List ℕ) → 1 ≤ m → AreOpened shown bytes → AreRanked shown r bases m ranks
+      → Marks is_within (gives_rank (m + 1)) shown.objects (listed_at shown r bytes ranks m shown.objects) ranks ranks'
+      → AreRanked shown r bases (m + 1) ranks'
+  ranked-more bytes zero ranks ranks' some opens old new = absurd (omega arith)
+  ranked-more bytes (suc m) ranks ranks' some opens old new =
+      step (suc m) (listed_at shown r bytes ranks (suc m) shown.objects) ranks ranks' old new
+      (λ base.
+      let test = λ (b : ℕ). b == base in
+      let last = is_among (bases_in (listed_at shown r bytes ranks (suc m) shown.objects)) base in
+      let before = named bytes ranks m base (far m) shown.objects in
+      let e : suc (suc m) ≡ suc m + 1 = omega arith in
+      ap (λ v. v || last) (list_any-append test bases before)
+      ∙ or_assoc (is_among bases base) (is_among before base) last
+      ∙ ap (λ v. is_among bases base || v)
+      (sym (halves bytes ranks m base 0 shown.objects
+      (λ i below d.
+      let b = (slice_index_or shown.objects i d).1.base in
+      let z : i ≡ 0 + i = omega arith in
+      sym (old.is i below d (suc m) (omega arith)) ∙ exact m (slice_index ranks i)
+      ∙ (λ k. old.is i below d m (omega arith) k || (slice_index ranks (z k) == suc m)))
+      (λ i below d. let z : 0 + i ≡ i = omega arith in ap (λ n. has_right (slice_index bytes n) R) z ∙ opens i below d)))
+      ∙ sym (list_any-append test bases (named bytes ranks m base (far (suc m)) shown.objects))
+      ∙ ap (λ n. is_among (far n) base) e)
+
+-- one object more, whose list is read if its rank was the last
+module _ (shown : Shown) (r : Image) (bytes first : List ℕ) (m i : ℕ) where
+  abbrev next : ℕ → ObjectRow → List (ℕ × ℕ)
+  next i row = if slice_index first i == m && has_right (slice_index bytes i) R then listed shown r row else []
+
+  pub listed-next : (row : ObjectRow) (v : Bool) (ranks new : List ℕ) → 1 ≤ m → i < length shown.objects
+      → HoldsAt (λ (o : ℕ × ObjectRow). row ≡ o.1) shown.objects i
+      → v ≡ (slice_index ranks i == m && has_right (slice_index bytes i) R)
+      → Marks is_within (gives_rank (m + 1)) shown.objects (listed_at shown r bytes first m (take i shown.objects)) first ranks
+      → Marks is_within (gives_rank (m + 1)) shown.objects (if v then listed shown r row else []) ranks new
+      → Marks is_within (gives_rank (m + 1)) shown.objects (listed_at shown r bytes first m (take (i + 1) shown.objects)) first new
+  listed-next row v ranks new some below is test before after =
+      let caps = by_place next 0 (take i shown.objects) in
+      let kept =
+      same-rank m (slice_index ranks i) (slice_index first i) some
+      (λ n low. lower (m + 1) shown.objects caps first ranks before i below (0, row) n (omega arith))
+      in
+      subst (λ caps. Marks is_within (gives_rank (m + 1)) shown.objects caps first new)
+      (ap (λ v. caps ++ (if v then listed shown r row else [])) (test ∙ ap (λ v. v && has_right (slice_index bytes i) R) kept)
+      ∙ places-more next shown.objects i below row is)
+      (marks_then is_within (gives_rank (m + 1)) shown.objects caps (if v then listed shown r row else []) first ranks new before after)
+
+  pub listed-past : (ranks : List ℕ) → 1 ≤ m → i < length shown.objects
+      → false ≡ (slice_index ranks i == m && has_right (slice_index bytes i) R)
+      → Marks is_within (gives_rank (m + 1)) shown.objects (listed_at shown r bytes first m (take i shown.objects)) first ranks
+      → Marks is_within (gives_rank (m + 1)) shown.objects (listed_at shown r bytes first m (take (i + 1) shown.objects)) first ranks
+  listed-past ranks some below test before =
+      let none : ℕ × ObjectRow = (0, record { base = 0; pages = 0; account = 0; passwords = []; entries = []; extension = None }) in
+      listed-next (slice_index_or shown.objects i none).1 false ranks ranks some below
+      (λ d. ap (λ (o : ℕ × ObjectRow). o.1) (get_or_default shown.objects i none d below)) test before
+      (marks_none is_within (gives_rank (m + 1)) shown.objects ranks)

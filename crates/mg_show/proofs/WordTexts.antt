@@ -1,10 +1,8 @@
 -- Words as text, some behind others.
-use Rattle.std.specs.Prelude.{◌≡◌, ℕ, zero, suc, ◌+◌, ◌-◌, ◌*◌, ◌/◌, ◌%◌, ◌≤◌, ◌<◌, ◌==◌, List, [], ◌∷◌, ◌++◌, drop, flat_map, length, Option, position, replicate, slice_index_or, Some, None, take}
-use Rattle.std.specs.List.{HoldsAt}
+use Rattle.std.specs.Prelude.{◌≡◌, ℕ, zero, suc, ◌+◌, ◌*◌, ◌/◌, ◌%◌, ◌==◌, List, [], ◌∷◌, ◌++◌, length, Option, position, replicate, Some, None}
 use Rattle.std.specs.Option.{option_map_or}
 use Rattle.std.proofs.Common.{refl, sym, ap, ◌∙◌, append_assoc, append-nil, length-append, arith}
-use Rattle.std.proofs.lemmas.Grind.{flat_map-append}
-use Rattle.std.proofs.lemmas.List.{length-replicate, take-append-drop, take_all, take_more}
+use Rattle.std.proofs.lemmas.List.{length-replicate}
 use Rattle.mg_model.specs.Bytes.{block_words, number_at, numbers_at}
 use Rattle.mg_model.specs.Layout.{first_frame}
 use Rattle.mg_model.specs.Objects.{page_of}
@@ -12,7 +10,7 @@ use Rattle.mg_model.specs.Replay.{block_of}
 use Rattle.mg_model.specs.State.{ObjectRow}
 use Rattle.mg_model.specs.Volume.{page_words, pages_words}
 use Rattle.mg_show.specs.StateText.{words_text}
-use Rattle.mg_show.specs.WordText.{block_text, page_text, pages_text, row_text, rows_text, word_text}
+use Rattle.mg_show.specs.WordText.{block_text, page_text, pages_text, row_text, word_text}
 
 -- behind other words
 words_text-append : (address : ℕ) (xs ys : List ℕ) → words_text address (xs ++ ys) ≡ words_text address xs ++ words_text (address + 8 * length xs) ys

@@ -7,11 +7,10 @@ pub mod Commands
 pub mod Headline
 pub mod Writing
 pub mod Putting
-pub mod WordText
-pub mod RowsText
-pub mod Reached
-pub mod Drawn
-pub mod Walked
-pub mod PartDrawn
 pub mod Shown
+pub mod WordText
+pub mod Marking
+pub mod Reached
+pub mod Walked
+pub mod Drawn
 pub mod WritingLemmas

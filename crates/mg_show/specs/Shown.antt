@@ -1,20 +1,39 @@
--- The texts of a volume that is held.
-use Rattle.std.specs.Prelude.{ℕ, List, ◌++◌, length}
-use Rattle.mg_bank.specs.Bank.{pages_at}
+-- The state of a volume that is held.
+use Rattle.std.specs.Prelude.{ℕ, ◌+◌, [], length, map, Option}
+use Rattle.mg_check.specs.Reads.{CanRead}
 use Rattle.mg_disk.specs.Disk.{Image}
-use Rattle.mg_show.specs.declared.command.Text.{Text}
-use Rattle.mg_show.specs.declared.command.Text.TheVariants as texts
+use Rattle.mg_disk.specs.declared.disk.Disk as disks
+use Rattle.mg_journal.specs.Looked.{Fits}
+use Rattle.mg_model.specs.Replay.{replay}
+use Rattle.mg_model.specs.State.{Object, ObjectRow, State, Thread, ThreadRow}
+use Rattle.mg_model.specs.Volume.{object_spelled}
 use Rattle.mg_show.specs.declared.held.Shown.{Shown}
-use Rattle.mg_show.specs.Drawn.{graph_drawn}
-use Rattle.mg_show.specs.PartDrawn.{object_drawn, thread_drawn}
-use Rattle.mg_show.specs.Reached.{threads_reached}
-use Rattle.mg_show.specs.RowsText.{tables_text}
-use Rattle.mg_show.specs.WordText.{rows_text}
 
-abbrev pub text_shown : Text → Shown → Image → List ℕ
-text_shown texts.State shown r =
-    tables_text shown.params shown.counters (pages_at shown.bank.pages) shown.objects shown.bank.accounts shown.threads.items ++ rows_text r (length shown.frames) shown.frames shown.objects
-text_shown texts.Reach shown r = threads_reached r (length shown.frames) shown.frames shown.objects shown.counters.period shown.threads.items
-text_shown texts.Dot shown r = graph_drawn r (length shown.frames) shown.frames shown.objects shown.counters.period shown.threads.items
-text_shown (texts.DotThread number steps) shown r = thread_drawn r (length shown.frames) shown.frames shown.objects shown.counters.period shown.threads.items number steps
-text_shown (texts.DotObject base steps) shown r = object_drawn r (length shown.frames) shown.frames shown.objects shown.counters.period shown.threads.items base steps
+-- the contents of an image, as the journal gives them
+abbrev pub held_in : Shown → Image → Option Image
+held_in shown image = replay image shown.view.total
+
+-- their blocks can be read
+abbrev pub CanShow : {D : Type 0} → disks.Ghosts D → Shown → D → Type 0
+CanShow facts shown disk = CanRead facts shown.view.total (Fits shown.view) disk
+
+-- an object with its words, and a thread with its number
+abbrev pub object_in : Shown → Image → ℕ × ObjectRow → Object
+object_in shown r o = object_spelled r (length shown.frames) shown.frames o.1
+
+abbrev pub numbered : ℕ × ThreadRow → Thread
+numbered t = record { number = t.0 + 1; row = t.1 }
+
+-- the state with the words of these contents
+abbrev pub state_shown : Shown → Image → State
+state_shown shown r = record {
+  settings = shown.params;
+  counters = shown.counters;
+  objects = map (object_in shown r) shown.objects;
+  accounts = shown.bank.accounts;
+  threads = map numbered shown.threads.items;
+}
+
+-- the state without its words
+abbrev pub bare : Shown → State
+bare shown = state_shown shown []

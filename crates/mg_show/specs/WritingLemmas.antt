@@ -192,7 +192,7 @@ module _ {D : Type 0} (facts : disks.Ghosts D) where
   pub reads_kept : {d d' : D} {o o' : Held} → Reads facts d d' o o' → o'.fault ≡ None → o.fault ≡ None
   reads_kept {d} {d'} {o} {o'} read none = ⊎_elim (λ (same : o' ≡ o). ap (λ (h : Held). h.fault) (sym same) ∙ none) (λ (failed : ReadFails facts d d' o o'). failed.none) read.ends
 
-module _ {D K : Type 0} (facts : disks.Ghosts D) (to : sinks.Ghosts K) (of : Image → Option Image) where
+module _ {D K : Type 0} (facts : disks.Ghosts D) (to : sinks.Ghosts K) {of : Image → Option Image} where
   -- text that needs no disk
   pub of_put : {text : List ℕ} {d : D} {s s' : K} {o o' : Held} → facts.has_been d (facts.moment d) → Puts to text s s' o o' → PutsOf facts to of (λ r. text) d d s s' o o'
   of_put {text} {d} {s} {s'} {o} {o'} been puts = record {

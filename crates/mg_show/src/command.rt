@@ -1,7 +1,7 @@
 // The words of the command line.
 ghost use Rattle.std.specs.Prelude.{◌≡◌};
 ghost use Rattle.mg_model.specs.Words.{and_then, number_of};
-ghost use Rattle.mg_volume_session.specs.ByCommand.{words_of};
+ghost use Rattle.mg_io.specs.Arguments.{arguments};
 ghost use Rattle.mg_show.specs.Commands.{named, part_from, part_named, spelled, within_steps};
 
 use mg_text::{is_word, read_number};
@@ -28,7 +28,7 @@ pub enum Text {
 /// `VOLUME`, `VOLUME state`, `VOLUME reach`, `VOLUME dot`, `VOLUME dot thread NUMBER STEPS` or `VOLUME dot object BASE STEPS`. STEPS is
 /// 1 to 4,096, and numbers are spelled as in a line.
 pub fn read_words(words: &[String]) -> Option<Text>
-    ensures { result ≡ spelled (words_of words.now) }
+    ensures { result ≡ spelled (arguments words.now) }
 {
     match words {
         [_] => Some(Text::State),

@@ -1,93 +1,167 @@
-// A volume as a graph, written as text.
-ghost use Rattle.std.specs.Prelude.{◌≡◌, ◌<◌, All, length};
-ghost use Rattle.mg_check.specs.Reads.{CanRead};
-ghost use Rattle.mg_journal.specs.Looked.{Fits};
+// A volume as a graph, and the part of it that a thread or an object reaches in a number of steps, written as text.
+ghost use Rattle.std.specs.Prelude.{◌≡◌, ◌+◌, ◌≤◌, ◌<◌, ◌==◌, All, length, map};
+ghost use Rattle.std.specs.Option.{option_copied};
+ghost use Rattle.std.specs.List.{find};
 ghost use Rattle.mg_model.specs.Limits.{thread_limit};
-ghost use Rattle.mg_model.specs.Replay.{replay};
-ghost use Rattle.mg_show.specs.Drawn.{graph_drawn, graph_end, graph_head, marked_drawn, node_drawn, threads_drawn};
-ghost use Rattle.mg_show.specs.Reached.{by_byte};
+ghost use Rattle.mg_show.specs.DotFrom.{object_part, part_text, thread_part};
+ghost use Rattle.mg_show.specs.DotText.{dot_text};
+ghost use Rattle.mg_show.specs.Drawn.{bases_of, graph_end, graph_head, node_if, nodes_ranked, part_ranked, threads_drawn};
+ghost use Rattle.mg_show.specs.Shown.{CanShow, held_in, numbered, state_shown};
 ghost use Rattle.mg_show.specs.Writing.{Puts, PutsOf};
 
 use crate::arrows::{put_domains, put_lists};
 use crate::graph_lines::{print_object_node, print_thread_node};
 use crate::held::Shown;
-use crate::marks::{clear, has_r};
-use crate::opened::mark_opened;
+use crate::marks::{fill, has_r, is_within, mark_opened, rank};
+use crate::walk::walk;
 use crate::writer::Writer;
 use mg_disk::Disk;
 use mg_io::Sink;
-use mg_model::ThrRow;
-use mg_objects::Objects;
+use mg_model::{ObjRow, Slot, ThrRow};
+use std::slice;
 
-/// Writes the graph of a volume. There is a byte for each object.
+/// Writes the graph of a volume. There is a byte and a rank for each object.
 pub(crate) fn put_graph<D: Disk, K: Sink>(
     shown: &Shown,
     bytes: &mut [u8],
+    ranks: &mut [u64],
     disk: &mut D,
     out: &mut Writer,
     sink: &mut K,
 )
     requires places { All (λ t. t.0 < thread_limit) shown.now.threads.items }
     requires long { length bytes.old ≡ length shown.now.objects }
-    requires can { CanRead D.Disk shown.now.view.total (Fits shown.now.view) disk.old }
-    ensures { PutsOf D.Disk K.Sink (λ image. replay image shown.now.view.total) (λ r. graph_drawn r (length shown.now.frames) shown.now.frames shown.now.objects shown.now.counters.period shown.now.threads.items) disk.old disk.new sink.old sink.new out.old out.new }
+    requires long_ranks { length ranks.old ≡ length shown.now.objects }
+    requires can { CanShow D.Disk shown.now disk.old }
+    ensures { PutsOf D.Disk K.Sink (held_in shown.now) (λ r. dot_text (state_shown shown.now r)) disk.old disk.new sink.old sink.new out.old out.new }
 {
-    clear(bytes);
-    mark_opened(
-        shown.objects.objects(),
-        &shown.threads,
-        shown.counters.period(),
-        bytes,
-    );
-    put_marked(shown, bytes, disk, out, sink);
+    mark_opened(shown, bytes);
+    fill(ranks, 1);
+    put_ranked(shown, &shown.threads, 1, bytes, ranks, disk, out, sink);
 }
 
-// Writes the graph. The byte of each object has R if a thread reads it as a list. A node that has no line is dashed.
-fn put_marked<D: Disk, K: Sink>(
+/// Writes what the thread with this number reaches in `steps` steps, the first of which goes along a slot. There is a byte and a rank
+/// for each object.
+pub(crate) fn put_thread_part<D: Disk, K: Sink>(
     shown: &Shown,
-    bytes: &[u8],
+    number: u64,
+    steps: u64,
+    bytes: &mut [u8],
+    ranks: &mut [u64],
     disk: &mut D,
     out: &mut Writer,
     sink: &mut K,
 )
+    requires few { steps ≤ 65535 }
     requires places { All (λ t. t.0 < thread_limit) shown.now.threads.items }
-    requires long { length bytes.now ≡ length shown.now.objects }
-    requires can { CanRead D.Disk shown.now.view.total (Fits shown.now.view) disk.old }
-    ensures { PutsOf D.Disk K.Sink (λ image. replay image shown.now.view.total) (λ r. marked_drawn r (length shown.now.frames) shown.now.frames bytes.now shown.now.objects shown.now.counters.period shown.now.threads.items) disk.old disk.new sink.old sink.new out.old out.new }
+    requires long { length bytes.old ≡ length shown.now.objects }
+    requires long_ranks { length ranks.old ≡ length shown.now.objects }
+    requires can { CanShow D.Disk shown.now disk.old }
+    ensures { PutsOf D.Disk K.Sink (held_in shown.now) (λ r. thread_part (state_shown shown.now r) number steps) disk.old disk.new sink.old sink.new out.old out.new }
 {
-    put_head(out, sink);
-    put_thread_nodes(&shown.threads, out, sink);
-    put_object_nodes(shown.objects.objects(), bytes, out, sink);
-    put_domains(
-        shown.objects.objects(),
-        shown.counters.period(),
-        &shown.threads,
-        out,
-        sink,
-    );
-    put_lists(shown, bytes, disk, out, sink);
-    put_end(out, sink);
+    let n = steps.saturating_sub(1);
+    match thread_of(&shown.threads, number) {
+        Some(thread) => {
+            let last = thread.1.last();
+            let drawn = slice::from_ref(thread);
+            put_part(shown, drawn, last.slots(), n, bytes, ranks, disk, out, sink);
+        }
+        None => put_part(shown, &[], &[], n, bytes, ranks, disk, out, sink),
+    }
 }
 
-/// Writes what a graph begins with.
-pub(crate) fn put_head<K: Sink>(out: &mut Writer, sink: &mut K)
-    ensures { Puts K.Sink graph_head sink.old sink.new out.old out.new }
+/// Writes what the object with this base reaches in `steps` steps. There is a byte and a rank for each object.
+pub(crate) fn put_object_part<D: Disk, K: Sink>(
+    shown: &Shown,
+    base: u64,
+    steps: u64,
+    bytes: &mut [u8],
+    ranks: &mut [u64],
+    disk: &mut D,
+    out: &mut Writer,
+    sink: &mut K,
+)
+    requires few { steps ≤ 65535 }
+    requires long { length bytes.old ≡ length shown.now.objects }
+    requires long_ranks { length ranks.old ≡ length shown.now.objects }
+    requires can { CanShow D.Disk shown.now disk.old }
+    ensures { PutsOf D.Disk K.Sink (held_in shown.now) (λ r. object_part (state_shown shown.now r) base steps) disk.old disk.new sink.old sink.new out.old out.new }
+{
+    let start = [Slot { base, password: 0 }];
+    put_part(shown, &[], &start, steps, bytes, ranks, disk, out, sink);
+}
+
+// The thread with this number.
+fn thread_of(threads: &[(u64, ThrRow)], number: u64) -> Option<&(u64, ThrRow)>
+    ensures { option_copied result ≡ find (λ t. t.0 + 1 == number) threads.now }
+{
+    threads.iter().find(|thread| has_number(thread, number))
+}
+
+// Whether a thread has this number, which is one more than its place.
+fn has_number(thread: &(u64, ThrRow), number: u64) -> bool
+    ensures { result ≡ (thread.now.0 + 1 == number) }
+{
+    number != 0 && thread.0 == number - 1
+}
+
+// Writes these threads, and what is reached from the objects that these slots name in at most `n` steps.
+fn put_part<D: Disk, K: Sink>(
+    shown: &Shown,
+    drawn: &[(u64, ThrRow)],
+    slots: &[Slot],
+    n: u64,
+    bytes: &mut [u8],
+    ranks: &mut [u64],
+    disk: &mut D,
+    out: &mut Writer,
+    sink: &mut K,
+)
+    requires few { n ≤ 65535 }
+    requires places { All (λ t. t.0 < thread_limit) drawn.now }
+    requires long { length bytes.old ≡ length shown.now.objects }
+    requires long_ranks { length ranks.old ≡ length shown.now.objects }
+    requires can { CanShow D.Disk shown.now disk.old }
+    ensures { PutsOf D.Disk K.Sink (held_in shown.now) (λ r. part_text (state_shown shown.now r) (map numbered drawn.now) (bases_of slots.now) n) disk.old disk.new sink.old sink.new out.old out.new }
+{
+    mark_opened(shown, bytes);
+    fill(ranks, 0);
+    rank(shown, slots, 1, ranks);
+    walk(shown, bytes, n, ranks, disk, out);
+    put_ranked(shown, drawn, n, bytes, ranks, disk, out, sink);
+}
+
+// Writes these threads, the objects whose rank is at most `n + 1`, and the lists whose rank is at most `n`. A byte has R for a list.
+fn put_ranked<D: Disk, K: Sink>(
+    shown: &Shown,
+    drawn: &[(u64, ThrRow)],
+    n: u64,
+    bytes: &[u8],
+    ranks: &[u64],
+    disk: &mut D,
+    out: &mut Writer,
+    sink: &mut K,
+)
+    requires few { n ≤ 65535 }
+    requires places { All (λ t. t.0 < thread_limit) drawn.now }
+    requires long { length bytes.now ≡ length shown.now.objects }
+    requires long_ranks { length ranks.now ≡ length shown.now.objects }
+    requires can { CanShow D.Disk shown.now disk.old }
+    ensures { PutsOf D.Disk K.Sink (held_in shown.now) (λ r. part_ranked shown.now r n bytes.now ranks.now drawn.now) disk.old disk.new sink.old sink.new out.old out.new }
 {
     out.add(
         b"digraph volume {\n  rankdir=LR\n  node [shape=box style=dashed]\n",
         sink,
     );
-}
-
-/// Writes what a graph ends with.
-pub(crate) fn put_end<K: Sink>(out: &mut Writer, sink: &mut K)
-    ensures { Puts K.Sink graph_end sink.old sink.new out.old out.new }
-{
+    put_thread_nodes(drawn, out, sink);
+    put_nodes(shown, n, bytes, ranks, out, sink);
+    put_domains(shown, drawn, out, sink);
+    put_lists(shown, n, bytes, ranks, disk, out, sink);
     out.add(b"}\n", sink);
 }
 
-/// Writes the nodes of the threads, each of which has the place before its number.
-pub(crate) fn put_thread_nodes<K: Sink>(threads: &[(u64, ThrRow)], out: &mut Writer, sink: &mut K)
+// Writes the nodes of threads, each of which has the place before its number.
+fn put_thread_nodes<K: Sink>(threads: &[(u64, ThrRow)], out: &mut Writer, sink: &mut K)
     requires { All (λ t. t.0 < thread_limit) threads.now }
     ensures { Puts K.Sink (threads_drawn threads.now) sink.old sink.new out.old out.new }
 {
@@ -96,12 +170,32 @@ pub(crate) fn put_thread_nodes<K: Sink>(threads: &[(u64, ThrRow)], out: &mut Wri
     }
 }
 
-// Writes the nodes of the objects, in the order of their bases. The byte of each has R if it is read as a list.
-fn put_object_nodes<K: Sink>(objects: &Objects, bytes: &[u8], out: &mut Writer, sink: &mut K)
-    requires long { length bytes.now ≡ length objects.now }
-    ensures { Puts K.Sink (by_byte node_drawn bytes.now 0 objects.now) sink.old sink.new out.old out.new }
+// Writes the nodes of the objects whose rank is at most `steps + 1`. The byte of each has R if it is read as a list.
+fn put_nodes<K: Sink>(
+    shown: &Shown,
+    steps: u64,
+    bytes: &[u8],
+    ranks: &[u64],
+    out: &mut Writer,
+    sink: &mut K,
+)
+    requires few { steps ≤ 65535 }
+    requires long { length bytes.now ≡ length shown.now.objects }
+    requires long_ranks { length ranks.now ≡ length shown.now.objects }
+    ensures { Puts K.Sink (nodes_ranked steps bytes.now ranks.now shown.now.objects) sink.old sink.new out.old out.new }
 {
+    let objects = shown.objects.objects();
     for i in 0..objects.len() {
-        out.line(print_object_node(objects.nth_ref(i), has_r(bytes[i])), sink);
+        let is_shown = is_within(ranks[i], steps + 1);
+        put_node(is_shown, has_r(bytes[i]), objects.nth_ref(i), out, sink);
+    }
+}
+
+// Writes the node of an object, if it is shown.
+fn put_node<K: Sink>(is_shown: bool, is_list: bool, row: &ObjRow, out: &mut Writer, sink: &mut K)
+    ensures { Puts K.Sink (node_if is_shown is_list row.now) sink.old sink.new out.old out.new }
+{
+    if is_shown {
+        out.line(print_object_node(row, is_list), sink);
     }
 }

@@ -13,14 +13,14 @@ use mg_text::{push_number, push_text, push_word};
 pub(crate) type Line = ArrayVec<u8, 256>;
 
 /// The line of one number: its first word, of at most 16 bytes, and the number in decimal. There is room for it.
-fn push_counted(out: &mut Line, head: &[u8], n: u64)
+fn push_counted(out: &mut Line, head: &[u8], number: u64)
     requires short_head { length head.now ≤ 16 }
     requires has_room { array_vec_len out.old ≤ 184 }
-    ensures text { out.new.items ≡ out.old.items ++ line head.now (decimal n ∷ []) }
+    ensures text { out.new.items ≡ out.old.items ++ line head.now (decimal number ∷ []) }
     ensures short { array_vec_len out.new ≤ array_vec_len out.old + length head.now + 22 }
 {
     push_text(out, head);
-    push_number(out, n);
+    push_number(out, number);
     push_text(out, b"\n");
 }
 
@@ -62,12 +62,12 @@ pub(crate) fn print_pair(head: &[u8], first: u64, second: u64) -> Line
 }
 
 /// The line of an account, with the number of pages that it pays for.
-pub(crate) fn print_account(n: u64, row: &AccRow, pages: u64) -> Line
-    ensures { result.items ≡ account_text n row.now pages }
+pub(crate) fn print_account(number: u64, row: &AccRow, pages: u64) -> Line
+    ensures { result.items ≡ account_text number row.now pages }
 {
     let mut out = Line::new();
     push_text(&mut out, b"account");
-    push_number(&mut out, n);
+    push_number(&mut out, number);
     push_word(&mut out, row.password);
     push_number(&mut out, row.balance);
     push_number(&mut out, row.owed);
@@ -185,11 +185,15 @@ fn push_byte(out: &mut Line, byte: u8)
     out.push(hex_glyph(byte % 16));
 }
 
-fn hex_glyph(d: u8) -> u8
-    requires { d < 16 }
-    ensures { result ≡ hex_digit d }
+fn hex_glyph(digit: u8) -> u8
+    requires { digit < 16 }
+    ensures { result ≡ hex_digit digit }
 {
-    if d < 10 { b'0' + d } else { b'a' + d - 10 }
+    if digit < 10 {
+        b'0' + digit
+    } else {
+        b'a' + digit - 10
+    }
 }
 
 /// The line of the tariff. It has at most 175 bytes.
@@ -227,13 +231,13 @@ fn push_step(out: &mut Line, step: (u64, u64))
 }
 
 /// A number in decimal.
-pub(crate) fn push_decimal(out: &mut Line, n: u64)
+pub(crate) fn push_decimal(out: &mut Line, number: u64)
     requires { array_vec_len out.old ≤ 230 }
-    ensures text { out.new.items ≡ out.old.items ++ decimal n }
+    ensures text { out.new.items ≡ out.old.items ++ decimal number }
     ensures short { array_vec_len out.new ≤ array_vec_len out.old + 20 }
 {
     let mut digits = itoa::Buffer::new();
-    push_text(out, digits.format(n).as_bytes());
+    push_text(out, digits.format(number).as_bytes());
 }
 
 /// The line of a thread up to its registers. It has at most 103 bytes.
@@ -278,12 +282,12 @@ pub(crate) fn print_registers(regs: &[u64; 8]) -> Line
 }
 
 /// The line of an object that a thread reaches, with the rights whose bits these are.
-pub(crate) fn print_reach(t: u64, base: u64, bits: u8) -> Line
-    ensures { result.items ≡ line (codes "reach") (decimal t ∷ hex_text base ∷ rights_text bits ∷ []) }
+pub(crate) fn print_reach(thread: u64, base: u64, bits: u8) -> Line
+    ensures { result.items ≡ line (codes "reach") (decimal thread ∷ hex_text base ∷ rights_text bits ∷ []) }
 {
     let mut out = Line::new();
     push_text(&mut out, b"reach");
-    push_number(&mut out, t);
+    push_number(&mut out, thread);
     push_word(&mut out, base);
     push_text(&mut out, b" ");
     push_letters(&mut out, bits);
@@ -292,12 +296,12 @@ pub(crate) fn print_reach(t: u64, base: u64, bits: u8) -> Line
 }
 
 /// The line of an entry at which a thread may enter.
-pub(crate) fn print_enter(t: u64, address: u64) -> Line
-    ensures { result.items ≡ line (codes "enter") (decimal t ∷ hex_text address ∷ []) }
+pub(crate) fn print_enter(thread: u64, address: u64) -> Line
+    ensures { result.items ≡ line (codes "enter") (decimal thread ∷ hex_text address ∷ []) }
 {
     let mut out = Line::new();
     push_text(&mut out, b"enter");
-    push_number(&mut out, t);
+    push_number(&mut out, thread);
     push_word(&mut out, address);
     push_text(&mut out, b"\n");
     out

@@ -1,23 +1,81 @@
-// The rights that a list of capabilities gives, a byte for each object.
-ghost use Rattle.std.specs.Prelude.{◌≡◌, ◌≢◌, ◌≤◌, ◌<◌, ◌/◌, ◌%◌, ◌==◌, ◌||◌, [], ◌∷◌, ℕ, All, MatchOption, length, slice_index};
+// A mark for each object: a byte with the rights that capabilities give on it, or a rank.
+ghost use Rattle.std.specs.Prelude.{◌≡◌, ◌≢◌, ◌≤◌, ◌<◌, ◌/◌, ◌%◌, ◌==◌, ◌||◌, [], ◌∷◌, nat_le, ℕ, All, MatchOption, length, slice_index};
 ghost use Rattle.mg_model.specs.Access.{holds};
 ghost use Rattle.mg_model.specs.Rights.{has_right};
 ghost use Rattle.mg_model.specs.declared.rights.Right.{Right as right};
-ghost use Rattle.mg_show.specs.Drawn.{held};
-ghost use Rattle.mg_show.specs.Reached.{IsCut, IsPlaceOf, Marks};
+ghost use Rattle.mg_show.specs.DotText.{holds_now};
+ghost use Rattle.mg_show.specs.Marking.{IsCut, IsPlaceOf, Marks, gives_rank, is_within, named_by};
+ghost use Rattle.mg_show.specs.Shown.{bare};
+ghost use Rattle.mg_show.specs.Walked.{AreOpened};
 
-use mg_model::{ObjRow, Right};
+use crate::held::Shown;
+use mg_model::{ObjRow, Right, Slot};
 use mg_objects::Objects;
 
-/// The object with this base gets, in its byte, the rights that a password gives on it at a period. If there is none, nothing
-/// changes.
-pub(crate) fn mark(objects: &Objects, base: u64, password: u64, period: u64, bytes: &mut [u8])
-    requires { length bytes.old ≡ length objects.now }
-    ensures { Marks objects.now period ((base, password) ∷ []) bytes.old bytes.new }
+/// Each object gets, in its byte, the rights that capabilities give on it now.
+pub(crate) fn mark(shown: &Shown, capabilities: &[Slot], bytes: &mut [u8])
+    requires long { length bytes.old ≡ length shown.now.objects }
+    ensures { Marks has_right (holds shown.now.counters.period) shown.now.objects (named_by capabilities.now) bytes.old bytes.new }
 {
-    match place_of(objects, base) {
-        Some(i) => bytes[i] = with_rights(bytes[i], objects.nth_ref(i), password, period),
+    for slot in capabilities {
+        mark_one(shown, *slot, bytes);
+    }
+}
+
+// The object that a capability names gets the rights that it gives. If there is none, nothing changes.
+fn mark_one(shown: &Shown, slot: Slot, bytes: &mut [u8])
+    requires long { length bytes.old ≡ length shown.now.objects }
+    ensures { Marks has_right (holds shown.now.counters.period) shown.now.objects ((slot.base, slot.password) ∷ []) bytes.old bytes.new }
+{
+    let objects = shown.objects.objects();
+    let period = shown.counters.period();
+    match place_of(objects, slot.base) {
+        Some(i) => bytes[i] = with_rights(bytes[i], objects.nth_ref(i), slot.password, period),
         None => {}
+    }
+}
+
+/// The objects that capabilities name get this rank, if they have none.
+pub(crate) fn rank(shown: &Shown, capabilities: &[Slot], rank: u64, ranks: &mut [u64])
+    requires some { 1 ≤ rank }
+    requires long { length ranks.old ≡ length shown.now.objects }
+    ensures { Marks is_within (gives_rank rank) shown.now.objects (named_by capabilities.now) ranks.old ranks.new }
+{
+    for slot in capabilities {
+        rank_one(shown, *slot, rank, ranks);
+    }
+}
+
+// The object that a capability names gets this rank, if it has none.
+fn rank_one(shown: &Shown, slot: Slot, rank: u64, ranks: &mut [u64])
+    requires some { 1 ≤ rank }
+    requires long { length ranks.old ≡ length shown.now.objects }
+    ensures { Marks is_within (gives_rank rank) shown.now.objects ((slot.base, slot.password) ∷ []) ranks.old ranks.new }
+{
+    match place_of(shown.objects.objects(), slot.base) {
+        Some(i) => ranks[i] = least(ranks[i], rank),
+        None => {}
+    }
+}
+
+// The less of a rank and the one that an object has, if it has one.
+fn least(old: u64, rank: u64) -> u64
+    requires { 1 ≤ rank }
+    ensures { (n : ℕ) → is_within result n ≡ (is_within old n || nat_le rank n) }
+{
+    if old != 0 && old <= rank { old } else { rank }
+}
+
+/// Each object gets, in its byte, R if a thread reads it as a list.
+pub(crate) fn mark_opened(shown: &Shown, bytes: &mut [u8])
+    requires long { length bytes.old ≡ length shown.now.objects }
+    ensures opened { AreOpened shown.now bytes.new }
+    ensures long { length bytes.new ≡ length bytes.old }
+{
+    clear(bytes);
+    for i in 0..shown.threads.len() {
+        let last = shown.threads[i].1.last();
+        mark(shown, last.slots(), bytes);
     }
 }
 
@@ -29,12 +87,20 @@ pub(crate) fn clear(bytes: &mut [u8])
     bytes.fill(0);
 }
 
-/// The rights that a password gives at a period on the object with this base, as bits; none if there is no such object.
-pub(crate) fn rights_on(objects: &Objects, base: u64, password: u64, period: u64) -> u8
-    ensures { (x : right) → has_right result x ≡ held objects.now period base password x }
+/// Each object gets this mark.
+pub(crate) fn fill(marks: &mut [u64], mark: u64)
+    ensures same { (i : ℕ) → i < length marks.old → slice_index marks.new i ≡ mark }
+    ensures long { length marks.new ≡ length marks.old }
 {
-    match objects.get_ref(base) {
-        Some(row) => with_rights(0, row, password, period),
+    marks.fill(mark);
+}
+
+/// The rights that a password gives now on the object with this base, as bits; none if there is no such object.
+pub(crate) fn rights_on(shown: &Shown, base: u64, password: u64) -> u8
+    ensures { (x : right) → has_right result x ≡ holds_now (bare shown.now) base password x }
+{
+    match shown.objects.get(base) {
+        Some(row) => with_rights(0, row, password, shown.counters.period()),
         None => 0,
     }
 }
@@ -46,8 +112,15 @@ pub(crate) fn has_r(bits: u8) -> bool
     bits % 2 == 1
 }
 
-/// The place of the object with this base in the order of the bases.
-pub(crate) fn place_of(objects: &Objects, base: u64) -> Option<usize>
+/// Whether an object with this rank is reached in fewer than `steps` steps.
+pub(crate) fn is_within(rank: u64, steps: u64) -> bool
+    ensures { result ≡ is_within rank steps }
+{
+    rank != 0 && rank <= steps
+}
+
+// The place of the object with this base in the order of the bases.
+fn place_of(objects: &Objects, base: u64) -> Option<usize>
     ensures { MatchOption result (All (λ o. o.1.base ≢ base) objects.now) (λ i. IsPlaceOf objects.now base i) }
 {
     let i = count_below(objects, base);

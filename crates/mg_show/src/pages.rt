@@ -6,6 +6,7 @@ ghost use Rattle.mg_disk.specs.Stops.{CountRose};
 ghost use Rattle.mg_journal.specs.Looked.{Fits};
 ghost use Rattle.mg_model.specs.Replay.{block_of, replay};
 ghost use Rattle.mg_model.specs.Volume.{page_words};
+ghost use Rattle.mg_show.specs.Shown.{CanShow, held_in};
 ghost use Rattle.mg_show.specs.WordText.{words_read};
 ghost use Rattle.mg_show.specs.Writing.{Reads};
 
@@ -26,8 +27,8 @@ pub(crate) fn read_page<D: Disk>(
     out: &mut Writer,
 ) -> bool
     requires some { 1 ≤ page }
-    requires can { CanRead D.Disk shown.now.view.total (Fits shown.now.view) disk.old }
-    ensures page { out.new.fault ≡ None → ForSome (contents D.Disk (λ image. replay image shown.now.view.total) disk.old) (λ r. words_read result block.new ≡ page_words r (length shown.now.frames) shown.now.frames page) }
+    requires can { CanShow D.Disk shown.now disk.old }
+    ensures page { out.new.fault ≡ None → ForSome (contents D.Disk (held_in shown.now) disk.old) (λ r. words_read result block.new ≡ page_words r (length shown.now.frames) shown.now.frames page) }
     ensures reads { Reads D.Disk disk.old disk.new out.old out.new }
 {
     if out.has_failed() {

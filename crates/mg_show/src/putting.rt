@@ -1,20 +1,19 @@
 // The text of a volume whose rows were read.
-ghost use Rattle.std.specs.Prelude.{◌≡◌, ◌≤◌, ◌<◌, [], All, IfSome, None, length};
+ghost use Rattle.std.specs.Prelude.{◌≡◌, ◌≤◌, [], IfSome, None, length};
 ghost use Rattle.std.specs.Option.{ForSome};
-ghost use Rattle.mg_check.specs.Reads.{CanRead};
-ghost use Rattle.mg_check.specs.RowsRead.{AreKept, IsReadAs};
+ghost use Rattle.mg_check.specs.RowsRead.{AreKept, ArePlaced, IsReadAs};
 ghost use Rattle.mg_journal.specs.Looked.{Fits};
 ghost use Rattle.mg_model.specs.Layout.{total_blocks};
 ghost use Rattle.mg_model.specs.Limits.{thread_limit};
-ghost use Rattle.mg_model.specs.Replay.{replay};
+ghost use Rattle.mg_space.specs.Space.{ArePaid};
+ghost use Rattle.mg_show.specs.Commands.{text_of};
 ghost use Rattle.mg_show.specs.Putting.{PutsAll, ShowsRows};
-ghost use Rattle.mg_show.specs.Shown.{text_shown};
+ghost use Rattle.mg_show.specs.Shown.{CanShow, held_in, state_shown};
 ghost use Rattle.mg_show.specs.Writing.{PutsOf};
 
 use crate::command::Text;
-use crate::graph::put_graph;
+use crate::graph::{put_graph, put_object_part, put_thread_part};
 use crate::held::{Shown, shown_of};
-use crate::part::{put_object_part, put_thread_part};
 use crate::reach::put_reach;
 use crate::state::put_state;
 use crate::writer::Writer;
@@ -96,12 +95,13 @@ fn put_all<D: Disk, K: Sink>(
     out: &mut Writer,
     sink: &mut K,
 ) -> Status
-    requires places { All (λ t. t.0 < thread_limit) shown.now.threads.items }
+    requires placed { ArePlaced thread_limit shown.now.threads.items }
+    requires paid { ArePaid shown.now.bank.pages shown.now.objects }
     requires long { length bytes.old ≡ length shown.now.objects }
     requires long_ranks { length ranks.old ≡ length shown.now.objects }
-    requires can { CanRead D.Disk shown.now.view.total (Fits shown.now.view) disk.old }
+    requires can { CanShow D.Disk shown.now disk.old }
     requires empty { out.old ≡ record { waiting = []; fault = None } }
-    ensures { PutsAll D.Disk K.Sink (λ image. replay image shown.now.view.total) (text_shown text shown.now) result disk.old disk.new sink.old sink.new }
+    ensures { PutsAll D.Disk K.Sink (held_in shown.now) (λ r. text_of text (state_shown shown.now r)) result disk.old disk.new sink.old sink.new }
 {
     put_text(text, shown, bytes, ranks, disk, out, sink);
     out.finish(sink)
@@ -117,16 +117,17 @@ fn put_text<D: Disk, K: Sink>(
     out: &mut Writer,
     sink: &mut K,
 )
-    requires places { All (λ t. t.0 < thread_limit) shown.now.threads.items }
+    requires placed { ArePlaced thread_limit shown.now.threads.items }
+    requires paid { ArePaid shown.now.bank.pages shown.now.objects }
     requires long { length bytes.old ≡ length shown.now.objects }
     requires long_ranks { length ranks.old ≡ length shown.now.objects }
-    requires can { CanRead D.Disk shown.now.view.total (Fits shown.now.view) disk.old }
-    ensures { PutsOf D.Disk K.Sink (λ image. replay image shown.now.view.total) (text_shown text shown.now) disk.old disk.new sink.old sink.new out.old out.new }
+    requires can { CanShow D.Disk shown.now disk.old }
+    ensures { PutsOf D.Disk K.Sink (held_in shown.now) (λ r. text_of text (state_shown shown.now r)) disk.old disk.new sink.old sink.new out.old out.new }
 {
     match text {
         Text::State => put_state(shown, disk, out, sink),
         Text::Reach => put_reach(shown, bytes, disk, out, sink),
-        Text::Dot => put_graph(shown, bytes, disk, out, sink),
+        Text::Dot => put_graph(shown, bytes, ranks, disk, out, sink),
         Text::DotThread(number, steps) => put_thread_part(
             shown,
             number,

@@ -1,12 +1,9 @@
 // The whole state of a volume, written as text.
-ghost use Rattle.std.specs.Prelude.{◌<◌, ◌++◌, All, length};
-ghost use Rattle.mg_bank.specs.Bank.{pages_at};
-ghost use Rattle.mg_check.specs.Reads.{CanRead};
-ghost use Rattle.mg_journal.specs.Looked.{Fits};
+ghost use Rattle.std.specs.Prelude.{◌<◌, All};
 ghost use Rattle.mg_model.specs.Limits.{thread_limit};
-ghost use Rattle.mg_model.specs.Replay.{replay};
-ghost use Rattle.mg_show.specs.RowsText.{tables_text};
-ghost use Rattle.mg_show.specs.WordText.{rows_text};
+ghost use Rattle.mg_space.specs.Space.{ArePaid};
+ghost use Rattle.mg_show.specs.Shown.{CanShow, held_in, state_shown};
+ghost use Rattle.mg_show.specs.StateText.{state_text};
 ghost use Rattle.mg_show.specs.Writing.{PutsOf};
 
 use crate::held::Shown;
@@ -27,10 +24,9 @@ pub(crate) fn put_state<D: Disk, K: Sink>(
     sink: &mut K,
 )
     requires places { All (λ t. t.0 < thread_limit) shown.now.threads.items }
-    requires can { CanRead D.Disk shown.now.view.total (Fits shown.now.view) disk.old }
-    ensures { PutsOf D.Disk K.Sink (λ image. replay image shown.now.view.total)
-        (λ r. tables_text shown.now.params shown.now.counters (pages_at shown.now.bank.pages) shown.now.objects shown.now.bank.accounts shown.now.threads.items ++ rows_text r (length shown.now.frames) shown.now.frames shown.now.objects)
-        disk.old disk.new sink.old sink.new out.old out.new }
+    requires paid { ArePaid shown.now.bank.pages shown.now.objects }
+    requires can { CanShow D.Disk shown.now disk.old }
+    ensures { PutsOf D.Disk K.Sink (held_in shown.now) (λ r. state_text (state_shown shown.now r)) disk.old disk.new sink.old sink.new out.old out.new }
 {
     put_settings(&shown.params, out, sink);
     out.line(print_counters(&shown.counters), sink);

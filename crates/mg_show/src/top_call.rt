@@ -8,7 +8,7 @@ ghost use Rattle.mg_io.specs.Known.{AppendsPrefix};
 ghost use Rattle.mg_model.specs.State.{State};
 ghost use Rattle.mg_model.specs.Volume.{Is, volume};
 ghost use Rattle.mg_serve.specs.Sessions.{IsDoneOrMemory};
-ghost use Rattle.mg_volume_session.specs.ByCommand.{words_of};
+ghost use Rattle.mg_io.specs.Arguments.{arguments};
 ghost use Rattle.mg_volume_session.specs.Headline.{EndsUnopened, OnVolume, TellsOfNone};
 ghost use Rattle.mg_show.specs.Commands.{spelled, text_of};
 ghost use Rattle.mg_show.specs.Headline.{ShowKeeps, UsageKeeps};
@@ -45,9 +45,9 @@ pub fn top_show<D: Disk, K: Sink>(
     disk: &mut D,
     sink: &mut K,
 ) -> Status
-    ensures shows { (text : Text) → spelled (words_of words.now) ≡ Some text
+    ensures shows { (text : Text) → spelled (arguments words.now) ≡ Some text
         → ShowKeeps D.Disk K.Sink text result disk.old disk.new sink.old sink.new }
-    ensures usage { spelled (words_of words.now) ≡ None → UsageKeeps K.Sink result disk.old disk.new sink.old sink.new }
+    ensures usage { spelled (arguments words.now) ≡ None → UsageKeeps K.Sink result disk.old disk.new sink.old sink.new }
 {
     match read_words(words) {
         Some(text) => show(alloc, text, disk, sink),
@@ -59,11 +59,11 @@ pub fn top_show<D: Disk, K: Sink>(
 fn show<D: Disk, K: Sink>(alloc: Global, text: Text, disk: &mut D, sink: &mut K) -> Status
     ensures { ShowKeeps D.Disk K.Sink text result disk.old disk.new sink.old sink.new }
 {
-    tell(alloc, text, disk, sink)
+    print_text(alloc, text, disk, sink)
 }
 
 /// Writes the text, or the line of what the disk holds in place of a volume.
-fn tell<D: Disk, K: Sink>(alloc: Global, text: Text, disk: &mut D, sink: &mut K) -> Status
+fn print_text<D: Disk, K: Sink>(alloc: Global, text: Text, disk: &mut D, sink: &mut K) -> Status
     ensures which { (result ≡ Status.Done) ⊎ EndsUnopened result }
     ensures done { result ≡ Status.Done → ForSome (D.seen disk.old) (λ image. (s : State) × (volume image ≡ Is s) × Appends (K.taken sink.old) (K.taken sink.new) (text_of text s)) }
     ensures prefix { OnVolume (D.seen disk.old) (λ s. AppendsPrefix (K.taken sink.old) (K.taken sink.new) (text_of text s)) }

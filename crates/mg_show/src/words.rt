@@ -1,8 +1,6 @@
 // The words of a volume that are not 0, written as text.
 ghost use Rattle.std.specs.Prelude.{◌≡◌, ◌+◌, ◌≤◌, ◌<◌, ◌^◌, length};
-ghost use Rattle.mg_check.specs.Reads.{CanRead};
-ghost use Rattle.mg_journal.specs.Looked.{Fits};
-ghost use Rattle.mg_model.specs.Replay.{replay};
+ghost use Rattle.mg_show.specs.Shown.{CanShow, held_in};
 ghost use Rattle.mg_show.specs.StateText.{words_text};
 ghost use Rattle.mg_show.specs.WordText.{block_text, page_text, pages_text, row_text, rows_text, word_text, words_read};
 ghost use Rattle.mg_show.specs.Writing.{Puts, PutsOf};
@@ -24,8 +22,8 @@ pub(crate) fn put_words<D: Disk, K: Sink>(
     out: &mut Writer,
     sink: &mut K,
 )
-    requires can { CanRead D.Disk shown.now.view.total (Fits shown.now.view) disk.old }
-    ensures { PutsOf D.Disk K.Sink (λ image. replay image shown.now.view.total) (λ r. rows_text r (length shown.now.frames) shown.now.frames shown.now.objects) disk.old disk.new sink.old sink.new out.old out.new }
+    requires can { CanShow D.Disk shown.now disk.old }
+    ensures { PutsOf D.Disk K.Sink (held_in shown.now) (λ r. rows_text r (length shown.now.frames) shown.now.frames shown.now.objects) disk.old disk.new sink.old sink.new out.old out.new }
 {
     let objects = shown.objects.objects();
     for i in 0..objects.len() {
@@ -41,10 +39,9 @@ fn put_object<D: Disk, K: Sink>(
     out: &mut Writer,
     sink: &mut K,
 )
-    requires can { CanRead D.Disk shown.now.view.total (Fits shown.now.view) disk.old }
-    ensures { PutsOf D.Disk K.Sink (λ image. replay image shown.now.view.total) (λ r. row_text r (length shown.now.frames) shown.now.frames row.now) disk.old disk.new sink.old sink.new out.old out.new }
+    requires can { CanShow D.Disk shown.now disk.old }
+    ensures { PutsOf D.Disk K.Sink (held_in shown.now) (λ r. row_text r (length shown.now.frames) shown.now.frames row.now) disk.old disk.new sink.old sink.new out.old out.new }
 {
-    row.keep_rules();
     put_pages(
         shown,
         row.base() / BLOCK_SIZE as u64,
@@ -55,21 +52,21 @@ fn put_object<D: Disk, K: Sink>(
     );
 }
 
-// Writes the words of `n` pages from this one on.
+// Writes the words of `count` pages from this one on.
 fn put_pages<D: Disk, K: Sink>(
     shown: &Shown,
     first: u64,
-    n: u64,
+    count: u64,
     disk: &mut D,
     out: &mut Writer,
     sink: &mut K,
 )
     requires some { 1 ≤ first }
-    requires place { first + n ≤ 2 ^ 52 }
-    requires can { CanRead D.Disk shown.now.view.total (Fits shown.now.view) disk.old }
-    ensures { PutsOf D.Disk K.Sink (λ image. replay image shown.now.view.total) (λ r. pages_text r (length shown.now.frames) shown.now.frames first n) disk.old disk.new sink.old sink.new out.old out.new }
+    requires place { first + count ≤ 2 ^ 52 }
+    requires can { CanShow D.Disk shown.now disk.old }
+    ensures { PutsOf D.Disk K.Sink (held_in shown.now) (λ r. pages_text r (length shown.now.frames) shown.now.frames first count) disk.old disk.new sink.old sink.new out.old out.new }
 {
-    for i in 0..n {
+    for i in 0..count {
         put_page(shown, first + i, disk, out, sink);
     }
 }
@@ -84,8 +81,8 @@ fn put_page<D: Disk, K: Sink>(
 )
     requires some { 1 ≤ page }
     requires place { page < 2 ^ 52 }
-    requires can { CanRead D.Disk shown.now.view.total (Fits shown.now.view) disk.old }
-    ensures { PutsOf D.Disk K.Sink (λ image. replay image shown.now.view.total) (λ r. page_text r (length shown.now.frames) shown.now.frames page) disk.old disk.new sink.old sink.new out.old out.new }
+    requires can { CanShow D.Disk shown.now disk.old }
+    ensures { PutsOf D.Disk K.Sink (held_in shown.now) (λ r. page_text r (length shown.now.frames) shown.now.frames page) disk.old disk.new sink.old sink.new out.old out.new }
 {
     let mut block = [0; BLOCK_SIZE];
     let is_held = read_page(shown, page, &mut block, disk, out);

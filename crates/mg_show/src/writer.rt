@@ -52,7 +52,7 @@ impl Writer {
             return;
         }
         self.make_room(text.len(), sink);
-        self.keep(text);
+        self.append(text);
     }
 
     /// Writes a line.
@@ -90,20 +90,20 @@ impl Writer {
         }
     }
 
-    // Makes room for `n` bytes.
-    fn make_room<K: Sink>(&mut self, n: usize, sink: &mut K)
+    // Makes room for `count` bytes.
+    fn make_room<K: Sink>(&mut self, count: usize, sink: &mut K)
         requires no_fault { self.old.fault ≡ None }
-        requires few { n ≤ 256 }
+        requires few { count ≤ 256 }
         ensures puts { Puts K.Sink [] sink.old sink.new self.old self.new }
-        ensures has_room { length self.new.waiting + n ≤ 65536 }
+        ensures has_room { length self.new.waiting + count ≤ 65536 }
     {
-        if n > ROOM - self.bytes.len() {
+        if count > ROOM - self.bytes.len() {
             self.flush(sink);
         }
     }
 
     // Keeps bytes that have room.
-    fn keep(&mut self, text: &[u8])
+    fn append(&mut self, text: &[u8])
         requires { length self.old.waiting + length text.now ≤ 65536 }
         ensures { self.new ≡ record self.old { waiting = self.old.waiting ++ text.now } }
     {

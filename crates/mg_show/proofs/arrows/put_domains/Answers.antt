@@ -1,8 +1,8 @@
-use Rattle.std.proofs.Common.{List, ℕ, ◌+◌, ap, arith}
-use Rattle.mg_model.specs.declared.slots.Slot.{Slot}
+use Rattle.std.proofs.Common.{ℕ, ◌+◌, ap, arith, flat_map}
 use Rattle.mg_model.specs.Access.{last_slots}
 use Rattle.mg_model.specs.State.{ThreadRow}
-use Rattle.mg_show.specs.Drawn.{slots_drawn}
+use Rattle.mg_show.specs.DotText.{slot_arrow}
+use Rattle.mg_show.specs.Shown.{bare}
 use Rattle.mg_show.specs.WritingLemmas.{puts_more, puts_same}
 use Rattle.mg_show.proofs.Drawing.{slots-last}
 use Rattle.mg_show.proofs.arrows.put_domains.Goals as goal
@@ -10,5 +10,8 @@ use Rattle.mg_show.proofs.arrows.put_domains.Goals as goal
 pub loop-t-preserved : goal.loop-t-preserved
 loop-t-preserved g c =
     let t = c.t-item.result in
-    puts_more g.K.Sink (λ (t : ℕ × ThreadRow). slots_drawn c.args.objects.now c.args.period (t.0 + 1) (last_slots t.1.frames)) c.args.threads.now c.loop-t.t-index t (omega arith) c.t-item.is c.loop-t.invariant
-    (puts_same g.K.Sink (ap (λ (slots : List Slot). slots_drawn c.args.objects.now c.args.period (t.0 + 1) slots) (slots-last t.1.frames c.last-last.result c.slots.result.now c.last-last.ensures c.slots.ensures)) c.put_slots.ensures)
+    let arrows = slot_arrow (bare c.args.shown.now) (t.0 + 1) in
+    puts_more g.K.Sink (λ (t : ℕ × ThreadRow). flat_map (slot_arrow (bare c.args.shown.now) (t.0 + 1)) (last_slots t.1.frames))
+    c.args.threads.now c.loop-t.t-index t (omega arith) c.t-item.is c.loop-t.invariant
+    (puts_same g.K.Sink (ap (flat_map arrows)
+    (slots-last t.1.frames c.last-last.result c.slots.result.now c.last-last.ensures c.slots.ensures)) c.put_slots.ensures)

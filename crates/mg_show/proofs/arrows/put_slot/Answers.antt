@@ -1,10 +1,11 @@
-use Rattle.mg_show.specs.Drawn.{held}
-use Rattle.mg_show.specs.WritingLemmas.{puts_same}
 use Rattle.std.proofs.Common.{◌∙◌}
+use Rattle.mg_show.specs.Shown.{bare}
+use Rattle.mg_show.specs.WritingLemmas.{puts_same}
 use Rattle.mg_show.proofs.Drawing.{slot-drawn}
 use Rattle.mg_show.proofs.arrows.put_slot.Goals as goal
 
 pub returns : goal.returns
 returns g c =
     let slot = c.args.slot in
-    puts_same g.K.Sink (c.print_slot_arrow.ensures ∙ slot-drawn c.rights_on-bits.result (held c.args.objects.now c.args.period slot.base slot.password) c.rights_on-bits.ensures c.args.number slot.base) c.line.ensures
+    puts_same g.K.Sink (c.print_slot_arrow.ensures
+    ∙ slot-drawn (bare c.args.shown.now) slot.base slot.password c.rights_on-bits.result c.rights_on-bits.ensures c.args.thread) c.line.ensures

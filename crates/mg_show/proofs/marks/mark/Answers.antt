@@ -1,9 +1,14 @@
-use Rattle.mg_show.proofs.Marked.{marks_no, marks_one}
+use Rattle.std.proofs.Common.{arith}
+use Rattle.mg_model.specs.Access.{holds}
+use Rattle.mg_model.specs.Rights.{has_right}
+use Rattle.mg_show.proofs.Marked.{marks_more, marks_none}
 use Rattle.mg_show.proofs.marks.mark.Goals as goal
 
-pub returns-in-Some : goal.returns-in-Some
-returns-in-Some c =
-    marks_one c.args.objects.now c.args.period c.args.base c.args.password c.args.bytes.now c.in-Some.i c.with_rights.result c.nth_ref.result.now c.requires c.in-Some.ensures c.nth_ref.ensures c.with_rights.ensures
+pub loop-slot-init : goal.loop-slot-init
+loop-slot-init c = marks_none has_right (holds c.args.shown.now.counters.period) c.args.shown.now.objects c.args.bytes.now
 
-pub returns-in-None : goal.returns-in-None
-returns-in-None c = marks_no c.args.objects.now c.args.period c.args.base c.args.password c.args.bytes.now c.in-None.ensures
+pub loop-slot-preserved : goal.loop-slot-preserved
+loop-slot-preserved c =
+    marks_more has_right (holds c.args.shown.now.counters.period) c.args.shown.now.objects c.args.capabilities.now c.loop-slot.slot-index
+    (record { base = 0; password = 0 }) c.args.bytes.now c.loop-slot.bytes c.mark_one.new.bytes
+    (omega arith) c.loop-slot.invariant c.mark_one.ensures

@@ -1,8 +1,6 @@
-use Rattle.std.proofs.Common.{ap, length, refl, sym, ◌∙◌, inl, inr, rules}
+use Rattle.std.proofs.Common.{ap, length, refl, sym, ◌∙◌, inl, inr}
 use Rattle.mg_model.specs.Layout.{first_frame}
-use Rattle.mg_model.specs.Replay.{block_of}
 use Rattle.mg_model.specs.Bytes.{block_words}
-use Rattle.mg_check.specs.ReadRuns.{only_none}
 use Rattle.mg_show.specs.Writing.{Held}
 use Rattle.mg_show.specs.WritingLemmas.{none_is, reads_none}
 use Rattle.mg_show.proofs.WordTexts.{page-held, page-free}

@@ -1,13 +1,13 @@
-use Rattle.std.specs.Prelude.{ℕ, ◌<◌, All}
 use Rattle.std.proofs.Common.{ap, arith, subst, sym, ◌≤◌, ◌∙◌}
 use Rattle.mg_check.specs.Reads.{CanRead}
+use Rattle.mg_check.specs.RowsRead.{ArePlaced}
 use Rattle.mg_journal.specs.Looked.{Fits, Placed}
 use Rattle.mg_model.specs.Limits.{credit_limit, thread_limit}
-use Rattle.mg_model.specs.State.{ThreadRow}
-use Rattle.mg_show.specs.Shown.{text_shown}
+use Rattle.mg_show.specs.Commands.{text_of}
+use Rattle.mg_show.specs.Shown.{state_shown}
 use Rattle.mg_show.proofs.RowsKept.{apart_kept, credits_kept, distinct_kept}
 use Rattle.mg_show.proofs.RowsShown.{not_shown, rows_shown}
-use Rattle.mg_show.proofs.TextTold.{text-told}
+use Rattle.mg_show.proofs.TextTold.{state-told}
 use Rattle.mg_show.proofs.putting.show_rows.Goals as goal
 
 pub shown_of-requires-clause-apart : goal.shown_of-requires-clause-apart
@@ -21,8 +21,8 @@ shown_of-requires-clause-credits g c =
 pub shown_of-requires-clause-distinct : goal.shown_of-requires-clause-distinct
 shown_of-requires-clause-distinct g c = distinct_kept c.args.rows c.requires.kept
 
-pub put_all-requires-clause-places : goal.put_all-requires-clause-places
-put_all-requires-clause-places g c = subst (All (λ (t : ℕ × ThreadRow). t.0 < thread_limit)) (sym c.in-Some.ensures.threads) c.requires.kept.held.threads.below
+pub put_all-requires-clause-placed : goal.put_all-requires-clause-placed
+put_all-requires-clause-placed g c = subst (ArePlaced thread_limit) (sym c.in-Some.ensures.threads) c.requires.kept.held.threads
 
 pub put_all-requires-clause-can : goal.put_all-requires-clause-can
 put_all-requires-clause-can g c =
@@ -40,9 +40,11 @@ pub returns-in-Some-room_of : goal.returns-in-Some-room_of
 returns-in-Some-room_of g c =
     let shown = c.in-Some.shown in
     let is = c.in-Some.ensures in
-    rows_shown g.D.Disk g.K.Sink c.args.text c.args.rows c.args.disk.now c.args.sink.now c.requires.told shown.view.total (text_shown c.args.text shown) c.put_all.result c.put_all.new.disk c.put_all.new.sink
+    rows_shown g.D.Disk g.K.Sink c.args.text c.args.rows c.args.disk.now c.args.sink.now c.requires.told shown.view.total
+    (λ r. text_of c.args.text (state_shown shown r)) c.put_all.result c.put_all.new.disk c.put_all.new.sink
     (ap (λ (view : Placed). view.total) is.view ∙ c.requires.total)
-    (λ r. text-told c.args.rows c.requires.kept r shown is.params is.counters is.threads is.objects is.accounts is.paid is.frames c.args.text) c.put_all.ensures
+    (λ r. ap (text_of c.args.text) (state-told c.args.rows r shown is.params is.counters is.threads is.objects is.accounts is.frames
+    c.requires.kept.held.entries)) c.put_all.ensures
 
 pub returns : goal.returns
 returns g c = not_shown g.D.Disk g.K.Sink c.args.text c.args.rows c.args.disk.now c.args.sink.now c.requires.told (g.met.D.Disk.now_has_been c.args.disk.now)

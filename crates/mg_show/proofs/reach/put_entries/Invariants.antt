@@ -5,4 +5,4 @@ use Rattle.mg_show.specs.Writing.{Puts}
 use Rattle.mg_show.proofs.reach.put_entries.Given as goal
 
 abbrev pub invariant-loop-entry : goal.invariant-loop-entry
-invariant-loop-entry g l = Puts g.K.Sink (flat_map (enter_line l.t) (take l.entry-index l.entries)) l.initial.sink l.sink l.initial.out l.out
+invariant-loop-entry g l = Puts g.K.Sink (flat_map (enter_line l.thread) (take l.entry-index l.entries)) l.initial.sink l.sink l.initial.out l.out

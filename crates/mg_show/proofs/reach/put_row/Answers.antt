@@ -7,4 +7,4 @@ use Rattle.mg_show.proofs.reach.put_row.Goals as goal
 pub returns : goal.returns
 returns g c =
     let row = c.args.row.now in
-    puts_then g.K.Sink (puts_same g.K.Sink (ap (λ base. bits_line c.args.t base c.args.bits) c.base.ensures.value ∙ bits-line c.args.t row.base c.args.bits) c.put_rights.ensures) c.put_doors.ensures
+    puts_then g.K.Sink (puts_same g.K.Sink (ap (λ base. bits_line c.args.thread base c.args.bits) c.base.ensures.value ∙ bits-line c.args.thread row.base c.args.bits) c.put_rights.ensures) c.put_doors.ensures

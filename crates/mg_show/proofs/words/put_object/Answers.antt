@@ -1,6 +1,5 @@
 use Rattle.std.proofs.Common.{◌/◌, ap, length, sym, ◌∙◌}
 use Rattle.mg_model.specs.Objects.{page_of}
-use Rattle.mg_model.specs.Replay.{replay}
 use Rattle.mg_show.specs.WordText.{pages_text}
 use Rattle.mg_show.specs.WritingLemmas.{of_same}
 use Rattle.mg_show.proofs.WordTexts.{row_text-pages}
@@ -10,8 +9,8 @@ pub returns : goal.returns
 returns g c =
     let table = c.args.shown.now.frames in
     let row = c.args.row.now in
-    of_same g.D.Disk g.K.Sink (λ image. replay image c.args.shown.now.view.total)
+    of_same g.D.Disk g.K.Sink
     (λ r.
     ap (λ base. pages_text r (length table) table (base / 4096) c.pages.result) c.base.ensures.value ∙ ap (pages_text r (length table) table (page_of row)) c.pages.ensures
-    ∙ sym (row_text-pages r (length table) table row c.keep_rules.ensures.place.aligned))
+    ∙ sym (row_text-pages r (length table) table row c.base.ensures.kept.place.aligned))
     c.put_pages.ensures

@@ -1,5 +1,4 @@
 use Rattle.std.proofs.Common.{ap, ◌*◌}
-use Rattle.mg_model.specs.Replay.{replay}
 use Rattle.mg_show.specs.StateText.{words_text}
 use Rattle.mg_show.specs.WordText.{page_text}
 use Rattle.mg_show.specs.WritingLemmas.{of_behind}
@@ -8,5 +7,5 @@ use Rattle.mg_show.proofs.words.put_page.Goals as goal
 pub returns : goal.returns
 unfolding page_text
 returns g c =
-    of_behind g.D.Disk g.K.Sink (λ image. replay image c.args.shown.now.view.total) c.read_page-is_held.ensures.reads c.put_read.ensures
+    of_behind g.D.Disk g.K.Sink c.read_page-is_held.ensures.reads c.put_read.ensures
     (λ none r told. ap (words_text (4096 * c.args.page)) (c.read_page-is_held.ensures.page none r told))

@@ -1,9 +1,10 @@
 use Rattle.std.proofs.Common.{length}
 use Rattle.mg_show.specs.WordText.{pages_text}
-use Rattle.mg_model.specs.Replay.{replay}
+use Rattle.mg_show.specs.Shown.{held_in}
 use Rattle.mg_show.specs.Writing.{PutsOf}
 use Rattle.mg_show.proofs.words.put_pages.Given as goal
 
 -- the words of the pages before this one are put
 abbrev pub invariant-loop-i : goal.invariant-loop-i
-invariant-loop-i g l = PutsOf g.D.Disk g.K.Sink (λ image. replay image l.shown.view.total) (λ r. pages_text r (length l.shown.frames) l.shown.frames l.first l.i) l.initial.disk l.disk l.initial.sink l.sink l.initial.out l.out
+invariant-loop-i g l = PutsOf g.D.Disk g.K.Sink (held_in l.shown)
+    (λ r. pages_text r (length l.shown.frames) l.shown.frames l.first l.i) l.initial.disk l.disk l.initial.sink l.sink l.initial.out l.out

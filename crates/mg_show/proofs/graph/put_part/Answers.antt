@@ -1,0 +1,22 @@
+use Rattle.std.proofs.Common.{arith, refl}
+use Rattle.mg_show.specs.Drawn.{bases_of}
+use Rattle.mg_show.specs.WritingLemmas.{of_after}
+use Rattle.mg_show.proofs.Drawing.{part-told}
+use Rattle.mg_show.proofs.Learning.{still_shown}
+use Rattle.mg_show.proofs.Walking.{ranked-first}
+use Rattle.mg_show.proofs.graph.put_part.Goals as goal
+
+pub put_ranked-requires-clause-can : goal.put_ranked-requires-clause-can
+put_ranked-requires-clause-can g c = still_shown g.D.Disk c.args.shown.now c.requires.can c.walk.ensures.ranks.reads.reads
+
+pub returns : goal.returns
+returns g c =
+    let shown = c.args.shown.now in
+    let bases = bases_of c.args.slots.now in
+    let long = c.requires.long_ranks in
+    of_after g.D.Disk g.K.Sink c.walk.ensures.ranks.reads c.put_ranked.ensures
+    (λ none r told.
+    part-told shown r c.args.drawn.now c.mark_opened.new.bytes c.walk.new.ranks c.mark_opened.ensures.opened bases c.args.n
+    (c.walk.ensures.ranks.is none r told bases
+    (ranked-first shown r bases c.args.slots.now c.fill.new.marks c.rank.new.ranks refl
+    (λ i below. c.fill.ensures.same i (omega arith)) c.rank.ensures)))

@@ -1,0 +1,11 @@
+use Rattle.std.proofs.Common.{ap, sym, ◌∙◌}
+use Rattle.mg_model.specs.Access.{entries_of}
+use Rattle.mg_show.specs.Marking.{named_by}
+use Rattle.mg_show.specs.WordText.{words_read}
+use Rattle.mg_show.proofs.lists.list_read.Goals as goal
+
+pub returns-then-is_held : goal.returns-then-is_held
+returns-then-is_held c = c.list_in.ensures ∙ sym (ap (λ v. entries_of (words_read v c.args.block.now)) c.if-is_held.true)
+
+pub returns-else-is_held : goal.returns-else-is_held
+returns-else-is_held c = ap named_by c.new.ensures ∙ sym (ap (λ v. entries_of (words_read v c.args.block.now)) c.if-is_held.false)

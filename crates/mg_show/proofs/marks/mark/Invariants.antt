@@ -1,0 +1,10 @@
+use Rattle.std.proofs.Common.{take}
+use Rattle.mg_model.specs.Access.{holds}
+use Rattle.mg_model.specs.Rights.{has_right}
+use Rattle.mg_show.specs.Marking.{Marks, named_by}
+use Rattle.mg_show.proofs.marks.mark.Given as goal
+
+-- the capabilities before this one have given their rights
+abbrev pub invariant-loop-slot : goal.invariant-loop-slot
+invariant-loop-slot l =
+    Marks has_right (holds l.shown.counters.period) l.shown.objects (named_by (take l.slot-index l.capabilities)) l.initial.bytes l.bytes
