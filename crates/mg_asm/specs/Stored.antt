@@ -1,9 +1,13 @@
 -- Words as lines of calls that store them.
-use Rattle.std.specs.Prelude.{ℕ, ◌+◌, List, [], ◌∷◌, ◌++◌, codes}
+use Rattle.std.specs.Prelude.{ℕ, ◌+◌, ◌%◌, ◌^◌, ◌==◌, ◌&&◌, nat_lt, Bool, List, [], ◌∷◌, ◌++◌, codes}
 use Rattle.std.specs.Fmt.{decimal}
 use Rattle.mg_model.specs.declared.calls.Call.TheVariants as call
 use Rattle.mg_model.specs.declared.calls.Line.{Line}
 use Rattle.mg_model.specs.Print.{hex_text, spaced}
+
+-- words may be stored at a multiple of 8 below the end of the pages that objects may have
+abbrev pub may_store_at : ℕ → Bool
+may_store_at address = address % 8 == 0 && nat_lt address (2 ^ 52)
 
 -- the line of a call by which a thread stores a word at an address
 abbrev pub store_line : ℕ → ℕ → ℕ → List ℕ

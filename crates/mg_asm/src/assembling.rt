@@ -8,7 +8,7 @@ ghost use Rattle.mg_model.specs.Words.{is_newline, split_at};
 
 use crate::faults::{AsmFault, AsmKind};
 use crate::items::Item;
-use crate::labels::{Labels, keep, place};
+use crate::labels::{Labels, add_label, place};
 use crate::lines::read_line;
 use crate::tokens::cut;
 use std::alloc::{AllocError, Global};
@@ -45,7 +45,7 @@ fn items(alloc: Global, text: &[u8]) -> Result<(Vec<Item>, Labels), AsmFault>
                 return Err(AsmFault::At { line: number, kind });
             }
         };
-        if keep(&mut labels, &item, count).is_err() {
+        if add_label(&mut labels, &item, count).is_err() {
             return Err(AsmFault::Memory);
         }
         count += size(&item);

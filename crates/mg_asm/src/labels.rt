@@ -28,7 +28,7 @@ fn add(labels: &mut Labels, name: &Name, place: u64) -> Result<(), AllocError>
 }
 
 /// Adds the label with its place, if the item is one. The map then has the labels of one item more.
-pub fn keep(labels: &mut Labels, item: &Item, place: u64) -> Result<(), AllocError>
+pub fn add_label(labels: &mut Labels, item: &Item, place: u64) -> Result<(), AllocError>
     ensures { OnOk result (KeepsLabel labels.old labels.new item.now place) }
 {
     match item {

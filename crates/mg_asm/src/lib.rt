@@ -23,4 +23,4 @@ pub use assembling::assemble;
 pub use faults::{AsmFault, AsmKind};
 pub use listing::read_list;
 pub use printing::print;
-pub use storing::store_lines;
+pub use storing::{may_store_at, store_lines};

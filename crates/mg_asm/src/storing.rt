@@ -1,10 +1,18 @@
 // From words to the calls that store them.
 ghost use Rattle.std.specs.Prelude.{◌≡◌, ◌<◌, ◌^◌, ◌++◌, IfOk, OnOk};
-ghost use Rattle.mg_asm.specs.Stored.{store_calls, store_line, store_lines};
+ghost use Rattle.mg_asm.specs.Stored.{may_store_at, store_calls, store_line, store_lines};
 ghost use Rattle.mg_model.specs.Lines.{lines};
 
 use crate::printing::{put_hex, put_number};
+use mg_model::limits::{PAGE_END, PAGE_SIZE};
 use std::alloc::{AllocError, Global};
+
+/// Whether words may be stored at this address: it is a multiple of 8 below `2^52`, the end of the pages that objects may have.
+pub fn may_store_at(address: u64) -> bool
+    ensures { result ≡ may_store_at address }
+{
+    address % 8 == 0 && address < PAGE_END * PAGE_SIZE
+}
 
 /// Lines of calls by which a thread stores these words, from an address below `2^52` on. Each line stores one word. It is
 /// `THREAD store ADDR WORD`, with the thread's number in decimal and the other two in hexadecimal.

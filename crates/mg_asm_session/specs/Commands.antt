@@ -1,19 +1,14 @@
 -- The commands, and the words that spell each.
-use Rattle.std.specs.Prelude.{ℕ, ◌%◌, ◌^◌, ◌==◌, ◌&&◌, ◌<◌, nat_lt, Bool, List, [], ◌∷◌, if◌then◌else◌, Option, Some, None, codes, map, String}
-use Rattle.std.specs.String.{string_bytes}
-use Rattle.std.specs.declared.alloc.Global.{Global}
+use Rattle.std.specs.Prelude.{ℕ, ◌^◌, ◌<◌, List, [], ◌∷◌, if◌then◌else◌, Option, Some, None, codes}
+use Rattle.mg_asm.specs.Stored.{may_store_at}
 use Rattle.mg_asm_session.specs.declared.words.Command.{Command}
 use Rattle.mg_asm_session.specs.declared.words.Command.TheVariants.{Print, Store}
 use Rattle.mg_model.specs.Words.{and_then, number_of, same_bytes}
 
--- a multiple of 8 below the end of the pages that objects may have
-abbrev pub is_place : ℕ → Bool
-is_place address = address % 8 == 0 && nat_lt address (2 ^ 52)
-
 -- `THREAD ADDRESS`
 abbrev pub store_of : List ℕ → List ℕ → Option Command
 store_of thread address =
-    and_then (number_of thread) (λ t. and_then (number_of address) (λ a. if is_place a then Some (Store t a) else None))
+    and_then (number_of thread) (λ t. and_then (number_of address) (λ a. if may_store_at a then Some (Store t a) else None))
 
 -- `print`
 abbrev pub print_of : List ℕ → Option Command
@@ -24,10 +19,6 @@ abbrev pub command_of : List (List ℕ) → Option Command
 command_of (word ∷ []) = print_of word
 command_of (thread ∷ address ∷ []) = store_of thread address
 command_of words = None
-
--- the bytes of these words
-abbrev pub words_of : List (String Global) → List (List ℕ)
-words_of words = map (λ (word : String Global). string_bytes word) words
 
 -- the words of a command are stored at addresses that objects may have
 abbrev pub IsStored : Command → Type 0

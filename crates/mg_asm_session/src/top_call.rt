@@ -2,7 +2,8 @@
 ghost use Rattle.std.specs.Prelude.{◌≡◌, ◌≢◌, ◌⊎◌, IfErr, IfOk, IfSome, None, Ok, Err, OnErr, OnOk};
 ghost use Rattle.std.specs.Io.KnownBytes.{Appends};
 ghost use Rattle.mg_asm.specs.declared.faults.AsmFault.TheVariants as fault;
-ghost use Rattle.mg_asm_session.specs.Commands.{IsStored, command_of, words_of};
+ghost use Rattle.mg_asm_session.specs.Commands.{IsStored, command_of};
+ghost use Rattle.mg_io.specs.Arguments.{arguments};
 ghost use Rattle.mg_asm_session.specs.Headline.{Keeps, PutsFault, PutsLines, PutsPart, became, text_limit};
 ghost use Rattle.mg_filter.specs.Usages.{UsageKeeps};
 ghost use Rattle.mg_filter.specs.Whole.{OfWhole, TakesAtMost, TakesMore};
@@ -37,11 +38,11 @@ pub fn top<S: Source, O: Sink, E: Sink>(
     out: &mut O,
     err: &mut E,
 ) -> Status
-    ensures command { IfSome (command_of (words_of words.now)) (λ command. Keeps S.Source O.Sink E.Sink command result
+    ensures command { IfSome (command_of (arguments words.now)) (λ command. Keeps S.Source O.Sink E.Sink command result
         source.old source.new out.old out.new err.old err.new) }
-    ensures usage { command_of (words_of words.now) ≡ None
+    ensures usage { command_of (arguments words.now) ≡ None
         → UsageKeeps E.Sink result source.old source.new out.old out.new err.old err.new }
-    ensures not_spelled { result ≡ Status.Usage → command_of (words_of words.now) ≡ None }
+    ensures not_spelled { result ≡ Status.Usage → command_of (arguments words.now) ≡ None }
 {
     match read_words(words) {
         Some(command) => carry_out(alloc, command, source, out, err),

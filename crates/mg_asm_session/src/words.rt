@@ -1,8 +1,9 @@
 // The words of the command line.
 ghost use Rattle.std.specs.Prelude.{◌≡◌, IfSome};
-ghost use Rattle.mg_asm_session.specs.Commands.{IsStored, command_of, is_place, print_of, store_of, words_of};
+ghost use Rattle.mg_asm_session.specs.Commands.{IsStored, command_of, print_of, store_of};
+ghost use Rattle.mg_io.specs.Arguments.{arguments};
 
-use mg_model::limits::{PAGE_END, PAGE_SIZE};
+use mg_asm::may_store_at;
 use mg_text::{is_word, read_number};
 
 /// What the program is asked to do.
@@ -19,7 +20,7 @@ pub enum Command {
 /// They are `THREAD ADDRESS` or `print`. THREAD and ADDRESS are numbers as in lines of calls. ADDRESS is a multiple of 8
 /// below `2^52`, the end of all objects.
 pub fn read_words(words: &[String]) -> Option<Command>
-    ensures command { result ≡ command_of (words_of words.now) }
+    ensures command { result ≡ command_of (arguments words.now) }
     ensures place { IfSome result IsStored }
 {
     match words {
@@ -46,16 +47,9 @@ fn store(thread: &[u8], address: &[u8]) -> Option<Command>
 {
     let thread = read_number(thread)?;
     let address = read_number(address)?;
-    if is_place(address) {
+    if may_store_at(address) {
         Some(Command::Store(thread, address))
     } else {
         None
     }
-}
-
-/// Whether a word may be stored at this address: it is a multiple of 8, and an object may have it.
-fn is_place(address: u64) -> bool
-    ensures { result ≡ is_place address }
-{
-    address % 8 == 0 && address < PAGE_END * PAGE_SIZE
 }

@@ -4,7 +4,7 @@ ghost use Rattle.std.specs.Option.{ForSome};
 ghost use Rattle.mg_disk.specs.Stops.{WritesNothing};
 ghost use Rattle.mg_journal.specs.Looked.{Fits};
 
-use crate::endings::tell_of;
+use crate::endings::report_of;
 use mg_disk::{BLOCK_SIZE, Block, Disk};
 use mg_journal::{View, ViewFault};
 use mg_layout::{
@@ -17,7 +17,7 @@ use std::io::Eprint;
 
 /// Says what is damaged in a refused volume with these settings: its journal, or the first block with a row that is not well formed, or
 /// else a rule between rows. It says nothing if a read fails or memory runs out. It writes nothing on the disk.
-pub(crate) fn tell_damage<R: AllocGlobal + Eprint, D: Disk>(
+pub(crate) fn report_damage<R: AllocGlobal + Eprint, D: Disk>(
     rt: &R,
     program: &str,
     path: &str,
@@ -31,9 +31,9 @@ pub(crate) fn tell_damage<R: AllocGlobal + Eprint, D: Disk>(
         return;
     }
     match View::look(rt.alloc(), disk, total) {
-        Ok(view) => tell_rows(rt, program, path, disk, &view, params, total),
+        Ok(view) => report_rows(rt, program, path, disk, &view, params, total),
         Err(ViewFault::Damaged) => {
-            tell_of(
+            report_of(
                 rt,
                 program,
                 path,
@@ -46,7 +46,7 @@ pub(crate) fn tell_damage<R: AllocGlobal + Eprint, D: Disk>(
 }
 
 /// Names the first block with a row that is not well formed, or says that every row is.
-fn tell_rows<R: Eprint, D: Disk>(
+fn report_rows<R: Eprint, D: Disk>(
     rt: &R,
     program: &str,
     path: &str,
@@ -72,7 +72,7 @@ fn tell_rows<R: Eprint, D: Disk>(
             return;
         }
     }
-    tell_of(
+    report_of(
         rt,
         program,
         path,

@@ -11,12 +11,12 @@ const NOT_OPEN: i32 = 9;
 const ONLY_A_PART: &str = "took only a part: the disk may be full";
 
 /// Prints this text.
-pub fn tell<R: Eprint>(rt: &R, program: &str, text: &str) {
+pub fn report<R: Eprint>(rt: &R, program: &str, text: &str) {
     let _ = eprintln!(rt; "{program}: {text}");
 }
 
 /// Prints this text about a file or a stream.
-pub fn tell_of<R: Eprint>(rt: &R, program: &str, what: &str, text: &str) {
+pub fn report_of<R: Eprint>(rt: &R, program: &str, what: &str, text: &str) {
     let _ = eprintln!(rt; "{program}: {what}: {text}");
 }
 
@@ -45,7 +45,7 @@ impl<'a> fmt::Display for Cause<'a> {
 }
 
 /// Says why a call of a file failed, if one did.
-pub fn tell_fault<R: Eprint>(rt: &R, program: &str, path: &str, fault: Option<&FileFault>) {
+pub fn report_fault<R: Eprint>(rt: &R, program: &str, path: &str, fault: Option<&FileFault>) {
     if let Some(fault) = fault {
         let cause = cause_of(fault);
         let _ = eprintln!(rt; "{program}: {path}: {cause}");
@@ -53,7 +53,7 @@ pub fn tell_fault<R: Eprint>(rt: &R, program: &str, path: &str, fault: Option<&F
 }
 
 /// Prints an error of the system and what it happened to, if there is one.
-pub fn tell_error<R: Eprint>(rt: &R, program: &str, what: &str, error: Option<&io::Error>) {
+pub fn report_error<R: Eprint>(rt: &R, program: &str, what: &str, error: Option<&io::Error>) {
     if let Some(error) = error {
         let _ = eprintln!(rt; "{program}: {what}: {error}");
     }
@@ -63,29 +63,29 @@ pub fn tell_error<R: Eprint>(rt: &R, program: &str, what: &str, error: Option<&i
 ///
 /// A program that reserves the numbers of the standard streams ([`begin`](crate::begin)) has a folder in place of a closed input. So it
 /// can't distinguish the two.
-pub(crate) fn tell_input<R: Eprint>(rt: &R, program: &str, error: Option<&io::Error>) {
+pub(crate) fn report_input<R: Eprint>(rt: &R, program: &str, error: Option<&io::Error>) {
     let what = "standard input";
     match error {
         Some(error) if error.kind() == ErrorKind::IsADirectory => {
-            tell_of(rt, program, what, "it is closed, or a folder");
+            report_of(rt, program, what, "it is closed, or a folder");
         }
         Some(error) if error.raw_os_error() == Some(NOT_OPEN) => {
-            tell_of(rt, program, what, "it is closed");
+            report_of(rt, program, what, "it is closed");
         }
-        _ => tell_error(rt, program, what, error),
+        _ => report_error(rt, program, what, error),
     }
 }
 
 /// Says why standard output failed, if it did.
-pub(crate) fn tell_output<R: Eprint>(rt: &R, program: &str, error: Option<&io::Error>) {
+pub(crate) fn report_output<R: Eprint>(rt: &R, program: &str, error: Option<&io::Error>) {
     let what = "standard output";
     match error {
         Some(error) if error.kind() == ErrorKind::WriteZero => {
-            tell_of(rt, program, what, ONLY_A_PART);
+            report_of(rt, program, what, ONLY_A_PART);
         }
         Some(error) if error.raw_os_error() == Some(NOT_OPEN) => {
-            tell_of(rt, program, what, "it is closed");
+            report_of(rt, program, what, "it is closed");
         }
-        _ => tell_error(rt, program, what, error),
+        _ => report_error(rt, program, what, error),
     }
 }

@@ -18,11 +18,11 @@ mod usage;
 mod volumes;
 mod words;
 
-pub use endings::{tell, tell_error, tell_fault, tell_of};
+pub use endings::{report, report_error, report_fault, report_of};
 pub use files::{are_one_file, mode_of};
 pub use notes::{Notes, Task};
 pub use shown::{InFile, Stream};
-pub use statuses::{tell_filter_status, tell_status};
-pub use usage::{is_address_told, is_told, tell_lines};
-pub use volumes::tell_volume;
+pub use statuses::{report_filter_status, report_status};
+pub use usage::{is_address_told, is_told, report_lines};
+pub use volumes::report_volume;
 pub use words::{NO_WORDS, begin, word, words_or_tell};

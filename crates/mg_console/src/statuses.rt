@@ -1,11 +1,11 @@
 // Says what a status means.
-use crate::endings::{tell, tell_input, tell_output};
+use crate::endings::{report, report_input, report_output};
 use mg_serve::Status;
 use std::io::{self, Eprint};
 
 /// Says why a command on a volume ended with this status, unless its words or one of its disks is the cause. The errors are those of
 /// standard input and of standard output.
-pub fn tell_status<R: Eprint>(
+pub fn report_status<R: Eprint>(
     rt: &R,
     program: &str,
     status: Status,
@@ -16,18 +16,18 @@ pub fn tell_status<R: Eprint>(
         Status::Done => {}
         Status::Usage => {}
         Status::NoVolume => {}
-        Status::Memory => tell(rt, program, "not enough memory"),
+        Status::Memory => report(rt, program, "not enough memory"),
         Status::Disk => {}
-        Status::Source => tell_input(rt, program, read),
-        Status::Sink => tell_output(rt, program, written),
-        Status::TooLong => tell(rt, program, "standard input has more than 4294967296 bytes"),
-        Status::TooSmall => tell(rt, program, "the disk has too few blocks for the volume"),
+        Status::Source => report_input(rt, program, read),
+        Status::Sink => report_output(rt, program, written),
+        Status::TooLong => report(rt, program, "standard input has more than 4294967296 bytes"),
+        Status::TooSmall => report(rt, program, "the disk has too few blocks for the volume"),
     }
 }
 
 /// Says why a program that turns an input into a text ended with this status, unless its words or a fault in the input, which it has
 /// reported, is the cause. The input can have at most `limit` bytes.
-pub fn tell_filter_status<R: Eprint>(
+pub fn report_filter_status<R: Eprint>(
     rt: &R,
     program: &str,
     status: mg_filter::Status,
@@ -39,9 +39,9 @@ pub fn tell_filter_status<R: Eprint>(
         mg_filter::Status::Done => {}
         mg_filter::Status::Fault => {}
         mg_filter::Status::Usage => {}
-        mg_filter::Status::Memory => tell(rt, program, "not enough memory"),
-        mg_filter::Status::Source => tell_input(rt, program, read),
-        mg_filter::Status::Sink => tell_output(rt, program, written),
+        mg_filter::Status::Memory => report(rt, program, "not enough memory"),
+        mg_filter::Status::Source => report_input(rt, program, read),
+        mg_filter::Status::Sink => report_output(rt, program, written),
         mg_filter::Status::TooLong => {
             let _ = eprintln!(rt; "{program}: standard input has more than {limit} bytes");
         }

@@ -7,7 +7,7 @@ use std::io::Eprint;
 const ADDRESS_END: u64 = PAGE_END * PAGE_SIZE;
 
 /// Prints these lines, which show the commands of a program.
-pub fn tell_lines<R: Eprint>(rt: &R, lines: &[&str]) {
+pub fn report_lines<R: Eprint>(rt: &R, lines: &[&str]) {
     for line in lines {
         let _ = eprintln!(rt; "{line}");
     }

@@ -2,8 +2,8 @@
 ghost use Rattle.std.specs.Prelude.{◌≡◌, ◌<◌};
 ghost use Rattle.mg_disk.specs.Stops.{WritesNothing};
 
-use crate::damage::tell_damage;
-use crate::endings::tell_of;
+use crate::damage::report_damage;
+use crate::endings::report_of;
 use mg_disk::{BLOCK_SIZE, Block, Disk, Found};
 use mg_layout::{GATE_BLOCK, GATE_OPEN, Geometry, SUPER_BLOCK, Super, read_super};
 use mg_model::Params;
@@ -12,7 +12,7 @@ use std::io::Eprint;
 /// Says what only the file of a volume shows, one fact a line: that it was missing, or that it was shorter than its volume when it was
 /// opened. If the command refused the volume (`is_refused`), also that it is of an older version, which `migrate` takes, or what is
 /// damaged. `found` is what the file was when it was opened, if it was. The disk is only read.
-pub fn tell_volume<R: AllocGlobal + Eprint, D: Disk>(
+pub fn report_volume<R: AllocGlobal + Eprint, D: Disk>(
     rt: &R,
     program: &str,
     path: &str,
@@ -26,36 +26,36 @@ pub fn tell_volume<R: AllocGlobal + Eprint, D: Disk>(
         Some(found) => found,
         None => {
             if is_refused {
-                tell_of(rt, program, path, "there is no such file");
+                report_of(rt, program, path, "there is no such file");
             }
             return;
         }
     };
     match super_of(disk) {
-        Super::Not => tell_made(rt, program, path, found),
+        Super::Not => report_made(rt, program, path, found),
         Super::Old => {
             if is_refused {
-                tell_old(rt, program, path);
+                report_old(rt, program, path);
             }
         }
         Super::Damaged => {
             if is_refused {
-                tell_of(rt, program, path, "block 1, the superblock, is damaged");
+                report_of(rt, program, path, "block 1, the superblock, is damaged");
             }
         }
         Super::Is(params) => {
-            tell_cut(rt, program, path, found, &params);
+            report_cut(rt, program, path, found, &params);
             if is_refused {
-                tell_damage(rt, program, path, disk, &params);
+                report_damage(rt, program, path, disk, &params);
             }
         }
     }
 }
 
 /// Says that a file was made, if it was.
-fn tell_made<R: Eprint>(rt: &R, program: &str, path: &str, found: Found) {
+fn report_made<R: Eprint>(rt: &R, program: &str, path: &str, found: Found) {
     if found.is_new {
-        tell_of(
+        report_of(
             rt,
             program,
             path,
@@ -65,14 +65,14 @@ fn tell_made<R: Eprint>(rt: &R, program: &str, path: &str, found: Found) {
 }
 
 /// Says that a volume is of the older version.
-fn tell_old<R: Eprint>(rt: &R, program: &str, path: &str) {
+fn report_old<R: Eprint>(rt: &R, program: &str, path: &str) {
     let _ = eprintln!(rt;
         "{program}: {path}: a volume of version 1; mungi NEW migrate {path} copies it into one of today's"
     );
 }
 
 /// Says that the file of a volume was shorter than the volume, if it was.
-fn tell_cut<R: Eprint>(rt: &R, program: &str, path: &str, found: Found, params: &Params) {
+fn report_cut<R: Eprint>(rt: &R, program: &str, path: &str, found: Found, params: &Params) {
     let whole = Geometry::of(params.frames())
         .total
         .saturating_mul(BLOCK_SIZE as u64);

@@ -1,5 +1,5 @@
 // The words of the command line.
-use crate::endings::tell_error;
+use crate::endings::report_error;
 use mg_io::standard_numbers;
 use std::io::Eprint;
 use std::rt::{Env, Files};
@@ -18,7 +18,7 @@ pub fn words_or_tell<R: Env + AllocGlobal + Eprint>(rt: &R, program: &str) -> Op
     match words_of(rt) {
         Ok(words) => Some(words),
         Err(error) => {
-            tell_error(rt, program, "the words", Some(&error));
+            report_error(rt, program, "the words", Some(&error));
             None
         }
     }
@@ -33,7 +33,7 @@ pub fn begin<R: Env + AllocGlobal + Files + Eprint>(
     let numbers = match standard_numbers(rt) {
         Ok(numbers) => numbers,
         Err(error) => {
-            tell_error(rt, program, "the standard streams", Some(&error));
+            report_error(rt, program, "the standard streams", Some(&error));
             return None;
         }
     };

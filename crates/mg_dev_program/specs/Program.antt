@@ -9,7 +9,7 @@ use Rattle.mg_mirror_session.specs.Headline.{MirrorKeeps, NoMirrorKeeps, session
 use Rattle.mg_model.specs.Words.{same_bytes}
 use Rattle.mg_serve.specs.declared.status.Status.{Status}
 use Rattle.mg_serve.specs.Sessions.{DiskUse, SinkUse, SourceUse, disk_use}
-use Rattle.mg_volume_session.specs.ByCommand.{words_of}
+use Rattle.mg_io.specs.Arguments.{arguments}
 use Rattle.mg_volume_session.specs.Headline.{Session, session_of}
 use Rattle.mg_window.specs.Attached.{Attached}
 use Rattle.mg_window_session.specs.Commands.{asks_for}
@@ -23,22 +23,22 @@ is_mirror words = false
 -- What was done where the second word is `mirror`; `alone` is the side that stands alone at the end.
 pub record OverMirror {D E S K : Type 0} (words : List (String Global)) (result : Status) (alone : Option Side)
     (left : DiskUse D) (right : DiskUse E) (i : SourceUse S) (o : SinkUse K) (steps steps' : ℕ) : Type 0 where
-  pub mirror : IfSome (mirror_of (words_of words)) (λ side. MirrorKeeps (session_over side result alone left right i o steps steps'))
-  pub usage : mirror_of (words_of words) ≡ None →
+  pub mirror : IfSome (mirror_of (arguments words)) (λ side. MirrorKeeps (session_over side result alone left right i o steps steps'))
+  pub usage : mirror_of (arguments words) ≡ None →
       NoMirrorKeeps o.facts result alone left.old left.new right.old right.new i.old i.new o.old o.new
 
 -- What was done with these devices where it is not.
 pub record RanDevices {D S K : Type 0} (words : List (String Global)) (windows windows' : Attached) (s : Session D S K) : Type 0 where
-  pub dev : IsTrue (asks_for (words_of words) windows) → DevKeeps windows windows' s
-  pub usage : asks_for (words_of words) windows ≡ false → NoDevKeeps s.sink.facts s.result windows windows'
+  pub dev : IsTrue (asks_for (arguments words) windows) → DevKeeps windows windows' s
+  pub usage : asks_for (arguments words) windows ≡ false → NoDevKeeps s.sink.facts s.result windows windows'
       s.disk.old s.disk.new s.source.old s.source.new s.sink.old s.sink.new
 
 -- What the program did, with this status at the end: `left` is the disk in the file of the first word, and `right` the one in the file of
 -- the third. With devices the first is read before the lines run, to tell of bases without an object.
 pub record Did {D E S K : Type 0} (words : List (String Global)) (result : Status) (left : DiskUse D) (right : DiskUse E)
     (i : SourceUse S) (o : SinkUse K) (windows windows' : Attached) (steps steps' : ℕ) : Type 0 where
-  pub mirror : is_mirror (words_of words) ≡ true →
+  pub mirror : is_mirror (arguments words) ≡ true →
       (alone : Option Side) × OverMirror words result alone left right i o steps steps'
-  pub devices : is_mirror (words_of words) ≡ false → AfterReads left.facts left.old (λ found.
+  pub devices : is_mirror (arguments words) ≡ false → AfterReads left.facts left.old (λ found.
       RanDevices words windows windows' (session_of 1 result (disk_use left.facts found left.new) i o steps steps'))
       × (right.new ≡ right.old)

@@ -9,7 +9,7 @@ use std::io::Eprint;
 
 /// Says of each device's base if no object can begin there, or if none does yet. The disk is only read, and only if there are devices.
 /// A disk with no volume is reported later.
-pub(crate) fn tell_bases<R: AllocGlobal + Eprint, D: Disk>(
+pub(crate) fn report_bases<R: AllocGlobal + Eprint, D: Disk>(
     rt: &R,
     path: &str,
     asked: &[(u64, u64)],
@@ -21,18 +21,18 @@ pub(crate) fn tell_bases<R: AllocGlobal + Eprint, D: Disk>(
         return;
     }
     match read_volume(rt.alloc(), disk) {
-        Ok((_, rows)) => tell_each(rt, path, asked, Some(&rows)),
-        Err(_) => tell_each(rt, path, asked, None),
+        Ok((_, rows)) => report_each(rt, path, asked, Some(&rows)),
+        Err(_) => report_each(rt, path, asked, None),
     }
 }
 
-fn tell_each<R: Eprint>(rt: &R, path: &str, asked: &[(u64, u64)], rows: Option<&VolumeRows>) {
+fn report_each<R: Eprint>(rt: &R, path: &str, asked: &[(u64, u64)], rows: Option<&VolumeRows>) {
     for (_, base) in asked {
-        tell_base(rt, path, *base, rows);
+        report_base(rt, path, *base, rows);
     }
 }
 
-fn tell_base<R: Eprint>(rt: &R, path: &str, base: u64, rows: Option<&VolumeRows>) {
+fn report_base<R: Eprint>(rt: &R, path: &str, base: u64, rows: Option<&VolumeRows>) {
     if !may_begin(base) {
         let _ = eprintln!(rt;
             "{NAME}: {path}: no object can begin at {base:#x}: nothing reaches the device there"

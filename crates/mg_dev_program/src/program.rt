@@ -4,15 +4,15 @@ ghost use Rattle.mg_console.specs.Programs.{AfterReads, EndsAs, ThenReads};
 ghost use Rattle.mg_disk.specs.Stops.{WritesNothing};
 ghost use Rattle.mg_model.specs.Words.{same_bytes};
 ghost use Rattle.mg_serve.specs.Sessions.{code_of, disk_use, sink_use, source_use};
-ghost use Rattle.mg_volume_session.specs.ByCommand.{words_of};
+ghost use Rattle.mg_io.specs.Arguments.{arguments};
 ghost use Rattle.mg_volume_session.specs.Headline.{session_of};
 ghost use Rattle.mg_window.specs.Attached.{seen};
 ghost use Rattle.mg_dev_program.specs.Program.{Did, OverMirror, RanDevices, is_mirror};
 
 use crate::NAME;
-use crate::bases::tell_bases;
-use crate::usage::tell_usage;
-use mg_console::{InFile, Stream, tell_fault, tell_status, tell_volume, word};
+use crate::bases::report_bases;
+use crate::usage::report_usage;
+use mg_console::{InFile, Stream, report_fault, report_status, report_volume, word};
 use mg_disk::Disk;
 use mg_io::{Sink, Source};
 use mg_mirror::Side;
@@ -63,11 +63,11 @@ pub fn carry_out<
 {
     let ran = command(rt, words, left, right, source, sink, windows, steps);
     let (status, _, mut left, mut right) = ran;
-    tell_files(rt, words, status, &mut left, &mut right);
+    report_files(rt, words, status, &mut left, &mut right);
     if status == Status::Usage {
-        tell_usage(rt, words);
+        report_usage(rt, words);
     }
-    tell_status(rt, NAME, status, source.error(), sink.error());
+    report_status(rt, NAME, status, source.error(), sink.error());
     Ended {
         code: status.code(),
         left,
@@ -77,7 +77,7 @@ pub fn carry_out<
 
 /// Whether the second word is `mirror`.
 pub fn is_mirror(words: &[String]) -> bool
-    ensures { result ≡ is_mirror (words_of words.now) }
+    ensures { result ≡ is_mirror (arguments words.now) }
 {
     match words {
         [_, word, ..] => is_that(word.as_bytes()),
@@ -140,7 +140,7 @@ fn on_devices<R: AllocGlobal + Eprint, T: Device, D: Disk, S: Source, K: Sink, L
         (source_use S.Source source.old source.new) (sink_use K.Sink sink.old sink.new) steps.old steps.new)) }
 {
     let asked = read_words(words).unwrap_or_default();
-    tell_bases(rt, word(words, 0), asked.as_slice(), disk);
+    report_bases(rt, word(words, 0), asked.as_slice(), disk);
     with_devices(rt.alloc(), words, disk, source, sink, windows, steps)
 }
 
@@ -162,7 +162,7 @@ fn with_devices<T: Device, D: Disk, S: Source, K: Sink, L: Ledger>(
 
 /// Says why a disk failed, and what only the file of the volume shows; of a mirror it is the file of SIDE. The failure of a side of a
 /// mirror is reported while the lines run.
-fn tell_files<R: AllocGlobal + Eprint, D: Disk + InFile, E: Disk + InFile>(
+fn report_files<R: AllocGlobal + Eprint, D: Disk + InFile, E: Disk + InFile>(
     rt: &R,
     words: &[String],
     status: Status,
@@ -176,13 +176,13 @@ fn tell_files<R: AllocGlobal + Eprint, D: Disk + InFile, E: Disk + InFile>(
     let mirrors = is_mirror(words);
     if mirrors && word(words, 3) == "right" {
         let found = right.found();
-        tell_volume(rt, NAME, word(words, 2), right, found, is_refused);
+        report_volume(rt, NAME, word(words, 2), right, found, is_refused);
     } else {
         if !mirrors && status == Status::Disk {
-            tell_fault(rt, NAME, word(words, 0), left.fault());
+            report_fault(rt, NAME, word(words, 0), left.fault());
         }
         let found = left.found();
-        tell_volume(rt, NAME, word(words, 0), left, found, is_refused);
+        report_volume(rt, NAME, word(words, 0), left, found, is_refused);
     }
 }
 

@@ -1,6 +1,6 @@
 // Says which word is wrong if the words spell no command.
 use crate::NAME;
-use mg_console::{tell, tell_lines};
+use mg_console::{report, report_lines};
 use mg_window_session::read_device;
 use std::io::Eprint;
 
@@ -16,43 +16,43 @@ const SYNOPSIS: [&str; 4] = [
 const DEVICE_LIMIT: usize = 16;
 
 /// Prints the commands of the program, and says which word is wrong.
-pub(crate) fn tell_usage<R: Eprint>(rt: &R, words: &[String]) {
-    tell_lines(rt, &SYNOPSIS);
+pub(crate) fn report_usage<R: Eprint>(rt: &R, words: &[String]) {
+    report_lines(rt, &SYNOPSIS);
     match words {
-        [] => tell(rt, NAME, "no file is given"),
-        [_] => tell(rt, NAME, "no command is given"),
-        [left, command, rest @ ..] => tell_command(rt, left.as_str(), command.as_str(), rest),
+        [] => report(rt, NAME, "no file is given"),
+        [_] => report(rt, NAME, "no command is given"),
+        [left, command, rest @ ..] => report_command(rt, left.as_str(), command.as_str(), rest),
     }
 }
 
 /// Says what is wrong with a command, the word before it and the words after it.
-fn tell_command<R: Eprint>(rt: &R, left: &str, command: &str, rest: &[String]) {
+fn report_command<R: Eprint>(rt: &R, left: &str, command: &str, rest: &[String]) {
     if command == "mirror" {
-        tell_mirror(rt, left, rest);
+        report_mirror(rt, left, rest);
     } else if command == "dev" {
-        tell_devices(rt, rest);
+        report_devices(rt, rest);
     } else {
         let _ = eprintln!(rt; "{NAME}: {command} is no command");
     }
 }
 
 /// Says what is wrong with the words before and after `mirror`.
-fn tell_mirror<R: Eprint>(rt: &R, left: &str, rest: &[String]) {
+fn report_mirror<R: Eprint>(rt: &R, left: &str, rest: &[String]) {
     match rest {
         [right, side] => {
             if right.as_str() == left {
-                tell(rt, NAME, "LEFT and RIGHT are one file");
+                report(rt, NAME, "LEFT and RIGHT are one file");
             } else {
                 let side = side.as_str();
                 let _ = eprintln!(rt; "{NAME}: SIDE is {side}, and has to be left or right");
             }
         }
-        _ => tell(rt, NAME, "mirror takes two words, RIGHT and SIDE"),
+        _ => report(rt, NAME, "mirror takes two words, RIGHT and SIDE"),
     }
 }
 
 /// Says which of the words after `dev` is wrong.
-fn tell_devices<R: Eprint>(rt: &R, devices: &[String]) {
+fn report_devices<R: Eprint>(rt: &R, devices: &[String]) {
     let count = devices.len();
     if count > DEVICE_LIMIT {
         let _ = eprintln!(rt;

@@ -208,7 +208,7 @@ impl MemDisk {
     }
 
     /// Records a good sync, and makes it.
-    fn settle(&mut self)
+    fn record_sync(&mut self)
         requires numbered { calls_made self.old < room_of self.old }
         ensures content { self.new.content.items ≡ self.old.content.items }
         ensures synced { self.new.synced.items ≡ self.old.content.items }
@@ -345,7 +345,7 @@ impl Disk for MemDisk {
                 self.fail()
             }
             Turn::Passes => {
-                self.settle();
+                self.record_sync();
                 Ok(())
             }
         }

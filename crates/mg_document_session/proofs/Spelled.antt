@@ -2,9 +2,10 @@
 use Rattle.std.proofs.Common.{◌≡◌, ◌≤◌, List, [], ◌∷◌, length, None, refl, arith}
 use Rattle.std.specs.Prelude.{String}
 use Rattle.std.specs.declared.alloc.Global.{Global}
-use Rattle.mg_document_session.specs.Commands.{command_of, words_of}
+use Rattle.mg_document_session.specs.Commands.{command_of}
+use Rattle.mg_io.specs.Arguments.{arguments}
 
-pub five_or_more : (words : List (String Global)) → 5 ≤ length words → command_of (words_of words) ≡ None
+pub five_or_more : (words : List (String Global)) → 5 ≤ length words → command_of (arguments words) ≡ None
 five_or_more [] h = absurd (omega (arith, h))
 five_or_more (a ∷ []) h = absurd (omega (arith, h))
 five_or_more (a ∷ b ∷ []) h = absurd (omega (arith, h))
@@ -12,7 +13,7 @@ five_or_more (a ∷ b ∷ c ∷ []) h = absurd (omega (arith, h))
 five_or_more (a ∷ b ∷ c ∷ d ∷ []) h = absurd (omega (arith, h))
 five_or_more (a ∷ b ∷ c ∷ d ∷ e ∷ words) h = refl
 
-pub just_two : (words : List (String Global)) → 2 ≤ length words → length words ≤ 2 → command_of (words_of words) ≡ None
+pub just_two : (words : List (String Global)) → 2 ≤ length words → length words ≤ 2 → command_of (arguments words) ≡ None
 just_two [] h few = absurd (omega (arith, h))
 just_two (a ∷ []) h few = absurd (omega (arith, h))
 just_two (a ∷ b ∷ []) h few = refl

@@ -1,15 +1,10 @@
 -- The commands, and the words that spell each.
-use Rattle.std.specs.Prelude.{ℕ, ◌%◌, ◌^◌, ◌==◌, ◌&&◌, ◌<◌, ◌≤◌, nat_le, nat_lt, Bool, List, [], ◌∷◌, if◌then◌else◌, Option, Some, None, codes, map, String}
-use Rattle.std.specs.String.{string_bytes}
-use Rattle.std.specs.declared.alloc.Global.{Global}
+use Rattle.std.specs.Prelude.{ℕ, ◌^◌, ◌&&◌, ◌<◌, ◌≤◌, nat_le, Bool, List, [], ◌∷◌, if◌then◌else◌, Option, Some, None, codes}
+use Rattle.mg_asm.specs.Stored.{may_store_at}
 use Rattle.mg_document.specs.Documents.{byte_limit}
 use Rattle.mg_document_session.specs.declared.words.Command.{Command}
 use Rattle.mg_document_session.specs.declared.words.Command.TheVariants.{Bytes, Get, Put}
 use Rattle.mg_model.specs.Words.{and_then, number_of, same_bytes}
-
--- a multiple of 8 below the end of the pages that objects may have
-abbrev pub is_place : ℕ → Bool
-is_place address = address % 8 == 0 && nat_lt address (2 ^ 52)
 
 -- as many bytes as a document may have
 abbrev pub is_few : ℕ → Bool
@@ -23,7 +18,7 @@ bytes_of word = if same_bytes word (codes "bytes") then Some Bytes else None
 abbrev pub put_of : List ℕ → List ℕ → List ℕ → Option Command
 put_of word thread address =
     if same_bytes word (codes "put")
-    then and_then (number_of thread) (λ t. and_then (number_of address) (λ a. if is_place a then Some (Put t a) else None))
+    then and_then (number_of thread) (λ t. and_then (number_of address) (λ a. if may_store_at a then Some (Put t a) else None))
     else None
 
 -- `get THREAD ADDRESS BYTES`
@@ -31,7 +26,7 @@ abbrev pub get_of : List ℕ → List ℕ → List ℕ → List ℕ → Option C
 get_of word thread address bytes =
     if same_bytes word (codes "get")
     then and_then (number_of thread) (λ t. and_then (number_of address)
-    (λ a. and_then (number_of bytes) (λ n. if is_place a && is_few n then Some (Get t a n) else None)))
+    (λ a. and_then (number_of bytes) (λ n. if may_store_at a && is_few n then Some (Get t a n) else None)))
     else None
 
 -- the command that the words after the program's name spell, if they spell one
@@ -40,10 +35,6 @@ command_of (word ∷ []) = bytes_of word
 command_of (word ∷ thread ∷ address ∷ []) = put_of word thread address
 command_of (word ∷ thread ∷ address ∷ bytes ∷ []) = get_of word thread address bytes
 command_of words = None
-
--- the bytes of these words
-abbrev pub words_of : List (String Global) → List (List ℕ)
-words_of words = map (λ (word : String Global). string_bytes word) words
 
 -- the words of a command are stored and loaded at addresses that objects may have, and are no more than an object holds
 abbrev pub HasPlace : Command → Type 0

@@ -6,7 +6,8 @@ ghost use Rattle.mg_document.specs.declared.faults.ReplyFault.TheVariants as fau
 ghost use Rattle.mg_io.specs.Known.{AppendsPrefix};
 ghost use Rattle.mg_filter.specs.Usages.{UsageKeeps};
 ghost use Rattle.mg_filter.specs.Whole.{TakesAtMost, TakesMore};
-ghost use Rattle.mg_document_session.specs.Commands.{HasPlace, command_of, words_of};
+ghost use Rattle.mg_document_session.specs.Commands.{HasPlace, command_of};
+ghost use Rattle.mg_io.specs.Arguments.{arguments};
 ghost use Rattle.mg_document_session.specs.Headline.{BringsBack, Keeps, LeavesSource, OfInput, PutsFault, PutsPart, PutsText, became, limit_of};
 ghost use Rattle.mg_faults.specs.Faults.{Rose};
 
@@ -37,13 +38,13 @@ pub fn top<S: Source, O: Sink, E: Sink>(
     out: &mut O,
     err: &mut E,
 ) -> Status
-    ensures command { IfSome (command_of (words_of words.now)) (λ command. Keeps S.Source O.Sink E.Sink command result
+    ensures command { IfSome (command_of (arguments words.now)) (λ command. Keeps S.Source O.Sink E.Sink command result
         source.old source.new out.old out.new err.old err.new) }
-    ensures back { command_of (words_of words.now) ≡ Some Command.Bytes
+    ensures back { command_of (arguments words.now) ≡ Some Command.Bytes
         → BringsBack result (S.left source.old) (O.taken out.old) (O.taken out.new) }
-    ensures usage { command_of (words_of words.now) ≡ None
+    ensures usage { command_of (arguments words.now) ≡ None
         → UsageKeeps E.Sink result source.old source.new out.old out.new err.old err.new }
-    ensures not_spelled { result ≡ Status.Usage → command_of (words_of words.now) ≡ None }
+    ensures not_spelled { result ≡ Status.Usage → command_of (arguments words.now) ≡ None }
 {
     match read_words(words) {
         Some(command) => carry_out(alloc, command, source, out, err),

@@ -1,9 +1,10 @@
 // The words of the command line.
 ghost use Rattle.std.specs.Prelude.{◌≡◌, IfSome};
-ghost use Rattle.mg_document_session.specs.Commands.{HasPlace, bytes_of, command_of, get_of, is_few, is_place, put_of, words_of};
+ghost use Rattle.mg_document_session.specs.Commands.{HasPlace, bytes_of, command_of, get_of, is_few, put_of};
+ghost use Rattle.mg_io.specs.Arguments.{arguments};
 
+use mg_asm::may_store_at;
 use mg_document::BYTE_LIMIT;
-use mg_model::limits::{PAGE_END, PAGE_SIZE};
 use mg_text::{is_word, read_number};
 
 /// What the program is asked to do.
@@ -22,7 +23,7 @@ pub enum Command {
 /// They are `put THREAD ADDRESS`, `get THREAD ADDRESS BYTES` or `bytes`. The numbers are as in lines of calls. ADDRESS is a
 /// multiple of 8 below `2^52`, the end of all objects, and BYTES at most [`BYTE_LIMIT`].
 pub fn read_words(words: &[String]) -> Option<Command>
-    ensures command { result ≡ command_of (words_of words.now) }
+    ensures command { result ≡ command_of (arguments words.now) }
     ensures place { IfSome result HasPlace }
 {
     match words {
@@ -58,7 +59,7 @@ fn put(word: &[u8], thread: &[u8], address: &[u8]) -> Option<Command>
     }
     let thread = read_number(thread)?;
     let address = read_number(address)?;
-    if is_place(address) {
+    if may_store_at(address) {
         Some(Command::Put(thread, address))
     } else {
         None
@@ -75,18 +76,11 @@ fn get(word: &[u8], thread: &[u8], address: &[u8], bytes: &[u8]) -> Option<Comma
     let thread = read_number(thread)?;
     let address = read_number(address)?;
     let bytes = read_number(bytes)?;
-    if is_place(address) && is_few(bytes) {
+    if may_store_at(address) && is_few(bytes) {
         Some(Command::Get(thread, address, bytes))
     } else {
         None
     }
-}
-
-/// Whether a word may be stored at this address: it is a multiple of 8, and an object may have it.
-fn is_place(address: u64) -> bool
-    ensures { result ≡ is_place address }
-{
-    address % 8 == 0 && address < PAGE_END * PAGE_SIZE
 }
 
 /// Whether a document may have this number of bytes.

@@ -1,15 +1,12 @@
 -- What both filters do if the words spell no command.
-use Rattle.std.specs.Prelude.{ℕ, ◌≡◌, ◌⊎◌, List, [], ◌∷◌, ◌++◌, codes}
+use Rattle.std.specs.Prelude.{◌≡◌, ◌⊎◌}
 use Rattle.std.specs.Io.KnownBytes.{Appends}
 use Rattle.mg_faults.specs.Faults.{Rose}
 use Rattle.mg_filter.specs.declared.status.Status.{Status}
 use Rattle.mg_filter.specs.declared.status.Status.TheVariants as status
+use Rattle.mg_io.specs.Arguments.{usage_line}
 use Rattle.mg_io.specs.Known.{AppendsPrefix}
 use Rattle.mg_io.specs.declared.traits.Sink as sinks
-
--- the line for words that spell no command
-abbrev pub usage_line : List ℕ
-usage_line = codes "usage" ++ 10 ∷ []
 
 -- What is kept if the words spell no command: `err` takes the line, and source and `out` are left alone.
 pub record UsageKeeps {S O E : Type 0} (aside : sinks.Ghosts E) (result : Status)

@@ -50,25 +50,25 @@ fn push_prepared(k: u64, out: &mut ArrayVec<u8, 256>)
     }
 }
 
-/// The store of place m of the entries.
-fn push_entry(m: u64, out: &mut ArrayVec<u8, 256>)
+/// The store of place `entry` of the entries.
+fn push_entry(entry: u64, out: &mut ArrayVec<u8, 256>)
     requires empty { out.old.items ≡ [] }
-    requires m_below_8 { m < 8 }
-    ensures text { out.new.items ≡ entry_text m }
+    requires entry_below_8 { entry < 8 }
+    ensures text { out.new.items ≡ entry_text entry }
     ensures short { array_vec_len out.new ≤ 200 }
 {
-    push_store(ROOT_BASE + 8 * (4 + m), entry_value(m), out);
+    push_store(ROOT_BASE + 8 * (4 + entry), entry_value(entry), out);
 }
 
-/// A base, for an even `m`, or a password, for an odd one.
-fn entry_value(m: u64) -> u64
-    requires m_below_8 { m < 8 }
-    ensures { result ≡ entry_value m }
+/// A base, for an even `entry`, or a password, for an odd one.
+fn entry_value(entry: u64) -> u64
+    requires entry_below_8 { entry < 8 }
+    ensures { result ≡ entry_value entry }
 {
-    if m % 2 == 0 {
-        run_object_base(1 + m / 2)
+    if entry % 2 == 0 {
+        run_object_base(1 + entry / 2)
     } else {
-        password(2 + m / 2)
+        password(2 + entry / 2)
     }
 }
 

@@ -74,8 +74,8 @@ impl MemSink {
         self.bytes.as_slice()
     }
 
-    // Keeps bytes that have room.
-    fn keep(&mut self, from: &[u8])
+    // Appends bytes, which have room.
+    fn append(&mut self, from: &[u8])
         requires { length self.old.bytes + length from.now ≤ self.old.room }
         ensures { self.new ≡ record self.old { bytes = self.old.bytes ++ from.now } }
     {
@@ -126,7 +126,7 @@ impl Sink for MemSink {
             self.faults.raise();
             return Err(Failed);
         }
-        self.keep(&from[..count]);
+        self.append(&from[..count]);
         Ok(count)
     }
 }

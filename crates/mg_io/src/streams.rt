@@ -47,7 +47,7 @@ impl<R: Read> Source for ReaderSource<R> {
         match self.reader.read(into) {
             Ok(count) => Ok(count),
             Err(error) => {
-                keep(&mut self.error, error);
+                keep_first(&mut self.error, error);
                 self.faults.raise();
                 Err(Failed)
             }
@@ -100,12 +100,12 @@ impl<W: Write> Sink for WriterSink<W> {
         match self.writer.write(from) {
             Ok(count) if count > 0 || from.is_empty() => Ok(count),
             Ok(_) => {
-                keep(&mut self.error, ErrorKind::WriteZero.into());
+                keep_first(&mut self.error, ErrorKind::WriteZero.into());
                 self.faults.raise();
                 Err(Failed)
             }
             Err(error) => {
-                keep(&mut self.error, error);
+                keep_first(&mut self.error, error);
                 self.faults.raise();
                 Err(Failed)
             }
@@ -114,7 +114,7 @@ impl<W: Write> Sink for WriterSink<W> {
 }
 
 /// Keeps the first error.
-fn keep(first: &mut Option<io::Error>, error: io::Error) {
+fn keep_first(first: &mut Option<io::Error>, error: io::Error) {
     if first.is_none() {
         *first = Some(error);
     }

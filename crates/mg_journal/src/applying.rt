@@ -19,14 +19,14 @@ use std::marker::Model;
 
 /// Memory for the writing of homes. It is taken once, and touched as far as homes that are written need it.
 #[derive(Drop)]
-pub(crate) struct Buffers {
+pub(crate) struct HomeBuffers {
     // What blocks of the journal hold, each at its own place.
     journal: Vec<Block>,
     // Bodies whose homes follow one another.
     run: Vec<Block>,
 }
 
-impl Model for Buffers {
+impl Model for HomeBuffers {
     ghost use Rattle.std.specs.Prelude.{◌≤◌, vec_capacity};
     ghost use Rattle.mg_model.specs.Layout.{body_limit, globals_block};
 
@@ -37,10 +37,10 @@ impl Model for Buffers {
     ghost invariant = { λ b. (globals_block ≤ vec_capacity b.journal) × (body_limit ≤ vec_capacity b.run) };
 }
 
-impl Buffers {
+impl HomeBuffers {
     /// Takes all memory that the writing of homes will need.
-    pub(crate) fn new(alloc: Global) -> Result<Buffers, AllocError> {
-        Ok(Buffers {
+    pub(crate) fn new(alloc: Global) -> Result<HomeBuffers, AllocError> {
+        Ok(HomeBuffers {
             journal: Vec::with_capacity(alloc, GLOBALS_BLOCK as usize)?,
             run: Vec::with_capacity(alloc, MOST_WRITES)?,
         })

@@ -115,26 +115,26 @@ impl Store {
 
     /// Writes these blocks, so that a stop at any moment leaves the old contents or the new: into the next of the journal's
     /// eight segments, with two syncs, while homes wait. If all eight are open it makes a checkpoint first, which writes
-    /// the homes and closes the gates. With nothing in `w` no call is made. After [`Failed`], which comes only if a call of
+    /// the homes and closes the gates. With nothing in `writes` no call is made. After [`Failed`], which comes only if a call of
     /// the disk failed, it is not live: the disk has the old contents or the new.
-    pub fn commit<D: Disk>(&mut self, disk: &mut D, w: &Writes) -> Result<(), Failed>
+    pub fn commit<D: Disk>(&mut self, disk: &mut D, writes: &Writes) -> Result<(), Failed>
         requires live { is_live self.old ≡ true }
         requires stands { Stands D.Disk self.old disk.old }
-        requires homes { homes_fit (total_of self.old) w.now ≡ true }
-        ensures any_moment { ForSome (D.seen disk.old) (λ image. Leaves D.Disk disk.old disk.new (OldOrNew (total_of self.old) w.now image)) }
-        ensures done { OnOk result (ForSome (D.seen disk.old) (λ image. IsSomeAnd (D.seen disk.new) (NewContents (total_of self.old) image w.now))) }
-        ensures came_from { OnOk result (ForSome (D.seen disk.new) (λ now. IsSomeAnd (D.seen disk.old) (λ image. NewContents (total_of self.old) image w.now now))) }
+        requires homes { homes_fit (total_of self.old) writes.now ≡ true }
+        ensures any_moment { ForSome (D.seen disk.old) (λ image. Leaves D.Disk disk.old disk.new (OldOrNew (total_of self.old) writes.now image)) }
+        ensures done { OnOk result (ForSome (D.seen disk.old) (λ image. IsSomeAnd (D.seen disk.new) (NewContents (total_of self.old) image writes.now))) }
+        ensures came_from { OnOk result (ForSome (D.seen disk.new) (λ now. IsSomeAnd (D.seen disk.old) (λ image. NewContents (total_of self.old) image writes.now now))) }
         ensures stands { OnOk result (Stands D.Disk self.new disk.new) }
         ensures live { is_live self.new ≡ is_ok result }
         ensures total { total_of self.new ≡ total_of self.old }
-        ensures late { w.now ≢ [] → OnOk result (ForSome (D.seen disk.old) (λ image. IsSomeAnd (D.seen disk.new) (IsLate image))) }
-        ensures no_call { w.now ≡ [] → (disk.new ≡ disk.old) × IsOk result }
+        ensures late { writes.now ≢ [] → OnOk result (ForSome (D.seen disk.old) (λ image. IsSomeAnd (D.seen disk.new) (IsLate image))) }
+        ensures no_call { writes.now ≡ [] → (disk.new ≡ disk.old) × IsOk result }
         ensures calls { DiskCalls D.Disk disk.old disk.new result }
     {
-        if w.len() == 0 {
+        if writes.len() == 0 {
             return Ok(());
         }
-        match self.commit_segment(disk, w) {
+        match self.commit_segment(disk, writes) {
             Ok(()) => Ok(()),
             Err(Failed) => {
                 self.live = false;
@@ -171,7 +171,7 @@ impl Store {
     {
         self.make_room(disk)?;
         self.write_next(disk, writes)?;
-        self.note(writes);
+        self.add_segment(writes);
         Ok(())
     }
 
@@ -255,8 +255,8 @@ impl Store {
         write_firmly(disk, gate_of(self.opened), &opened_gate())
     }
 
-    // Holds that the next segment is open with these bodies.
-    fn note(&mut self, writes: &Writes)
+    // Adds the next segment, which is open with these bodies.
+    fn add_segment(&mut self, writes: &Writes)
         requires fewer_than_8_open { self.old.opened < segment_count }
         requires homes { homes_fit (total_of self.old) writes.now ≡ true }
         requires at_most_160_writes { length writes.now ≤ body_limit }

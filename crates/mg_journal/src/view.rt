@@ -11,7 +11,7 @@ ghost use Rattle.mg_journal.specs.Looked.{Fits};
 ghost use Rattle.mg_journal.specs.Newest.{Adds, Ascends, newest_at};
 ghost use Rattle.mg_journal.specs.Places.{IsPlace, place_limit};
 
-use crate::applying::Buffers;
+use crate::applying::HomeBuffers;
 use crate::faults::ViewFault;
 use crate::places::SEGMENTS;
 use crate::reading::look_segment;
@@ -29,7 +29,7 @@ pub struct View {
     // Where the newest body of each block lies that the open segments have.
     table: Table,
     // Memory for the writing of homes.
-    buffers: Buffers,
+    buffers: HomeBuffers,
 }
 
 impl Model for View {
@@ -64,7 +64,7 @@ impl View {
             Ok(table) => table,
             Err(_) => return Err(ViewFault::Memory),
         };
-        let buffers = match Buffers::new(alloc) {
+        let buffers = match HomeBuffers::new(alloc) {
             Ok(buffers) => buffers,
             Err(_) => return Err(ViewFault::Memory),
         };

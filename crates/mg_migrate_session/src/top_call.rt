@@ -3,7 +3,7 @@ ghost use Rattle.std.specs.Prelude.{◌≡◌, false, true};
 ghost use Rattle.mg_migrate_session.specs.Commands.{is_migrate};
 ghost use Rattle.mg_migrate_session.specs.Headline.{MigrateKeeps, NoMigrateKeeps};
 ghost use Rattle.mg_serve.specs.Sessions.{disk_use, sink_use};
-ghost use Rattle.mg_volume_session.specs.ByCommand.{words_of};
+ghost use Rattle.mg_io.specs.Arguments.{arguments};
 
 use crate::fault_line::put_fault;
 use crate::words::is_migrate;
@@ -34,9 +34,9 @@ pub fn top_migrate<D: Disk, E: Disk, K: Sink>(
     old: &mut E,
     sink: &mut K,
 ) -> Status
-    ensures migrate { is_migrate (words_of words.now) ≡ true →
+    ensures migrate { is_migrate (arguments words.now) ≡ true →
         MigrateKeeps result (disk_use D.Disk new.old new.new) (disk_use E.Disk old.old old.new) (sink_use K.Sink sink.old sink.new) }
-    ensures usage { is_migrate (words_of words.now) ≡ false →
+    ensures usage { is_migrate (arguments words.now) ≡ false →
         NoMigrateKeeps K.Sink result new.old new.new old.old old.new sink.old sink.new }
 {
     if is_migrate(words) {

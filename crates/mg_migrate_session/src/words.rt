@@ -1,11 +1,11 @@
 // The words of the command line.
 ghost use Rattle.std.specs.Prelude.{◌≡◌};
 ghost use Rattle.mg_migrate_session.specs.Commands.{is_migrate, migrate_words};
-ghost use Rattle.mg_volume_session.specs.ByCommand.{words_of};
+ghost use Rattle.mg_io.specs.Arguments.{arguments};
 
 /// Whether the words, which are those after the program's name, are `VOLUME migrate OLD`, and VOLUME and OLD differ.
 pub fn is_migrate(words: &[String]) -> bool
-    ensures { result ≡ is_migrate (words_of words.now) }
+    ensures { result ≡ is_migrate (arguments words.now) }
 {
     match words {
         [new, word, old] => migrates(new.as_bytes(), word.as_bytes(), old.as_bytes()),

@@ -4,7 +4,7 @@ ghost use Rattle.mg_mirror_session.specs.Commands.{mirror_of};
 ghost use Rattle.mg_mirror_session.specs.Headline.{MirrorKeeps, NoMirrorKeeps, session_over};
 ghost use Rattle.mg_mirror_session.specs.Ran.{RanOpened, as_two, out_left, out_right};
 ghost use Rattle.mg_serve.specs.Sessions.{disk_use, sink_use, source_use};
-ghost use Rattle.mg_volume_session.specs.ByCommand.{words_of};
+ghost use Rattle.mg_io.specs.Arguments.{arguments};
 
 use crate::judging::read_first;
 use crate::putting::put_side;
@@ -51,10 +51,10 @@ pub fn top_mirror<D: Disk, E: Disk, S: Source, K: Sink, L: Ledger>(
     sink: &mut K,
     steps: &mut Steps<L>,
 ) -> (Status, Option<Side>, D, E)
-    ensures mirror { IfSome (mirror_of (words_of words.now)) (λ from. MirrorKeeps (session_over from result.0 result.1
+    ensures mirror { IfSome (mirror_of (arguments words.now)) (λ from. MirrorKeeps (session_over from result.0 result.1
         (disk_use D.Disk left result.2) (disk_use E.Disk right result.3) (source_use S.Source source.old source.new)
         (sink_use K.Sink sink.old sink.new) steps.old steps.new)) }
-    ensures usage { mirror_of (words_of words.now) ≡ None → NoMirrorKeeps K.Sink result.0 result.1
+    ensures usage { mirror_of (arguments words.now) ≡ None → NoMirrorKeeps K.Sink result.0 result.1
         left result.2 right result.3 source.old source.new sink.old sink.new }
 {
     match read_words(words) {

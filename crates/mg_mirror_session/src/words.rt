@@ -1,14 +1,14 @@
 // The words of the command line.
 ghost use Rattle.std.specs.Prelude.{◌≡◌};
 ghost use Rattle.mg_mirror_session.specs.Commands.{mirror_of, mirror_words, side_named};
-ghost use Rattle.mg_volume_session.specs.ByCommand.{words_of};
+ghost use Rattle.mg_io.specs.Arguments.{arguments};
 
 use mg_mirror::Side;
 
 /// The side that a mirror is to be opened from, if the words, which are those behind the program's name, are `LEFT mirror RIGHT
 /// SIDE`. LEFT and RIGHT differ, and SIDE is `left` or `right`. None exactly where they are not.
 pub(crate) fn read_words(words: &[String]) -> Option<Side>
-    ensures { result ≡ mirror_of (words_of words.now) }
+    ensures { result ≡ mirror_of (arguments words.now) }
 {
     match words {
         [left, word, right, side] => mirror(

@@ -40,12 +40,12 @@ impl PartialLine {
     }
 
     /// A byte of the line, which is no newline, came. Whatever comes after it, the lines are the same.
-    pub fn add(&mut self, b: u8)
-        requires { is_newline b ≡ false }
-        ensures same { (rest : List ℕ) → lines (self.old ++ b ∷ rest) ≡ lines (self.new ++ rest) }
+    pub fn add(&mut self, byte: u8)
+        requires { is_newline byte ≡ false }
+        ensures same { (rest : List ℕ) → lines (self.old ++ byte ∷ rest) ≡ lines (self.new ++ rest) }
         ensures whole { list_any is_newline self.new ≡ false }
     {
-        let _ = self.bytes.try_push(b);
+        let _ = self.bytes.try_push(byte);
     }
 
     /// Bytes of the line, none of which is a newline, came. Whatever comes after them, the lines are the same.

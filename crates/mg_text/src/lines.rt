@@ -26,7 +26,7 @@ pub fn read_line(bytes: &[u8]) -> Option<Line>
         return Some(BAD);
     }
     let (first, more) = next_word(bytes)?;
-    if note(first) {
+    if is_note(first) {
         None
     } else {
         Some(spelled(first, more))
@@ -34,7 +34,7 @@ pub fn read_line(bytes: &[u8]) -> Option<Line>
 }
 
 /// Whether a word begins a note.
-fn note(word: &[u8]) -> bool
+fn is_note(word: &[u8]) -> bool
     ensures { result ≡ is_note word.now }
 {
     match word {

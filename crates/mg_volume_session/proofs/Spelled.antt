@@ -4,7 +4,8 @@ use Rattle.std.specs.Prelude.{String, codes}
 use Rattle.std.specs.String.{string_bytes}
 use Rattle.std.specs.declared.alloc.Global.{Global}
 use Rattle.mg_model.specs.Words.{same_bytes}
-use Rattle.mg_volume_session.specs.ByCommand.{dry_of, format_of, gen_of, is_check, run_of, words_of}
+use Rattle.mg_volume_session.specs.ByCommand.{dry_of, format_of, gen_of, is_check, run_of}
+use Rattle.mg_io.specs.Arguments.{arguments}
 use Rattle.mg_volume_session.specs.Commands.{tariff_of}
 use Rattle.mg_volume_session.specs.Forms.{dry_words, format_usual, format_with, gen_with, run_alone, run_with}
 
@@ -17,18 +18,18 @@ not_five (a ∷ b ∷ c ∷ d ∷ []) h = refl
 not_five (a ∷ b ∷ c ∷ d ∷ e ∷ []) h = absurd (h refl)
 not_five (a ∷ b ∷ c ∷ d ∷ e ∷ f ∷ words) h = refl
 
-pub length-words_of : (words : List (String Global)) → length (words_of words) ≡ length words
-length-words_of [] = refl
-length-words_of (word ∷ words) = ap (λ n. suc n) (length-words_of words)
+pub length-arguments : (words : List (String Global)) → length (arguments words) ≡ length words
+length-arguments [] = refl
+length-arguments (word ∷ words) = ap (λ n. suc n) (length-arguments words)
 
 -- fewer or more words
-pub dry_of-other : (words : List (String Global)) → (length words ≡ 5 → ⊥) → dry_of (words_of words) ≡ None
-dry_of-other words h = not_five (words_of words) (λ e. h (sym (length-words_of words) ∙ e))
+pub dry_of-other : (words : List (String Global)) → (length words ≡ 5 → ⊥) → dry_of (arguments words) ≡ None
+dry_of-other words h = not_five (arguments words) (λ e. h (sym (length-arguments words) ∙ e))
 
 -- five words, each read by its place
 by_place : (words : List (String Global)) (a b c d : String Global) → length words ≡ 5
     → a ≡ get_or words 1 a → b ≡ get_or words 2 b → c ≡ get_or words 3 c → d ≡ get_or words 4 d
-    → dry_words (string_bytes a) (string_bytes b) (string_bytes c) (string_bytes d) ≡ dry_of (words_of words)
+    → dry_words (string_bytes a) (string_bytes b) (string_bytes c) (string_bytes d) ≡ dry_of (arguments words)
 by_place [] a b c d five p q r s = absurd (omega arith)
 by_place (w0 ∷ []) a b c d five p q r s = absurd (omega arith)
 by_place (w0 ∷ w1 ∷ []) a b c d five p q r s = absurd (omega arith)
@@ -45,7 +46,7 @@ by_place (w0 ∷ w1 ∷ w2 ∷ w3 ∷ w4 ∷ w5 ∷ more) a b c d five p q r s =
 pub dry_of-five : (words : List (String Global)) (a b c d : String Global) (word frames seed credits : List ℕ) → length words ≡ 5
     → a ≡ get_or words 1 a → b ≡ get_or words 2 b → c ≡ get_or words 3 c → d ≡ get_or words 4 d
     → word ≡ string_bytes a → frames ≡ string_bytes b → seed ≡ string_bytes c → credits ≡ string_bytes d
-    → dry_words word frames seed credits ≡ dry_of (words_of words)
+    → dry_words word frames seed credits ≡ dry_of (arguments words)
 dry_of-five words a b c d word frames seed credits five p q r s h k m n =
     ap (λ v. dry_words v frames seed credits) h ∙ ap (λ v. dry_words (string_bytes a) v seed credits) k
     ∙ ap (λ v. dry_words (string_bytes a) (string_bytes b) v credits) m
@@ -53,7 +54,7 @@ dry_of-five words a b c d word frames seed credits five p q r s h k m n =
     ∙ by_place words a b c d five p q r s
 
 -- a word by its place, as bytes
-pub item : (words : List (String Global)) (k : ℕ) (a : String Global) → k < length words → a ≡ get_or words k a → get_or (words_of words) k [] ≡ string_bytes a
+pub item : (words : List (String Global)) (k : ℕ) (a : String Global) → k < length words → a ≡ get_or words k a → get_or (arguments words) k [] ≡ string_bytes a
 item [] k a low is = absurd (omega arith)
 item (w ∷ words) zero a low is = ap (λ v. string_bytes v) (sym is)
 item (w ∷ words) (suc k) a low is = item words k a (omega arith) is
@@ -111,11 +112,11 @@ not_format (a0 ∷ a1 ∷ a2 ∷ a3 ∷ a4 ∷ a5 ∷ a6 ∷ a7 ∷ a8 ∷ []) h
 not_format (a0 ∷ a1 ∷ a2 ∷ a3 ∷ a4 ∷ a5 ∷ a6 ∷ a7 ∷ a8 ∷ a9 ∷ more) h k = refl
 
 -- neither five words nor nine
-pub format_of-other : (words : List (String Global)) → (length words ≡ 5 → ⊥) → (length words ≡ 9 → ⊥) → format_of (words_of words) ≡ None
-format_of-other words h k = not_format (words_of words) (λ e. h (sym (length-words_of words) ∙ e)) (λ e. k (sym (length-words_of words) ∙ e))
+pub format_of-other : (words : List (String Global)) → (length words ≡ 5 → ⊥) → (length words ≡ 9 → ⊥) → format_of (arguments words) ≡ None
+format_of-other words h k = not_format (arguments words) (λ e. h (sym (length-arguments words) ∙ e)) (λ e. k (sym (length-arguments words) ∙ e))
 
 -- the words of `check` and `run`, each by its place
-pub is_check-two : (words : List (String Global)) (a : String Global) (word : List ℕ) → length words ≡ 2 → a ≡ get_or words 1 a → word ≡ string_bytes a → same_bytes word (codes "check") ≡ is_check (words_of words)
+pub is_check-two : (words : List (String Global)) (a : String Global) (word : List ℕ) → length words ≡ 2 → a ≡ get_or words 1 a → word ≡ string_bytes a → same_bytes word (codes "check") ≡ is_check (arguments words)
 is_check-two [] a w two p h = absurd (omega arith)
 is_check-two (w0 ∷ []) a w two p h = absurd (omega arith)
 is_check-two (w0 ∷ w1 ∷ []) a w two p h = ap (λ v. same_bytes v (codes "check")) (h ∙ ap (λ v. string_bytes v) p)
@@ -127,17 +128,17 @@ not_two (a ∷ []) h = refl
 not_two (a ∷ b ∷ []) h = absurd (h refl)
 not_two (a ∷ b ∷ c ∷ more) h = refl
 
-pub is_check-other : (words : List (String Global)) → (length words ≡ 2 → ⊥) → is_check (words_of words) ≡ false
-is_check-other words h = not_two (words_of words) (λ e. h (sym (length-words_of words) ∙ e))
+pub is_check-other : (words : List (String Global)) → (length words ≡ 2 → ⊥) → is_check (arguments words) ≡ false
+is_check-other words h = not_two (arguments words) (λ e. h (sym (length-arguments words) ∙ e))
 
-pub run_of-two : (words : List (String Global)) (a : String Global) (word : List ℕ) → length words ≡ 2 → a ≡ get_or words 1 a → word ≡ string_bytes a → run_alone word ≡ run_of (words_of words)
+pub run_of-two : (words : List (String Global)) (a : String Global) (word : List ℕ) → length words ≡ 2 → a ≡ get_or words 1 a → word ≡ string_bytes a → run_alone word ≡ run_of (arguments words)
 run_of-two [] a w two p h = absurd (omega arith)
 run_of-two (w0 ∷ []) a w two p h = absurd (omega arith)
 run_of-two (w0 ∷ w1 ∷ []) a w two p h = ap (λ v. run_alone v) (h ∙ ap (λ v. string_bytes v) p)
 run_of-two (w0 ∷ w1 ∷ w2 ∷ more) a w two p h = absurd (omega arith)
 
 pub run_of-three : (words : List (String Global)) (a b : String Global) (word batch : List ℕ) → length words ≡ 3 → a ≡ get_or words 1 a → b ≡ get_or words 2 b → word ≡ string_bytes a → batch ≡ string_bytes b
-    → run_with word batch ≡ run_of (words_of words)
+    → run_with word batch ≡ run_of (arguments words)
 run_of-three [] a b w n three p q h k = absurd (omega arith)
 run_of-three (w0 ∷ []) a b w n three p q h k = absurd (omega arith)
 run_of-three (w0 ∷ w1 ∷ []) a b w n three p q h k = absurd (omega arith)
@@ -151,8 +152,8 @@ not_two_or_three (a ∷ b ∷ []) h k = absurd (h refl)
 not_two_or_three (a ∷ b ∷ c ∷ []) h k = absurd (k refl)
 not_two_or_three (a ∷ b ∷ c ∷ d ∷ more) h k = refl
 
-pub run_of-other : (words : List (String Global)) → (length words ≡ 2 → ⊥) → (length words ≡ 3 → ⊥) → run_of (words_of words) ≡ None
-run_of-other words h k = not_two_or_three (words_of words) (λ e. h (sym (length-words_of words) ∙ e)) (λ e. k (sym (length-words_of words) ∙ e))
+pub run_of-other : (words : List (String Global)) → (length words ≡ 2 → ⊥) → (length words ≡ 3 → ⊥) → run_of (arguments words) ≡ None
+run_of-other words h k = not_two_or_three (arguments words) (λ e. h (sym (length-arguments words) ∙ e)) (λ e. k (sym (length-arguments words) ∙ e))
 
 -- the words of `gen`, each by its place
 pub gen_of-four : (words : List (List ℕ)) (word number count : List ℕ) → length words ≡ 4
@@ -172,5 +173,5 @@ not_four (a ∷ b ∷ c ∷ []) h = refl
 not_four (a ∷ b ∷ c ∷ d ∷ []) h = absurd (h refl)
 not_four (a ∷ b ∷ c ∷ d ∷ e ∷ more) h = refl
 
-pub gen_of-other : (words : List (String Global)) → (length words ≡ 4 → ⊥) → gen_of (words_of words) ≡ None
-gen_of-other words h = not_four (words_of words) (λ e. h (sym (length-words_of words) ∙ e))
+pub gen_of-other : (words : List (String Global)) → (length words ≡ 4 → ⊥) → gen_of (arguments words) ≡ None
+gen_of-other words h = not_four (arguments words) (λ e. h (sym (length-arguments words) ∙ e))

@@ -1,8 +1,6 @@
 -- What words spell, command by command: what the functions that read them promise.
-use Rattle.std.specs.Prelude.{ℕ, ◌&&◌, Bool, false, nat_le, List, [], ◌∷◌, if◌then◌else◌, Option, Some, None, codes, map, option_map, String}
+use Rattle.std.specs.Prelude.{ℕ, ◌&&◌, Bool, false, nat_le, List, [], ◌∷◌, if◌then◌else◌, Option, Some, None, codes, option_map}
 use Rattle.std.specs.Option.{option_or}
-use Rattle.std.specs.String.{string_bytes}
-use Rattle.std.specs.declared.alloc.Global.{Global}
 use Rattle.mg_model.specs.Settings.{Settings}
 use Rattle.mg_model.specs.Tariff.{usual_tariff}
 use Rattle.mg_model.specs.Words.{and_then, number_of, same_bytes}
@@ -54,7 +52,3 @@ command_by words =
     (option_or (option_map (λ settings. Format settings) (format_of words))
     (option_or (if is_check words then Some Check else None)
     (option_or (option_map (λ batch. Run batch) (run_of words)) (option_map (λ run. Gen run.0 run.1) (gen_of words)))))
-
--- the words as bytes
-abbrev pub words_of : List (String Global) → List (List ℕ)
-words_of words = map (λ (word : String Global). string_bytes word) words

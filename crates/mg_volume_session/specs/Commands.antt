@@ -1,8 +1,8 @@
 -- The commands, and the words that spell each.
-use Rattle.std.specs.Prelude.{ℕ, ◌+◌, ◌*◌, ◌==◌, ◌&&◌, nat_le, List, [], ◌∷◌, length, if◌then◌else◌, Option, Some, None, codes, drop, map, not, option_map, take, String}
+use Rattle.std.specs.Prelude.{ℕ, ◌+◌, ◌*◌, ◌==◌, ◌&&◌, nat_le, List, [], ◌∷◌, length, if◌then◌else◌, Option, Some, None, codes, drop, not, option_map, take, String}
 use Rattle.std.specs.List.{prefix_len}
-use Rattle.std.specs.String.{string_bytes}
 use Rattle.std.specs.declared.alloc.Global.{Global}
+use Rattle.mg_io.specs.Arguments.{arguments}
 use Rattle.mg_model.specs.Settings.{Settings, within_limits}
 use Rattle.mg_model.specs.Tariff.{is_tariff, usual_tariff}
 use Rattle.mg_model.specs.Words.{and_then, digit_of, number_of, same_bytes}
@@ -70,4 +70,4 @@ command_of words = None
 
 -- the command that the words of the command line spell
 abbrev pub spelled : List (String Global) → Option Command
-spelled words = command_of (map (λ (word : String Global). string_bytes word) words)
+spelled words = command_of (arguments words)

@@ -11,6 +11,7 @@ use Rattle.mg_disk.specs.declared.disk.Disk as disks
 use Rattle.mg_faults.specs.Faults.{Rose}
 use Rattle.mg_gen.specs.Generated.{line_text, run_settings}
 use Rattle.mg_gen.specs.Summary.{summary_text}
+use Rattle.mg_io.specs.Arguments.{usage_line}
 use Rattle.mg_io.specs.Known.{AppendsPrefix}
 use Rattle.mg_io.specs.declared.traits.Sink as sinks
 use Rattle.mg_layout.specs.MayFormat.{IsNoState, MayFormat, ReadsFresh}
@@ -262,10 +263,6 @@ pub record PutsLast {K : Type 0} (to : sinks.Ghosts K) (ran : Status) (last : Li
   pub early : ran ≢ status.Done → (result ≡ ran) × (sink' ≡ replied)
 
 -- Words that spell no command
-
--- the line that is printed
-abbrev pub usage_line : List ℕ
-usage_line = codes "usage" ++ 10 ∷ []
 
 -- What is kept if the words spell no command.
 pub record UsageKeeps {D S K : Type 0} (to : sinks.Ghosts K) (result : Status)

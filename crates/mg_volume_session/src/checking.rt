@@ -24,11 +24,11 @@ use std::alloc::Global;
 pub fn check<D: Disk, K: Sink>(alloc: Global, disk: &mut D, sink: &mut K) -> Status
     ensures { CheckKeeps result (disk_use D.Disk disk.old disk.new) (sink_use K.Sink sink.old sink.new) }
 {
-    tell(alloc, disk, sink)
+    print_line(alloc, disk, sink)
 }
 
 /// Prints the line of what the disk holds.
-fn tell<D: Disk, K: Sink>(alloc: Global, disk: &mut D, sink: &mut K) -> Status
+fn print_line<D: Disk, K: Sink>(alloc: Global, disk: &mut D, sink: &mut K) -> Status
     ensures which { (result ≡ Status.Done) ⊎ EndsUnopened result }
     ensures done { result ≡ Status.Done → TellsLine (λ read. (s : State) × (read ≡ Is s)) (D.seen disk.old) (K.taken sink.old) (K.taken sink.new) }
     ensures prefix { (read : VolumeRead) × ForSome (D.seen disk.old) (λ image. volume image ≡ read) × AppendsPrefix (K.taken sink.old) (K.taken sink.new) (check_line read) }

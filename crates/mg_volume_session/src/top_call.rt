@@ -7,7 +7,8 @@ ghost use Rattle.mg_model.specs.Settings.{Settings};
 ghost use Rattle.mg_serve.specs.Sessions.{disk_use, sink_use, source_use};
 ghost use Rattle.mg_volume_session.specs.Commands.{spelled};
 ghost use Rattle.mg_volume_session.specs.declared.words.Command.TheVariants.{Check, Dry, Format, Gen, Run};
-ghost use Rattle.mg_volume_session.specs.Headline.{CheckKeeps, DryKeeps, FormatKeeps, GenKeeps, RunKeeps, UsageKeeps, session_of, usage_line};
+ghost use Rattle.mg_volume_session.specs.Headline.{CheckKeeps, DryKeeps, FormatKeeps, GenKeeps, RunKeeps, UsageKeeps, session_of};
+ghost use Rattle.mg_io.specs.Arguments.{usage_line};
 
 use crate::checking::check;
 use crate::dry::dry;

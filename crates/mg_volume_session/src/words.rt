@@ -1,7 +1,8 @@
 // The words of the command line.
 ghost use Rattle.std.specs.Prelude.{◌≡◌, ◌≤◌, ℕ, IfSome, Some, length};
 ghost use Rattle.mg_model.specs.Tariff.{usual_tariff};
-ghost use Rattle.mg_volume_session.specs.ByCommand.{batch_within, command_by, dry_of, format_of, gen_of, is_check, lines_within, run_of, words_of};
+ghost use Rattle.mg_volume_session.specs.ByCommand.{batch_within, command_by, dry_of, format_of, gen_of, is_check, lines_within, run_of};
+ghost use Rattle.mg_io.specs.Arguments.{arguments};
 ghost use Rattle.mg_volume_session.specs.Commands.{before_colon, byte_of, seed_of, settings_of, spelled, step_of, step_parts, tariff_of};
 ghost use Rattle.mg_volume_session.specs.Forms.{dry_words, format_usual, format_with, gen_with, run_alone, run_with};
 ghost use Rattle.mg_volume_session.specs.declared.words.Command.TheVariants.{Gen, Run};
@@ -45,7 +46,7 @@ pub fn read_words(words: &[String]) -> Option<Command>
 
 /// The command that one of the functions below reads.
 fn read_by(words: &[String]) -> Option<Command>
-    ensures command { result ≡ command_by (words_of words.now) }
+    ensures command { result ≡ command_by (arguments words.now) }
     ensures few_lines { (number count : ℕ) → result ≡ Some (Gen number count) → count ≤ 1000000 }
     ensures batch_within { (batch : ℕ) → result ≡ Some (Run batch) → (1 ≤ batch) × (batch ≤ 64) }
 {
@@ -67,7 +68,7 @@ fn read_by(words: &[String]) -> Option<Command>
 
 /// Whether the words are `VOLUME check`.
 fn is_check(words: &[String]) -> bool
-    ensures { result ≡ is_check (words_of words.now) }
+    ensures { result ≡ is_check (arguments words.now) }
 {
     if words.len() != 2 {
         return false;
@@ -77,7 +78,7 @@ fn is_check(words: &[String]) -> bool
 
 /// How many replies a batch has, if the words are `VOLUME run` or `VOLUME run BATCH`.
 fn run(words: &[String]) -> Option<u64>
-    ensures batch { result ≡ run_of (words_of words.now) }
+    ensures batch { result ≡ run_of (arguments words.now) }
     ensures within { IfSome result (λ batch. (1 ≤ batch) × (batch ≤ 64)) }
 {
     if words.len() == 2 {
@@ -123,7 +124,7 @@ fn within_batch(batch: u64) -> Option<u64>
 
 /// The number and the lines that `VOLUME gen NUMBER LINES` gives.
 fn generated(words: &[String]) -> Option<(u64, u64)>
-    ensures run { result ≡ gen_of (words_of words.now) }
+    ensures run { result ≡ gen_of (arguments words.now) }
     ensures at_most_1000000_lines { IfSome result (λ run. run.1 ≤ 1000000) }
 {
     match words {
@@ -160,7 +161,7 @@ fn within_lines(number: u64, lines: u64) -> Option<(u64, u64)>
 
 /// The settings that `VOLUME dry FRAMES SEED CREDITS` gives.
 fn dry(words: &[String]) -> Option<Params>
-    ensures { result ≡ dry_of (words_of words.now) }
+    ensures { result ≡ dry_of (arguments words.now) }
 {
     if words.len() != 5 {
         return None;
@@ -186,7 +187,7 @@ fn dry_words(word: &[u8], frames: &[u8], seed: &[u8], credits: &[u8]) -> Option<
 
 /// The settings that `VOLUME format FRAMES SEED CREDITS` gives, with or without a tariff.
 fn format(words: &[String]) -> Option<Params>
-    ensures { result ≡ format_of (words_of words.now) }
+    ensures { result ≡ format_of (arguments words.now) }
 {
     match words {
         [_, word, frames, seed, credits] => format_usual(

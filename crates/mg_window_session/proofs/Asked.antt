@@ -2,7 +2,7 @@
 use Rattle.std.specs.Prelude.{◌≡◌, ◌&&◌, suc, Bool, false, true, List, [], ◌∷◌, length, String}
 use Rattle.std.specs.declared.alloc.Global.{Global}
 use Rattle.std.proofs.Common.{refl, ap, ◌∙◌}
-use Rattle.mg_volume_session.specs.ByCommand.{words_of}
+use Rattle.mg_io.specs.Arguments.{arguments}
 use Rattle.mg_window.specs.Attached.{Attached}
 use Rattle.mg_window_session.specs.Commands.{Asked, are_those, is_that}
 
@@ -17,6 +17,6 @@ those_differ (w ∷ windows) (a ∷ asked) h = ap (λ t. is_that w a && t) (thos
     and_false true = refl
     and_false false = refl
 
-pub length_words : (words : List (String Global)) → length (words_of words) ≡ length words
+pub length_words : (words : List (String Global)) → length (arguments words) ≡ length words
 length_words [] = refl
 length_words (word ∷ words) = ap (λ n. suc n) (length_words words)

@@ -1,7 +1,7 @@
 // All that is done with device windows.
 ghost use Rattle.std.specs.Prelude.{◌≡◌, IsTrue, false};
 ghost use Rattle.mg_serve.specs.Sessions.{disk_use, sink_use, source_use};
-ghost use Rattle.mg_volume_session.specs.ByCommand.{words_of};
+ghost use Rattle.mg_io.specs.Arguments.{arguments};
 ghost use Rattle.mg_volume_session.specs.Headline.{session_of};
 ghost use Rattle.mg_window.specs.Attached.{seen};
 ghost use Rattle.mg_window_session.specs.Commands.{asks_for};
@@ -56,11 +56,11 @@ pub fn top_dev<D: Disk, S: Source, K: Sink, L: Ledger>(
     windows: &mut Windows,
     steps: &mut Steps<L>,
 ) -> Status
-    ensures dev { IsTrue (asks_for (words_of words.now) (seen ⟦<Box<dyn Device> as Device>⟧.held windows.old)) → DevKeeps
+    ensures dev { IsTrue (asks_for (arguments words.now) (seen ⟦<Box<dyn Device> as Device>⟧.held windows.old)) → DevKeeps
         (seen ⟦<Box<dyn Device> as Device>⟧.held windows.old) (seen ⟦<Box<dyn Device> as Device>⟧.held windows.new)
         (session_of 1 result (disk_use D.Disk disk.old disk.new)
         (source_use S.Source source.old source.new) (sink_use K.Sink sink.old sink.new) steps.old steps.new) }
-    ensures usage { asks_for (words_of words.now) (seen ⟦<Box<dyn Device> as Device>⟧.held windows.old) ≡ false → NoDevKeeps K.Sink result
+    ensures usage { asks_for (arguments words.now) (seen ⟦<Box<dyn Device> as Device>⟧.held windows.old) ≡ false → NoDevKeeps K.Sink result
         (seen ⟦<Box<dyn Device> as Device>⟧.held windows.old) (seen ⟦<Box<dyn Device> as Device>⟧.held windows.new)
         disk.old disk.new source.old source.new sink.old sink.new }
 {
@@ -77,10 +77,10 @@ pub fn top_dev_of<T: Device, D: Disk, S: Source, K: Sink, L: Ledger>(
     windows: &mut Windows<T>,
     steps: &mut Steps<L>,
 ) -> Status
-    ensures dev { IsTrue (asks_for (words_of words.now) (seen T.held windows.old)) → DevKeeps
+    ensures dev { IsTrue (asks_for (arguments words.now) (seen T.held windows.old)) → DevKeeps
         (seen T.held windows.old) (seen T.held windows.new) (session_of 1 result (disk_use D.Disk disk.old disk.new)
         (source_use S.Source source.old source.new) (sink_use K.Sink sink.old sink.new) steps.old steps.new) }
-    ensures usage { asks_for (words_of words.now) (seen T.held windows.old) ≡ false → NoDevKeeps K.Sink result
+    ensures usage { asks_for (arguments words.now) (seen T.held windows.old) ≡ false → NoDevKeeps K.Sink result
         (seen T.held windows.old) (seen T.held windows.new) disk.old disk.new source.old source.new sink.old sink.new }
 {
     if ask_for(words, windows) {

@@ -2,7 +2,7 @@
 ghost use Rattle.std.specs.Prelude.{◌≡◌, ◌≤◌, ◌<◌, ◌++◌, ◌∷◌, [], IfSome, MatchOption, None, Some, length, map, option_map};
 ghost use Rattle.std.specs.String.{string_bytes};
 ghost use Rattle.mg_model.specs.Words.{same_bytes};
-ghost use Rattle.mg_volume_session.specs.ByCommand.{words_of};
+ghost use Rattle.mg_io.specs.Arguments.{arguments};
 ghost use Rattle.mg_volume_session.specs.Commands.{before_colon};
 ghost use Rattle.mg_window.specs.Attached.{seen, window_at};
 ghost use Rattle.mg_window_session.specs.Commands.{are_those, asks_for, dev_of, dev_words, device_more, device_named, device_parts, devices_named, is_taken, is_that, kind_named};
@@ -71,7 +71,7 @@ fn is_word(word: &[u8], known: &[u8]) -> bool
 /// The devices that are named, if the words, which are those after the program's name, are `VOLUME dev` and up to 16 words
 /// `KIND:BASE`, all bases different. None exactly if they are not.
 pub fn read_words(words: &[String]) -> Option<Asked>
-    ensures { option_map (λ asked. asked.items) result ≡ dev_of (words_of words.now) }
+    ensures { option_map (λ asked. asked.items) result ≡ dev_of (arguments words.now) }
 {
     match words {
         [_, word, devices @ ..] => dev_words(word.as_bytes(), devices),
@@ -80,7 +80,7 @@ pub fn read_words(words: &[String]) -> Option<Asked>
 }
 
 fn dev_words(word: &[u8], devices: &[String]) -> Option<Asked>
-    ensures { option_map (λ asked. asked.items) result ≡ dev_words word.now (words_of devices.now) }
+    ensures { option_map (λ asked. asked.items) result ≡ dev_words word.now (arguments devices.now) }
 {
     if is_word(word, b"dev") {
         devices_named(devices)
@@ -90,7 +90,7 @@ fn dev_words(word: &[u8], devices: &[String]) -> Option<Asked>
 }
 
 fn devices_named(words: &[String]) -> Option<Asked>
-    ensures { option_map (λ asked. asked.items) result ≡ devices_named (words_of words.now) }
+    ensures { option_map (λ asked. asked.items) result ≡ devices_named (arguments words.now) }
 {
     if words.len() > 16 {
         return None;
@@ -118,7 +118,7 @@ fn is_taken(base: u64, devices: &[(u64, u64)]) -> bool
 
 /// Whether the words are those of a run with these windows.
 pub(crate) fn ask_for<T: Device>(words: &[String], windows: &Windows<T>) -> bool
-    ensures { result ≡ asks_for (words_of words.now) (seen T.held windows.now) }
+    ensures { result ≡ asks_for (arguments words.now) (seen T.held windows.now) }
 {
     match read_words(words) {
         Some(asked) => are_those(windows, asked.as_slice()),

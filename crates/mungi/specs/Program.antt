@@ -7,7 +7,7 @@ use Rattle.mg_model.specs.Settings.{Settings}
 use Rattle.mg_serve.specs.declared.status.Status.{Status}
 use Rattle.mg_serve.specs.declared.status.Status.TheVariants as status
 use Rattle.mg_serve.specs.Sessions.{DiskUse, SinkUse, SourceUse}
-use Rattle.mg_volume_session.specs.ByCommand.{words_of}
+use Rattle.mg_io.specs.Arguments.{arguments}
 use Rattle.mg_volume_session.specs.Commands.{spelled}
 use Rattle.mg_volume_session.specs.Headline.{CheckKeeps, DryKeeps, FormatKeeps, GenKeeps, RunKeeps, UsageKeeps, session_of}
 use Rattle.mg_volume_session.specs.declared.words.Command.TheVariants.{Check, Dry, Format, Gen, Run}
@@ -41,5 +41,5 @@ pub record Ran {D S K : Type 0} (words : List (String Global)) (result : Status)
 -- the third.
 pub record Did {D E S K : Type 0} (words : List (String Global)) (result : Status) (d : DiskUse D) (old : DiskUse E)
     (i : SourceUse S) (o : SinkUse K) (steps steps' : ℕ) : Type 0 where
-  pub migrate : is_migrate (words_of words) ≡ true → MigrateKeeps result d old o × (i.new ≡ i.old)
-  pub other : is_migrate (words_of words) ≡ false → Ran words result d i o steps steps' × (old.new ≡ old.old)
+  pub migrate : is_migrate (arguments words) ≡ true → MigrateKeeps result d old o × (i.new ≡ i.old)
+  pub other : is_migrate (arguments words) ≡ false → Ran words result d i o steps steps' × (old.new ≡ old.old)

@@ -5,8 +5,8 @@ ghost use Rattle.mg_serve.specs.Sessions.{code_of, disk_use, sink_use, source_us
 ghost use Rattle.mungi.specs.Program.{Did, Ran};
 
 use crate::NAME;
-use crate::usage::tell_usage;
-use mg_console::{InFile, Stream, tell_fault, tell_status, tell_volume, word};
+use crate::usage::report_usage;
+use mg_console::{InFile, Stream, report_fault, report_status, report_volume, word};
 use mg_disk::{Disk, Found};
 use mg_io::{Sink, Source};
 use mg_layout::Geometry;
@@ -43,7 +43,7 @@ pub(crate) fn carry_out<
         (source_use S.Source source.old source.new) (sink_use K.Sink sink.old sink.new) steps.old steps.new) disk.new) result }
 {
     let status = command(rt.alloc(), words, disk, old, source, sink, steps);
-    tell_end(rt, words, status, disk, old, source.error(), sink.error());
+    report_end(rt, words, status, disk, old, source.error(), sink.error());
     status.code()
 }
 
@@ -84,7 +84,7 @@ fn ran<D: Disk, S: Source, K: Sink, L: Ledger>(
 
 /// Says why a command ended with this status, and what only the file of its volume shows. The errors are those of standard input and of
 /// standard output.
-fn tell_end<R: AllocGlobal + Eprint, D: Disk + InFile, E: InFile>(
+fn report_end<R: AllocGlobal + Eprint, D: Disk + InFile, E: InFile>(
     rt: &R,
     words: &[String],
     status: Status,
@@ -97,19 +97,19 @@ fn tell_end<R: AllocGlobal + Eprint, D: Disk + InFile, E: InFile>(
 {
     let path = word(words, 0);
     if status == Status::Disk {
-        tell_fault(rt, NAME, path, disk.fault());
-        tell_fault(rt, NAME, word(words, 2), old.fault());
+        report_fault(rt, NAME, path, disk.fault());
+        report_fault(rt, NAME, word(words, 2), old.fault());
     }
     let found = disk.found();
-    tell_file(rt, words, disk, found, status == Status::NoVolume);
+    report_file(rt, words, disk, found, status == Status::NoVolume);
     if status == Status::Usage {
-        tell_usage(rt, words);
+        report_usage(rt, words);
     }
-    tell_status(rt, NAME, status, read, written);
+    report_status(rt, NAME, status, read, written);
 }
 
 /// Says what only the file of a volume shows. It says nothing for `format`, which makes the volume, and for `migrate`.
-fn tell_file<R: AllocGlobal + Eprint, D: Disk>(
+fn report_file<R: AllocGlobal + Eprint, D: Disk>(
     rt: &R,
     words: &[String],
     disk: &mut D,
@@ -121,7 +121,7 @@ fn tell_file<R: AllocGlobal + Eprint, D: Disk>(
     if is_migrate(words) || blocks_made(words).is_some() {
         return;
     }
-    tell_volume(rt, NAME, word(words, 0), disk, found, is_refused);
+    report_volume(rt, NAME, word(words, 0), disk, found, is_refused);
 }
 
 /// The number of blocks of the volume that the words make. None if they make none.

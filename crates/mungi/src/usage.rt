@@ -1,6 +1,6 @@
 // Says which word is wrong if the words spell no command.
 use crate::NAME;
-use mg_console::{is_told, tell, tell_lines};
+use mg_console::{is_told, report, report_lines};
 use std::io::Eprint;
 
 /// The commands of the program.
@@ -17,83 +17,83 @@ const SYNOPSIS: [&str; 6] = [
 const DIGITS: usize = 64;
 
 /// Prints the commands of the program, and says which word is wrong if there is such a word.
-pub(crate) fn tell_usage<R: Eprint>(rt: &R, words: &[String]) {
-    tell_lines(rt, &SYNOPSIS);
+pub(crate) fn report_usage<R: Eprint>(rt: &R, words: &[String]) {
+    report_lines(rt, &SYNOPSIS);
     match words.split_first() {
-        None => tell(rt, NAME, "no VOLUME is given"),
+        None => report(rt, NAME, "no VOLUME is given"),
         Some((_, rest)) => match rest.split_first() {
-            None => tell(rt, NAME, "no command is given"),
-            Some((command, rest)) => tell_command(rt, command.as_str(), rest),
+            None => report(rt, NAME, "no command is given"),
+            Some((command, rest)) => report_command(rt, command.as_str(), rest),
         },
     }
 }
 
 /// Says what is wrong with a command and the words after it.
-fn tell_command<R: Eprint>(rt: &R, command: &str, rest: &[String]) {
+fn report_command<R: Eprint>(rt: &R, command: &str, rest: &[String]) {
     if command == "dry" {
-        tell_settings(rt, rest, false);
+        report_settings(rt, rest, false);
     } else if command == "format" {
-        tell_settings(rt, rest, true);
+        report_settings(rt, rest, true);
     } else if command == "check" {
-        tell(rt, NAME, "check takes no word");
+        report(rt, NAME, "check takes no word");
     } else if command == "run" {
-        tell_batch(rt, rest);
+        report_batch(rt, rest);
     } else if command == "migrate" {
-        tell(
+        report(
             rt,
             NAME,
             "migrate takes one word, OLD, and OLD is not VOLUME",
         );
     } else if command == "gen" {
-        tell_run(rt, rest);
+        report_run(rt, rest);
     } else {
         let _ = eprintln!(rt; "{NAME}: {command} is no command");
     }
 }
 
 /// Says what is wrong with the words after `run`.
-fn tell_batch<R: Eprint>(rt: &R, rest: &[String]) {
+fn report_batch<R: Eprint>(rt: &R, rest: &[String]) {
     match rest {
         [batch] => {
             let _ = is_told(rt, NAME, "BATCH", batch.as_str(), 1, 64);
         }
-        _ => tell(rt, NAME, "run takes at most one word, BATCH"),
+        _ => report(rt, NAME, "run takes at most one word, BATCH"),
     }
 }
 
 /// Says what is wrong with the words after `gen`.
-fn tell_run<R: Eprint>(rt: &R, rest: &[String]) {
+fn report_run<R: Eprint>(rt: &R, rest: &[String]) {
     match rest {
         [number, lines] => {
             if !is_told(rt, NAME, "NUMBER", number.as_str(), 0, u64::MAX) {
                 let _ = is_told(rt, NAME, "LINES", lines.as_str(), 0, 1_000_000);
             }
         }
-        _ => tell(rt, NAME, "gen takes two words, NUMBER and LINES"),
+        _ => report(rt, NAME, "gen takes two words, NUMBER and LINES"),
     }
 }
 
 /// Says what is wrong with the words after `dry` or `format`.
-fn tell_settings<R: Eprint>(rt: &R, rest: &[String], has_tariff: bool) {
+fn report_settings<R: Eprint>(rt: &R, rest: &[String], has_tariff: bool) {
     match rest {
         [frames, seed, credits] => {
             let _ = is_setting_told(rt, frames.as_str(), seed.as_str(), credits.as_str());
         }
         [frames, seed, credits, _, _, _, _] if has_tariff => {
             if !is_setting_told(rt, frames.as_str(), seed.as_str(), credits.as_str()) {
-                tell(
+                report(
                     rt,
                     NAME,
                     "a tariff has four steps F:R, the first from 0 pages on, each from more than the one before; no number is above 1048576",
                 );
             }
         }
-        _ if has_tariff => tell(
+        _ if has_tariff => report(
             rt,
             NAME,
             "format takes three words, FRAMES SEED CREDITS, and then four steps F:R or none",
         ),
-        _ => tell(rt, NAME, "dry takes three words, FRAMES SEED CREDITS"),
+        _ => report(rt, NAME, "dry takes three words, FRAMES SEED CREDITS"),
     }
 }
 
@@ -112,7 +112,7 @@ fn is_seed_told<R: Eprint>(rt: &R, seed: &str) -> bool {
         return true;
     }
     if !seed.as_bytes().iter().all(|byte| byte.is_ascii_hexdigit()) {
-        tell(
+        report(
             rt,
             NAME,
             "SEED has a character that is no hexadecimal digit",

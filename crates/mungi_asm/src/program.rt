@@ -4,9 +4,9 @@ ghost use Rattle.mg_filter.specs.Statuses.{code_of};
 ghost use Rattle.mungi_asm.specs.Program.{Did};
 
 use crate::NAME;
-use crate::usage::tell_usage;
+use crate::usage::report_usage;
 use mg_asm_session::{TEXT_LIMIT, top};
-use mg_console::{Stream, tell_filter_status};
+use mg_console::{Stream, report_filter_status};
 use mg_filter::Status;
 use mg_io::{Sink, Source};
 use std::alloc::Global;
@@ -24,10 +24,10 @@ pub(crate) fn carry_out<R: AllocGlobal + Eprint, S: Source + Stream, O: Sink + S
 {
     let status = command(rt.alloc(), words, source, out, err);
     if status == Status::Usage {
-        tell_usage(rt, words);
+        report_usage(rt, words);
     }
     let limit = TEXT_LIMIT as u64;
-    tell_filter_status(rt, NAME, status, limit, source.error(), out.error());
+    report_filter_status(rt, NAME, status, limit, source.error(), out.error());
     status.code()
 }
 

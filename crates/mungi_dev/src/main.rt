@@ -10,7 +10,9 @@
 
 ghost use Rattle.std.specs.Prelude.{◌≡◌, ◌<◌};
 
-use mg_console::{NO_WORDS, Notes, Task, are_one_file, begin, mode_of, tell, tell_status, word};
+use mg_console::{
+    NO_WORDS, Notes, Task, are_one_file, begin, mode_of, report, report_status, word,
+};
 use mg_dev_program::{carry_out, is_mirror};
 use mg_disk::FileDisk;
 use mg_io::{ReaderSource, WriterSink};
@@ -47,7 +49,7 @@ fn on_files<L: Ledger>(rt: &HostRuntime, words: &[String], blank: Blank) -> u8
     let (left_path, right_path) = (word(words, 0), word(words, 2));
     let mirrors = is_mirror(words);
     if mirrors && left_path != right_path && are_one_file(rt, left_path, right_path) {
-        tell(rt, NAME, "LEFT and RIGHT are one file");
+        report(rt, NAME, "LEFT and RIGHT are one file");
     }
     let left = file_of(rt, left_path, right_path, mirrors);
     let right = file_of(rt, right_path, left_path, mirrors);
@@ -96,7 +98,7 @@ fn boxed<D: Drop>(alloc: Global, made: Result<D, AllocError>) -> Result<Box<D>, 
 
 /// The outcome if there is not enough memory for the devices. Nothing was done.
 fn without_memory(rt: &HostRuntime) -> u8 {
-    tell_status(rt, NAME, Status::Memory, None, None);
+    report_status(rt, NAME, Status::Memory, None, None);
     Status::Memory.code()
 }
 

@@ -4,12 +4,12 @@ use Rattle.std.specs.declared.alloc.Global.{Global}
 use Rattle.mg_disk.specs.declared.disk.Disk as disks
 use Rattle.mg_io.specs.declared.traits.Sink as sinks
 use Rattle.mg_serve.specs.declared.status.Status.{Status}
-use Rattle.mg_volume_session.specs.ByCommand.{words_of}
+use Rattle.mg_io.specs.Arguments.{arguments}
 use Rattle.mg_show.specs.Commands.{spelled}
 use Rattle.mg_show.specs.Headline.{ShowKeeps, UsageKeeps}
 use Rattle.mg_show.specs.declared.command.Text.{Text}
 
 -- What the program did, with this status at the end.
 pub record Did {D K : Type 0} (facts : disks.Ghosts D) (to : sinks.Ghosts K) (words : List (String Global)) (result : Status) (disk disk' : D) (sink sink' : K) : Type 0 where
-  pub shows : (text : Text) → spelled (words_of words) ≡ Some text → ShowKeeps facts to text result disk disk' sink sink'
-  pub usage : spelled (words_of words) ≡ None → UsageKeeps to result disk disk' sink sink'
+  pub shows : (text : Text) → spelled (arguments words) ≡ Some text → ShowKeeps facts to text result disk disk' sink sink'
+  pub usage : spelled (arguments words) ≡ None → UsageKeeps to result disk disk' sink sink'

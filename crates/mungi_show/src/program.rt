@@ -5,7 +5,9 @@ ghost use Rattle.mg_serve.specs.Sessions.{code_of};
 ghost use Rattle.mungi_show.specs.Program.{Did};
 
 use crate::NAME;
-use mg_console::{InFile, Stream, tell, tell_fault, tell_lines, tell_status, tell_volume, word};
+use mg_console::{
+    InFile, Stream, report, report_fault, report_lines, report_status, report_volume, word,
+};
 use mg_disk::Disk;
 use mg_io::Sink;
 use mg_session::Status;
@@ -33,7 +35,7 @@ pub(crate) fn carry_out<R: AllocGlobal + Eprint, D: Disk + InFile, K: Sink + Str
     ensures { EndsAs code_of (λ status. ThenReads D.Disk (λ left. Did D.Disk K.Sink words.now status disk.old left sink.old sink.new) disk.new) result }
 {
     let status = show(rt.alloc(), words, disk, sink);
-    tell_end(rt, words, status, disk, sink.error());
+    report_end(rt, words, status, disk, sink.error());
     status.code()
 }
 
@@ -45,7 +47,7 @@ fn show<D: Disk, K: Sink>(alloc: Global, words: &[String], disk: &mut D, sink: &
 }
 
 /// Says why the program ended with this status, and what only the file of the volume shows.
-fn tell_end<R: AllocGlobal + Eprint, D: Disk + InFile>(
+fn report_end<R: AllocGlobal + Eprint, D: Disk + InFile>(
     rt: &R,
     words: &[String],
     status: Status,
@@ -56,30 +58,30 @@ fn tell_end<R: AllocGlobal + Eprint, D: Disk + InFile>(
 {
     let path = word(words, 0);
     if status == Status::Disk {
-        tell_fault(rt, NAME, path, disk.fault());
+        report_fault(rt, NAME, path, disk.fault());
     }
     let found = disk.found();
-    tell_volume(rt, NAME, path, disk, found, status == Status::NoVolume);
+    report_volume(rt, NAME, path, disk, found, status == Status::NoVolume);
     if status == Status::Usage {
-        tell_usage(rt, words);
+        report_usage(rt, words);
     }
-    tell_status(rt, NAME, status, None, written);
+    report_status(rt, NAME, status, None, written);
 }
 
 /// Says what the program can be asked, and which word is at fault.
-fn tell_usage<R: Eprint>(rt: &R, words: &[String]) {
-    tell_lines(rt, &SYNOPSIS);
+fn report_usage<R: Eprint>(rt: &R, words: &[String]) {
+    report_lines(rt, &SYNOPSIS);
     match words {
-        [] => tell(rt, NAME, "no VOLUME is given"),
+        [] => report(rt, NAME, "no VOLUME is given"),
         [_, text] => {
             let text = text.as_str();
             let _ = eprintln!(rt; "{NAME}: {text} is no text: state, reach and dot are");
         }
-        [_, _, _, _, _] => tell(
+        [_, _, _, _, _] => report(
             rt,
             NAME,
             "the words after VOLUME are not dot thread NUMBER STEPS or dot object BASE STEPS, with 1 to 4096 steps",
         ),
-        _ => tell(rt, NAME, "there are not one, two or five words"),
+        _ => report(rt, NAME, "there are not one, two or five words"),
     }
 }

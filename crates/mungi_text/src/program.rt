@@ -4,8 +4,8 @@ ghost use Rattle.mg_filter.specs.Statuses.{code_of};
 ghost use Rattle.mungi_text.specs.Program.{Did};
 
 use crate::NAME;
-use crate::usage::tell_usage;
-use mg_console::{Stream, tell, tell_filter_status};
+use crate::usage::report_usage;
+use mg_console::{Stream, report, report_filter_status};
 use mg_document::BYTE_LIMIT;
 use mg_document_session::{Command, Status, TEXT_LIMIT, read_words, top};
 use mg_io::{Sink, Source};
@@ -26,13 +26,13 @@ pub(crate) fn carry_out<R: AllocGlobal + Eprint, S: Source + Stream, O: Sink + S
     let status = carried_out(rt.alloc(), words, source, out, err);
     let command = read_words(words);
     if status == Status::Usage {
-        tell_usage(rt, words);
+        report_usage(rt, words);
     }
     if status == Status::Done {
-        tell_place(rt, command);
+        report_place(rt, command);
     }
     let limit = limit_of(command);
-    tell_filter_status(rt, NAME, status, limit, source.error(), out.error());
+    report_filter_status(rt, NAME, status, limit, source.error(), out.error());
     status.code()
 }
 
@@ -58,9 +58,9 @@ fn limit_of(command: Option<Command>) -> u64 {
 }
 
 /// Prints that a document's address is in thread 1's capability list, if it is.
-fn tell_place<R: Eprint>(rt: &R, command: Option<Command>) {
+fn report_place<R: Eprint>(rt: &R, command: Option<Command>) {
     match command {
-        Some(Command::Put(_, address)) if address / PAGE_SIZE == ROOT_BASE / PAGE_SIZE => tell(
+        Some(Command::Put(_, address)) if address / PAGE_SIZE == ROOT_BASE / PAGE_SIZE => report(
             rt,
             NAME,
             "the first page of the root holds thread 1's capability list: what is stored there may change its rights",

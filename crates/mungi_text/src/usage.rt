@@ -1,6 +1,6 @@
 // Which word is at fault if the words spell no command.
 use crate::NAME;
-use mg_console::{is_address_told, is_told, tell, tell_lines};
+use mg_console::{is_address_told, is_told, report, report_lines};
 use mg_document::BYTE_LIMIT;
 use std::io::Eprint;
 
@@ -12,46 +12,46 @@ const SYNOPSIS: [&str; 3] = [
 ];
 
 /// Prints the commands, and which word is at fault.
-pub(crate) fn tell_usage<R: Eprint>(rt: &R, words: &[String]) {
-    tell_lines(rt, &SYNOPSIS);
+pub(crate) fn report_usage<R: Eprint>(rt: &R, words: &[String]) {
+    report_lines(rt, &SYNOPSIS);
     match words.split_first() {
-        None => tell(rt, NAME, "no command is given"),
-        Some((command, rest)) => tell_command(rt, command.as_str(), rest),
+        None => report(rt, NAME, "no command is given"),
+        Some((command, rest)) => report_command(rt, command.as_str(), rest),
     }
 }
 
 /// Prints what is wrong with a command and the words after it.
-fn tell_command<R: Eprint>(rt: &R, command: &str, rest: &[String]) {
+fn report_command<R: Eprint>(rt: &R, command: &str, rest: &[String]) {
     if command == "put" {
-        tell_put(rt, rest);
+        report_put(rt, rest);
     } else if command == "get" {
-        tell_get(rt, rest);
+        report_get(rt, rest);
     } else if command == "bytes" {
-        tell(rt, NAME, "bytes takes no word");
+        report(rt, NAME, "bytes takes no word");
     } else {
         let _ = eprintln!(rt; "{NAME}: {command} is no command");
     }
 }
 
 /// Prints what is wrong with the words after `put`.
-fn tell_put<R: Eprint>(rt: &R, rest: &[String]) {
+fn report_put<R: Eprint>(rt: &R, rest: &[String]) {
     match rest {
         [thread, address] => {
             let _ = is_place_told(rt, thread.as_str(), address.as_str());
         }
-        _ => tell(rt, NAME, "put takes two words, THREAD and ADDRESS"),
+        _ => report(rt, NAME, "put takes two words, THREAD and ADDRESS"),
     }
 }
 
 /// Prints what is wrong with the words after `get`.
-fn tell_get<R: Eprint>(rt: &R, rest: &[String]) {
+fn report_get<R: Eprint>(rt: &R, rest: &[String]) {
     match rest {
         [thread, address, bytes] => {
             if !is_place_told(rt, thread.as_str(), address.as_str()) {
                 let _ = is_told(rt, NAME, "BYTES", bytes.as_str(), 0, BYTE_LIMIT);
             }
         }
-        _ => tell(rt, NAME, "get takes three words, THREAD, ADDRESS and BYTES"),
+        _ => report(rt, NAME, "get takes three words, THREAD, ADDRESS and BYTES"),
     }
 }
 

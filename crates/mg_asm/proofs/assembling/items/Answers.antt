@@ -17,9 +17,9 @@ lines-preserved c =
     let more = words_in-more before c.in-Ok.item in
     let longer = ap length pushed in
     let one = length-append before (c.in-Ok.item ∷ []) in
-    let keeps : KeepsLabel c.lines.labels c.keep.new.labels c.in-Ok.item c.lines.count = search rules in
+    let keeps : KeepsLabel c.lines.labels c.add_label.new.labels c.in-Ok.item c.lines.count = search rules in
     record {
-      labels = subst (λ items. AreLabels c.keep.new.labels items) (sym pushed) (keeps before (line_reading c.cut.result.0.now) c.lines.invariant.labels c.lines.invariant.counted read);
+      labels = subst (λ items. AreLabels c.add_label.new.labels items) (sym pushed) (keeps before (line_reading c.cut.result.0.now) c.lines.invariant.labels c.lines.invariant.counted read);
       same = ap (λ items. items_behind items (split_at is_newline c.in-Some.more.now)) pushed
           ∙ sym (lines-next before c.lines.rest.now c.cut.result.0.now c.in-Some.more.now c.in-Ok.item pieces read)
           ∙ c.lines.invariant.same;

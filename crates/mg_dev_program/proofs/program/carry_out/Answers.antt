@@ -6,8 +6,8 @@ returns g c = record {
   status = c.command-ran.result.0;
   did = record {
     left = c.command-ran.result.2;
-    did = record { left = c.command-ran.result.3; did = c.command-ran.ensures; writes = c.tell_files.ensures.right };
-    writes = c.tell_files.ensures.left;
+    did = record { left = c.command-ran.result.3; did = c.command-ran.ensures; writes = c.report_files.ensures.right };
+    writes = c.report_files.ensures.left;
   };
   is_code = search rules;
 }

@@ -1,6 +1,6 @@
 use Rattle.std.proofs.Common.{sym, ◌∙◌, arith}
-use Rattle.mg_volume_session.specs.ByCommand.{words_of}
-use Rattle.mg_volume_session.proofs.Spelled.{format_of-five, format_of-nine, format_of-other, item, length-words_of, tariff_of-four}
+use Rattle.mg_io.specs.Arguments.{arguments}
+use Rattle.mg_volume_session.proofs.Spelled.{format_of-five, format_of-nine, format_of-other, item, length-arguments, tariff_of-four}
 use Rattle.mg_volume_session.proofs.words.format.Goals as goal
 use Rattle.mg_volume_session.proofs.words.format.Goals.{in_default-via-then-words-lt5, in_default-via-else-words-lt5+else-words-lt6+then-words-lt9, in_default-via-else-words-lt5+else-words-lt6+else-words-lt9+else-words-lt10}
 
@@ -10,7 +10,7 @@ returns-in-len5 c =
     let high = c.in-len5.len_below in
     let words = c.args.words.now in
     c.format_usual.ensures
-    ∙ format_of-five (words_of words) _ _ _ _ (length-words_of words ∙ omega arith)
+    ∙ format_of-five (arguments words) _ _ _ _ (length-arguments words ∙ omega arith)
     (item words 1 c.word-item.result (omega arith) c.word-item.is ∙ sym c.as_bytes.ensures.value)
     (item words 2 c.frames-item.result (omega arith) c.frames-item.is ∙ sym c.as_bytes-in-len5.ensures.value)
     (item words 3 c.seed-item.result (omega arith) c.seed-item.is ∙ sym c.as_bytes-in-len5-2.ensures.value)
@@ -22,7 +22,7 @@ returns-in-len9 c =
     let high = c.in-len9.len_below in
     let words = c.args.words.now in
     c.format_with.ensures
-    ∙ format_of-nine (words_of words) _ _ _ _ _ (length-words_of words ∙ omega arith)
+    ∙ format_of-nine (arguments words) _ _ _ _ _ (length-arguments words ∙ omega arith)
     (item words 1 c.word-item-then-words-lt10.result (omega arith) c.word-item-then-words-lt10.is ∙ sym c.as_bytes-in-len9-5.ensures.value)
     (item words 2 c.frames-item-then-words-lt10.result (omega arith) c.frames-item-then-words-lt10.is ∙ sym c.as_bytes-in-len9-6.ensures.value)
     (item words 3 c.seed-item-then-words-lt10.result (omega arith) c.seed-item-then-words-lt10.is ∙ sym c.as_bytes-in-len9-7.ensures.value)

@@ -1,6 +1,6 @@
 use Rattle.std.proofs.Common.{sym, ◌∙◌, arith}
-use Rattle.mg_volume_session.specs.ByCommand.{words_of}
-use Rattle.mg_volume_session.proofs.Spelled.{gen_of-four, gen_of-other, item, length-words_of}
+use Rattle.mg_io.specs.Arguments.{arguments}
+use Rattle.mg_volume_session.proofs.Spelled.{gen_of-four, gen_of-other, item, length-arguments}
 use Rattle.mg_volume_session.proofs.words.generated.Goals as goal
 
 pub returns-in-len4-clause-run : goal.returns-in-len4-clause-run
@@ -9,7 +9,7 @@ returns-in-len4-clause-run c =
     let high = c.in-len4.len_below in
     let words = c.args.words.now in
     c.gen_with.ensures.run
-    ∙ gen_of-four (words_of words) _ _ _ (length-words_of words ∙ omega arith)
+    ∙ gen_of-four (arguments words) _ _ _ (length-arguments words ∙ omega arith)
     (item words 1 c.word-item.result (omega arith) c.word-item.is ∙ sym c.as_bytes.ensures.value)
     (item words 2 c.number-item.result (omega arith) c.number-item.is ∙ sym c.as_bytes-in-len4.ensures.value)
     (item words 3 c.lines-item.result (omega arith) c.lines-item.is ∙ sym c.as_bytes-in-len4-2.ensures.value)

@@ -5,9 +5,9 @@ use Rattle.mg_disk.proofs.memory.MemDiskDisk.sync.Goals as goal
 pub returns-in-Passes-clause-meets : goal.returns-in-Passes-clause-meets
 returns-in-Passes-clause-meets c =
     let was = c.args.self.now in
-    let s = c.settle.ensures in
+    let s = c.record_sync.ensures in
     record {
-      durable = settled _ _ _ _ _ c.settle.new.self.held s.touched (s.synced ∙ sym s.content);
+      durable = settled _ _ _ _ _ c.record_sync.new.self.held s.touched (s.synced ∙ sym s.content);
       seen = ap (λ x. Some x) s.content;
       rules = record {
         stops = synced_goes was.first.items _ was.events.items _ _ was.held was.pending s.first s.events;

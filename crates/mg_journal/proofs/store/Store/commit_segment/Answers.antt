@@ -34,12 +34,12 @@ returns-clause-done g c image told =
 pub returns-clause-stands : goal.returns-clause-stands
 returns-clause-stands g c =
     let store = c.make_room.new.self in
-    let after = c.note.new.self in
+    let after = c.add_segment.new.self in
     let writes = c.args.writes.now in
     let stands = c.in_ok-make_room.ensures.stands in
     let low = stands.journal in
     let high = stands.room in
-    let total = c.note.ensures.total in
+    let total = c.add_segment.ensures.total in
     record {
       journal = omega arith;
       room = omega (arith, c.write_next.ensures.calls.blocks);
@@ -47,21 +47,21 @@ returns-clause-stands g c =
       fits = λ z told.
           let b = some_of (λ image. IsNext store.total store.opened writes image z) (g.D.Disk.seen c.make_room.new.disk)
           (came_back (IsNext store.total store.opened writes) (g.D.Disk.seen c.make_room.new.disk) (g.D.Disk.seen c.write_next.new.disk) c.in_ok-write_next.ensures.tells c.in_ok-write_next.ensures.next z told) in
-          let holds = holds_next store.total store.opened store.table after.table writes b.0 z c.in_ok-make_room.ensures.fewer_than_8_open (held_fits store b.0 (stands.fits b.0 b.1)) b.2 c.note.ensures.added
+          let holds = holds_next store.total store.opened store.table after.table writes b.0 z c.in_ok-make_room.ensures.fewer_than_8_open (held_fits store b.0 (stands.fits b.0 b.1)) b.2 c.add_segment.ensures.added
           (ap (λ n. homes_fit n writes) c.make_room.ensures.total ∙ c.requires.homes) c.requires.at_most_160_writes in
-          fits_held after z (subst (λ n. HoldsOpen n after.opened after.table z) (sym total) (subst (λ n. HoldsOpen store.total n after.table z) (sym c.note.ensures.opened) holds));
+          fits_held after z (subst (λ n. HoldsOpen n after.opened after.table z) (sym total) (subst (λ n. HoldsOpen store.total n after.table z) (sym c.add_segment.ensures.opened) holds));
     }
 
 pub returns-clause-late : goal.returns-clause-late
 returns-clause-late g c image told =
     let store = c.args.self.now in
     let next = c.make_room.new.self in
-    let after = c.note.new.self in
+    let after = c.add_segment.new.self in
     let writes = c.args.writes.now in
     let z = some_of (λ now. NewContents store.total image writes now) (g.D.Disk.seen c.write_next.new.disk) (returns-clause-done g c image told) in
     let stands = returns-clause-stands g c in
     let place = c.in_ok-make_room.ensures.fewer_than_8_open in
-    let more = c.note.ensures.opened in
+    let more = c.add_segment.ensures.opened in
     let before = counted store.total store.opened store.table image (held_fits store image (c.requires.stands.fits image told)) c.make_room.ensures.at_most_8_open in
     let then = counted after.total after.opened after.table z.0 (held_fits after z.0 (stands.fits z.0 z.1)) (omega arith) in
     subst (λ o. IsSomeAnd o (IsLate image)) (sym z.1)

@@ -1,5 +1,5 @@
 use Rattle.mg_volume_session.specs.OpeningLemmas.{fault_may_tell, fault_tells, told_done, told_prefix, told_without, unopened_without}
-use Rattle.mg_volume_session.proofs.checking.tell.Goals as goal
+use Rattle.mg_volume_session.proofs.checking.print_line.Goals as goal
 
 pub returns-in-Ok-clause-done : goal.returns-in-Ok-clause-done
 returns-in-Ok-clause-done g c =

@@ -4,7 +4,7 @@ use Rattle.mg_disk.specs.Held.{run, start}
 use Rattle.mg_disk.specs.HeldLemmas.{held_more}
 use Rattle.mg_disk.specs.PlaceLemmas.{same_as, none_in_none}
 use Rattle.mg_disk.specs.declared.memory.Event.TheVariants.{Synced}
-use Rattle.mg_disk.proofs.memory.MemDisk.settle.Goals as goal
+use Rattle.mg_disk.proofs.memory.MemDisk.record_sync.Goals as goal
 
 pub copy_at-requires-clause-in_range : goal.copy_at-requires-clause-in_range
 copy_at-requires-clause-in_range c =

@@ -1,6 +1,6 @@
 use Rattle.std.proofs.Common.{refl}
 use Rattle.mg_asm.proofs.Placed.{keeps-label, keeps-other, on_ok_map}
-use Rattle.mg_asm.proofs.labels.keep.Goals as goal
+use Rattle.mg_asm.proofs.labels.add_label.Goals as goal
 
 pub returns-in-Label : goal.returns-in-Label
 returns-in-Label c = on_ok_map c.add.result (keeps-label c.args.labels.now c.add.new.labels c.args.item.now c.in-Label.name c.args.place c.in-Label.is) c.add.ensures
