@@ -3,7 +3,7 @@
 openings beside reading the file, lines a second that are kept nowhere, instructions a line, and calls of the disk.
 
     bench/measure.py [--program PATH] [--before PATH] [--folder FOLDER] [--seconds S] [--svg FILE]
-    bench/measure.py --full [--program PATH] [--mirror PATH] [--folder FOLDER]
+    bench/measure.py --full [--program PATH] [--mirror PATH] [--show PATH ..] [--folder FOLDER]
 
 It prints one table. A rate of mungi is that of a run less a run on no lines, both with the page cache warm; lines come from a file, and
 answers go into one. The floor is the rate of bench/floor.c, which makes just the system calls that the protocol needs, and once
@@ -18,7 +18,7 @@ program, whose time for a million lines is given too.
 With --full it measures a full volume instead: 65,536 frames, 4,096 objects, 61,426 pages and 256 threads. Openings stand beside `cat`
 of the blocks up to the end of the frame table, least of 20 with the page cache warm, and of 5 if it is dropped before each, which
 takes a system that lets it be dropped; a migration, and a mirror's copy by the program mungi_dev, stand beside `cp`, with a sync and
-without. Their ratio is that of the speeds.
+without. Their ratio is that of the speeds. What mungi_show prints is measured too, and of each build after the first beside the first.
 """
 import argparse
 import itertools
@@ -355,7 +355,20 @@ def cost_of(name, command):
     row(f"{name}, page cache warm", ", ".join(counts))
 
 
-def measure_full(program, mirror, folder):
+def measure_shown(shows, volume):
+    """The texts of a volume, by each of these builds in turn; the ratio is of the time to that of the first build."""
+    for text in ("state", "reach", "dot"):
+        first = None
+        for show in shows:
+            command = [show, volume, text]
+            took = least(command)
+            first = first or took
+            lines = subprocess.run(command, capture_output=True, check=True).stdout.count(b"\n")
+            told = f"{counted(command):,} instructions" if shutil.which("valgrind") else ""
+            row(f"`{os.path.basename(show)} {text}`, page cache warm", f"{1000 * took:.1f} ms", f"{lines:,} lines, {told}", f"{took / first:.2f}")
+
+
+def measure_full(program, mirror, shows, folder):
     volume, head, old, new = (f"{folder}/{name}" for name in ("vol", "head", "old", "new"))
     full_volume(program, volume)
     with open(volume, "rb") as whole:
@@ -379,6 +392,9 @@ def measure_full(program, mirror, folder):
         print("mungi_dev is not built: no copy of a mirror", file=sys.stderr)
     else:
         copies_beside_cp("mirror of a full volume, on no lines", [mirror, volume, "mirror", new, "left"], volume, new)
+    if not shows:
+        print("mungi_show is not built: no texts of the volume", file=sys.stderr)
+    measure_shown(shows, volume)
 
 
 def made_anew(command, target):
@@ -425,6 +441,7 @@ def main():
     parser = argparse.ArgumentParser(description=__doc__, formatter_class=argparse.RawDescriptionHelpFormatter)
     parser.add_argument("--program")
     parser.add_argument("--mirror")
+    parser.add_argument("--show", nargs="+", default=[])
     parser.add_argument("--folder")
     parser.add_argument("--before")
     parser.add_argument("--seconds", type=float, default=1.0)
@@ -437,9 +454,11 @@ def main():
     program = os.path.abspath(words.program)
     if words.mirror is None and (TOP / "crates/mungi_dev/out/mungi_dev").exists():
         words.mirror = str(TOP / "crates/mungi_dev/out/mungi_dev")
+    if not words.show and (TOP / "crates/mungi_show/out/mungi_show").exists():
+        words.show = [str(TOP / "crates/mungi_show/out/mungi_show")]
     if words.full:
         with tempfile.TemporaryDirectory(dir=words.folder) as folder:
-            measure_full(program, words.mirror, folder)
+            measure_full(program, words.mirror, words.show, folder)
         return
     print(f"SQLite {sqlite3.sqlite_version}, WAL, synchronous FULL; {words.seconds} seconds or more a rate\n")
     row("what", "mungi", "beside it", "ratio")
