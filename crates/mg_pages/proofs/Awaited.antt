@@ -1,6 +1,5 @@
 -- The blocks that an image will have, if a journal fits it.
-use Rattle.std.specs.Prelude.{◌≡◌, ◌<◌, ℕ, true, List, [], length, Option, Some, None}
-use Rattle.std.specs.Option.{option_map_or}
+use Rattle.std.specs.Prelude.{◌≡◌, ◌<◌, ℕ, true, List, [], length, Some, None}
 use Rattle.std.proofs.Common.{sym, ap, ◌∙◌, arith}
 use Rattle.mg_disk.specs.Disk.{Image, block_at}
 use Rattle.mg_journal.specs.JournalLemmas.{open_writes, replayed-is}
@@ -12,14 +11,12 @@ use Rattle.mg_model.specs.Replay.{replay}
 use Rattle.mg_pages.proofs.Staging.{written-none, written-waiting}
 use Rattle.mg_pages.specs.Meaning.{replayed}
 use Rattle.mg_pages.specs.Parts.{coming_of}
-
-pub replayed-some : (total : ℕ) (image r : Image) → replay image total ≡ Some r → replayed total image ≡ r
-replayed-some total image r is = ap (λ (o : Option Image). option_map_or (λ (v : Image). v) o image) is
+use Rattle.mg_pages.specs.SpelledLemmas.{replayed_is}
 
 pub fits-replayed : (store : Store) (image : Image) → IsFitting store image → replay image (total_of store) ≡ Some (replayed (total_of store) image)
 fits-replayed store image fits =
     let r = fitting_replays store image fits in
-    r.1 ∙ ap (λ (v : Image). Some v) (sym (replayed-some (total_of store) image r.0 r.1))
+    r.1 ∙ ap (λ (v : Image). Some v) (sym (replayed_is (total_of store) image r.0 r.1))
 
 pub length-coming : (store : Store) (writes : List (ℕ × List ℕ)) (image : Image) → IsFitting store image → length (coming_of store writes image) ≡ length image
 length-coming store writes image fits =

@@ -4,12 +4,12 @@ use Rattle.std.specs.Option.{ForSome}
 use Rattle.std.proofs.Common.{refl, sym, ap, subst, ◌∙◌, ⊎_elim}
 use Rattle.std.proofs.lemmas.Bool.{cases_Bool, eq-eqb, false≢true}
 use Rattle.mg_disk.specs.Disk.{Image, block_at}
-use Rattle.mg_journal.specs.Staged.{staged, waiting}
+use Rattle.mg_journal.specs.Staged.{staged}
 use Rattle.mg_journal.specs.Standing.{IsFitting, total_of}
 use Rattle.mg_journal.specs.Held.{Store}
 use Rattle.mg_model.specs.Replay.{replay}
 use Rattle.mg_pages.proofs.Awaited.{fits-replayed}
-use Rattle.mg_pages.proofs.Staging.{staged-here, staged-there, waiting-here, waiting-there}
+use Rattle.mg_pages.proofs.Staging.{staged-here, staged-there}
 use Rattle.mg_pages.specs.declared.blocks.Blocks.{Blocks}
 use Rattle.mg_pages.specs.Held.{with_writes}
 use Rattle.mg_pages.specs.Kept.{AreKept}
@@ -54,16 +54,6 @@ staged-twice ((i, z) ∷ ws) b x y = ⊎_elim here (other (staged-twice ws b x y
 
     other : staged (staged ws b x) b y ≡ staged ws b y → (i == b) ≡ false → staged (staged ((i, z) ∷ ws) b x) b y ≡ staged ((i, z) ∷ ws) b y
     other rest is = ap (λ w. staged w b y) (staged-there i b z x ws is) ∙ staged-there i b z y (staged ws b x) is ∙ ap (λ w. (i, z) ∷ w) rest ∙ sym (staged-there i b z y ws is)
-
-pub waiting-staged : (ws : List (ℕ × List ℕ)) (b : ℕ) (x : List ℕ) → waiting (staged ws b x) b ≡ Some x
-waiting-staged [] b x = waiting-here b b x [] (eq-eqb b b refl)
-waiting-staged ((i, z) ∷ ws) b x = ⊎_elim here (other (waiting-staged ws b x)) (cases_Bool (i == b))
-  where
-    here : (i == b) ≡ true → waiting (staged ((i, z) ∷ ws) b x) b ≡ Some x
-    here is = ap (λ w. waiting w b) (staged-here i b z x ws is) ∙ waiting-here b b x ws (eq-eqb b b refl)
-
-    other : waiting (staged ws b x) b ≡ Some x → (i == b) ≡ false → waiting (staged ((i, z) ∷ ws) b x) b ≡ Some x
-    other rest is = ap (λ w. waiting w b) (staged-there i b z x ws is) ∙ waiting-there i b z (staged ws b x) is ∙ rest
 
 -- what stages alone leaves the journal and what is kept
 pub keeps-writes : (told : Option Image) (first : ℕ) (old new : Blocks) → new ≡ with_writes old new.writes → KeepsMore told first old new

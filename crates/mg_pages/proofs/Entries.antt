@@ -10,28 +10,25 @@ use Rattle.mg_model.specs.Layout.{table_block, table_blocks}
 use Rattle.mg_model.specs.RowLemmas.{are_zeros-replicate}
 use Rattle.mg_model.specs.Volume.{table_entries, whole_table}
 use Rattle.mg_pages.proofs.Numbers.{number-of}
-use Rattle.mg_pages.specs.LengthLemmas.{length-numbers}
+use Rattle.mg_pages.specs.LengthLemmas.{length-block}
 use Rattle.mg_pages.specs.Entries.{HoldsTable}
-
-long-block : (bytes : List ℕ) → length (block_words bytes) ≡ 512
-long-block bytes = length-numbers bytes 0 512
 
 pub length-entries : (image : Image) (b n : ℕ) → length (table_entries image b n) ≡ 512 * n
 length-entries image b zero = refl
 length-entries image b (suc n) =
     let e = length-append (block_words (block_at image b)) (table_entries image (b + 1) n) in
-    let f = long-block (block_at image b) in
+    let f = length-block (block_at image b) in
     let h = length-entries image (b + 1) n in
     omega arith
 
 first-entry : (bytes rest : List ℕ) (j : ℕ) → j < 512 → get_or (block_words bytes ++ rest) j 0 ≡ number_at bytes (8 * j)
 first-entry bytes rest j below =
     let e : 0 + 8 * j ≡ 8 * j = omega arith in
-    get_or_append_left (block_words bytes) rest 0 j (let f = long-block bytes in omega arith) ∙ number-of bytes 0 512 j below ∙ ap (number_at bytes) e
+    get_or_append_left (block_words bytes) rest 0 j (let f = length-block bytes in omega arith) ∙ number-of bytes 0 512 j below ∙ ap (number_at bytes) e
 
 later-entry : (bytes rest : List ℕ) (j : ℕ) → get_or (block_words bytes ++ rest) (512 + j) 0 ≡ get_or rest j 0
 later-entry bytes rest j =
-    ap (λ n. get_or (block_words bytes ++ rest) (n + j) 0) (sym (long-block bytes)) ∙ get_or-append-add (block_words bytes) rest j 0
+    ap (λ n. get_or (block_words bytes ++ rest) (n + j) 0) (sym (length-block bytes)) ∙ get_or-append-add (block_words bytes) rest j 0
 
 pub entry-of : (image : Image) (b n k j : ℕ) → k < n → j < 512 → get_or (table_entries image b n) (512 * k + j) 0 ≡ number_at (block_at image (b + k)) (8 * j)
 entry-of image b zero k j few below = absurd (omega arith)

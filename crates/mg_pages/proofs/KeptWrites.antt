@@ -9,7 +9,7 @@ use Rattle.mg_journal.specs.Contents.{names}
 use Rattle.mg_journal.specs.Staged.{are_once, bytes_of, home_at, waiting}
 use Rattle.mg_model.specs.Layout.{globals_block}
 use Rattle.mg_model.specs.Replay.{homes_fit, written}
-use Rattle.mg_pages.proofs.Staging.{some_list, none_list, waiting-here, waiting-there, written-none, written-waiting}
+use Rattle.mg_pages.proofs.Staging.{some_list, none_list, waiting-here, waiting-named, waiting-there, written-none, written-waiting}
 use Rattle.mg_pages.specs.Kept.{AreKept, AreKeptBut, KeepsBesides, KeepsSame, KeepsThis, kept_at}
 
 -- the same blocks are kept
@@ -93,16 +93,10 @@ waits-below total ((k, y) ∷ ws) i x fit is =
 abbrev pub AreKeptUpTo : List (ℕ × List ℕ) → List (ℕ × List ℕ) → ℕ → Image → List (ℕ × List ℕ) → Type 0
 AreKeptUpTo rest writes first r kept = (i : ℕ) (bytes : List ℕ) → kept_at kept i ≡ Some bytes → first ≤ i → waiting writes i ≡ None → (bytes ≡ block_at r i) ⊎ (names rest i ≡ true)
 
-waits-named : (ws : List (ℕ × List ℕ)) (i : ℕ) (x : List ℕ) → waiting ws i ≡ Some x → names ws i ≡ true
-waits-named [] i x is = absurd (none_list x (sym is))
-waits-named ((k, y) ∷ ws) i x is =
-    ⊎_elim (λ same. or_left (k == i) (names ws i) same)
-    (λ apart. or_right (k == i) (names ws i) (waits-named ws i x (sym (waiting-there k i y ws apart) ∙ is))) (cases_Bool (k == i))
-
 module _ (first : ℕ) (r : Image) (last writes : List (ℕ × List ℕ)) where
   pub kept-begun : (kept : List (ℕ × List ℕ)) → AreKept first r (last ++ kept) → AreKeptUpTo last writes first r kept
   kept-begun kept are i bytes found low free =
-      ⊎_elim (λ none. inl (are i bytes (kept-behind last kept i none ∙ found) low)) (λ goes. inr (waits-named last i goes.0 goes.1)) (goes-or-not last i)
+      ⊎_elim (λ none. inl (are i bytes (kept-behind last kept i none ∙ found) low)) (λ goes. inr (waiting-named last i goes.0 goes.1)) (goes-or-not last i)
 
   -- one write of the last commit more
   module _ (k : ℕ) (below : k < length last) where

@@ -1,42 +1,18 @@
 -- A word is written into a block that is staged.
-use Rattle.std.specs.Prelude.{◌≡◌, ◌≤◌, ◌<◌, ◌==◌, ℕ, true, false, List, [], ◌∷◌, length, IfSome, MatchOption, Option, Some, None}
-use Rattle.std.proofs.Common.{refl, sym, ap, ◌∙◌, ⊎_elim, inl, arith}
-use Rattle.std.proofs.lemmas.Bool.{cases_Bool, eq-eqb, or_left, or_right}
+use Rattle.std.specs.Prelude.{◌≡◌, ◌≤◌, ◌<◌, ℕ, List, length, IfSome, MatchOption, Option, Some, None}
+use Rattle.std.proofs.Common.{ap, ◌∙◌, inl, arith}
 use Rattle.mg_disk.specs.Disk.{Image, block_at}
-use Rattle.mg_journal.specs.Contents.{names}
 use Rattle.mg_journal.specs.Staged.{staged, waiting}
 use Rattle.mg_model.specs.Layout.{globals_block, table_block}
 use Rattle.mg_pages.proofs.Awaited.{coming-waiting}
 use Rattle.mg_pages.proofs.OneBlock.{coming-more, here-more, shape-more, spelled-more, stages-more}
 use Rattle.mg_pages.proofs.Opened.{same-pages}
 use Rattle.mg_pages.proofs.Sound.{sound-staged}
-use Rattle.mg_pages.proofs.Staging.{length-again, staged-here, staged-there, waiting-here, waiting-there}
+use Rattle.mg_pages.proofs.Staging.{length-again, waiting-named, waiting-staged}
 use Rattle.mg_pages.specs.declared.blocks.Blocks.{Blocks}
 use Rattle.mg_pages.specs.declared.pages.Pages.{Pages}
 use Rattle.mg_pages.specs.Held.{IsSound, with_writes}
 use Rattle.mg_pages.specs.Meaning.{IsSpelledBy, Restages, coming, is_staged, staged_of, table_in, total_of, waiting_in, words_in}
-
--- what was staged last waits
-pub waiting-staged : (ws : List (ℕ × List ℕ)) (b : ℕ) (y : List ℕ) → waiting (staged ws b y) b ≡ Some y
-waiting-staged [] b y = waiting-here b b y [] (eq-eqb b b refl)
-waiting-staged ((i, x) ∷ ws) b y = ⊎_elim here (there (waiting-staged ws b y)) (cases_Bool (i == b))
-  where
-    here : (i == b) ≡ true → waiting (staged ((i, x) ∷ ws) b y) b ≡ Some y
-    here same = ap (λ w. waiting w b) (staged-here i b x y ws same) ∙ waiting-here b b y ws (eq-eqb b b refl)
-
-    there : waiting (staged ws b y) b ≡ Some y → (i == b) ≡ false → waiting (staged ((i, x) ∷ ws) b y) b ≡ Some y
-    there rest other = ap (λ w. waiting w b) (staged-there i b x y ws other) ∙ waiting-there i b x (staged ws b y) other ∙ rest
-
--- a block that something waits for is named
-pub waiting-named : (ws : List (ℕ × List ℕ)) (b : ℕ) (x : List ℕ) → waiting ws b ≡ Some x → names ws b ≡ true
-waiting-named [] b x is = absurd (cc)
-waiting-named ((i, y) ∷ ws) b x is = ⊎_elim here (there (waiting-named ws b x)) (cases_Bool (i == b))
-  where
-    here : (i == b) ≡ true → names ((i, y) ∷ ws) b ≡ true
-    here same = or_left (i == b) (names ws b) same
-
-    there : (waiting ws b ≡ Some x → names ws b ≡ true) → (i == b) ≡ false → names ((i, y) ∷ ws) b ≡ true
-    there rest other = or_right (i == b) (names ws b) (rest (sym (waiting-there i b y ws other) ∙ is))
 
 -- what waits is what is coming there
 pub was-there : (p : Pages) (block : ℕ) → block < table_block → (o : Option (List ℕ)) → waiting p.blocks.writes block ≡ o → IfSome o (λ bytes. (image : Image) → IsSpelledBy p image → block_at (coming p image) block ≡ bytes)

@@ -3,7 +3,7 @@ use Rattle.std.specs.Prelude.{◌≡◌, ◌+◌, ◌≤◌, ◌<◌, ◌==◌, 
 use Rattle.std.specs.List.{position}
 use Rattle.std.specs.Option.{option_map_or}
 use Rattle.std.proofs.Common.{refl, sym, ap, ◌∙◌, ⊎_elim, arith, length-append}
-use Rattle.std.proofs.lemmas.Bool.{and_from, and_parts, both_ways, cases_Bool, eq-eqb, eqb-true, le-leb, lt-ltb, ne_eqb, not_from_false, not-true, or_from, or_parts}
+use Rattle.std.proofs.lemmas.Bool.{and_from, and_parts, both_ways, cases_Bool, eq-eqb, eqb-true, le-leb, lt-ltb, ne_eqb, not_from_false, not-true, or_from, or_left, or_parts, or_right}
 use Rattle.std.proofs.lemmas.List.{get_or-set_same, length-set, set_comm, set-set}
 use Rattle.mg_disk.specs.Disk.{Image, block_at}
 use Rattle.mg_frames.specs.Places.{position-here, position-there}
@@ -199,3 +199,25 @@ written-waiting ((i, y) ∷ ws) r k x once below is = ⊎_elim here (there (λ r
 
     there : (are_once ws ≡ true → k < length (slice_set r i y) → waiting ws k ≡ Some x → block_at (written (slice_set r i y) ws) k ≡ x) → (i == k) ≡ false → block_at (written (slice_set r i y) ws) k ≡ x
     there rest not_same = rest those.1 (let n = length-set r i y in omega arith) (sym (waiting-there i k y ws not_same) ∙ is)
+
+-- what was staged last waits
+pub waiting-staged : (ws : List (ℕ × List ℕ)) (b : ℕ) (y : List ℕ) → waiting (staged ws b y) b ≡ Some y
+waiting-staged [] b y = waiting-here b b y [] (eq-eqb b b refl)
+waiting-staged ((i, x) ∷ ws) b y = ⊎_elim here (there (waiting-staged ws b y)) (cases_Bool (i == b))
+  where
+    here : (i == b) ≡ true → waiting (staged ((i, x) ∷ ws) b y) b ≡ Some y
+    here same = ap (λ w. waiting w b) (staged-here i b x y ws same) ∙ waiting-here b b y ws (eq-eqb b b refl)
+
+    there : waiting (staged ws b y) b ≡ Some y → (i == b) ≡ false → waiting (staged ((i, x) ∷ ws) b y) b ≡ Some y
+    there rest other = ap (λ w. waiting w b) (staged-there i b x y ws other) ∙ waiting-there i b x (staged ws b y) other ∙ rest
+
+-- a block that something waits for is named
+pub waiting-named : (ws : List (ℕ × List ℕ)) (b : ℕ) (x : List ℕ) → waiting ws b ≡ Some x → names ws b ≡ true
+waiting-named [] b x is = absurd (cc)
+waiting-named ((i, y) ∷ ws) b x is = ⊎_elim here (there (waiting-named ws b x)) (cases_Bool (i == b))
+  where
+    here : (i == b) ≡ true → names ((i, y) ∷ ws) b ≡ true
+    here same = or_left (i == b) (names ws b) same
+
+    there : (waiting ws b ≡ Some x → names ws b ≡ true) → (i == b) ≡ false → names ((i, y) ∷ ws) b ≡ true
+    there rest other = or_right (i == b) (names ws b) (rest (sym (waiting-there i b y ws other) ∙ is))

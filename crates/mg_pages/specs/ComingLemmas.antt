@@ -1,6 +1,5 @@
 -- Lemmas on what lies outside the journal's reach: the length of an image, and the blocks before the globals.
-use Rattle.std.specs.Prelude.{◌≡◌, ◌+◌, ◌<◌, ◌&&◌, nat_le, nat_lt, ℕ, zero, suc, true, false, List, [], ◌∷◌, ◌++◌, length, slice_set, Option, Some}
-use Rattle.std.specs.Option.{option_map_or}
+use Rattle.std.specs.Prelude.{◌≡◌, ◌+◌, ◌<◌, ◌&&◌, nat_le, nat_lt, ℕ, zero, suc, true, false, List, [], ◌∷◌, ◌++◌, length, slice_set, Some}
 use Rattle.std.proofs.Common.{refl, sym, ap, ◌∙◌, ⊎_elim, arith}
 use Rattle.std.proofs.lemmas.Bool.{and_from, and_parts, cases_Bool, leb-true}
 use Rattle.std.proofs.lemmas.List.{get_or-set_other}
@@ -13,7 +12,7 @@ use Rattle.mg_model.specs.Layout.{body_limit, globals_block, segment_count}
 use Rattle.mg_model.specs.Replay.{block_of, body_count, homes_fit, is_open, replay, segment_fits, segments_fit, writes_of, writes_since, written}
 use Rattle.mg_model.specs.VolumeLemmas.{length-written}
 use Rattle.mg_pages.specs.declared.pages.Pages.{Pages}
-use Rattle.mg_pages.specs.SpelledLemmas.{replays}
+use Rattle.mg_pages.specs.SpelledLemmas.{replayed_is, replays}
 use Rattle.mg_pages.specs.Meaning.{IsSpelledBy, coming, replayed, total_of}
 
 -- no home lies before the globals
@@ -57,9 +56,6 @@ pub length_replay : (total : ℕ) (a r : Image) → replay a total ≡ Some r �
 length_replay total a r is = ap (λ (i : Image). length i) (replayed-is total a r is) ∙ length-written a (open_writes a)
 
 -- So does what is staged.
-replayed_is : (total : ℕ) (image r : Image) → replay image total ≡ Some r → replayed total image ≡ r
-replayed_is total image r is = ap (λ (o : Option Image). option_map_or (λ (v : Image). v) o image) is
-
 pub length_coming : (p : Pages) (image : Image) → IsSpelledBy p image → length (coming p image) ≡ length image
 unfolding coming total_of
 length_coming p image is =

@@ -63,7 +63,7 @@ unfolding staged_in staged_of
 same_number p q same = ap (λ (ws : List (ℕ × List ℕ)). length ws) same
 
 -- the journal can be replayed
-replayed_is : (total : ℕ) (image r : Image) → replay image total ≡ Some r → replayed total image ≡ r
+pub replayed_is : (total : ℕ) (image r : Image) → replay image total ≡ Some r → replayed total image ≡ r
 replayed_is total image r is = ap (λ (o : Option Image). option_map_or (λ (v : Image). v) o image) is
 
 pub replays : (p : Pages) (image : Image) → IsSpelledBy p image → (r : Image) × (replay image (total_of p) ≡ Some r)

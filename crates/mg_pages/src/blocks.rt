@@ -17,7 +17,7 @@ ghost use Rattle.mg_pages.specs.Meaning.{replayed};
 ghost use Rattle.mg_pages.specs.Parts.{KeepsMore, StagesBlock, coming_of};
 
 use crate::blank::Blank;
-use crate::kept::Kept;
+use crate::kept::CachedBlocks;
 use crate::words::{staged_word, word_at};
 use mg_disk::{BLOCK_SIZE, Block, Disk};
 use mg_faults::Failed;
@@ -29,7 +29,7 @@ use std::alloc::{AllocError, Global};
 pub(crate) struct Blocks {
     store: Store,
     writes: Writes,
-    kept: Kept,
+    kept: CachedBlocks,
     // The zeros after the bytes that a block begins with.
     blank: Blank,
 }
@@ -42,7 +42,7 @@ impl Blocks {
         ensures bare { IfOk result (λ b. b.kept ≡ []) }
     {
         let writes = Writes::new(alloc)?;
-        let kept = Kept::new(alloc)?;
+        let kept = CachedBlocks::new(alloc)?;
         Ok(Blocks {
             store,
             writes,

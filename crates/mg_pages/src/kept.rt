@@ -18,14 +18,14 @@ use std::mem::swap;
 /// Blocks of the contents that are in memory: those that the last commit wrote, where they were staged, and before these the frame
 /// blocks in a cache. A block that each commit writes is so copied once a commit, when it is staged.
 #[derive(Drop)]
-pub(crate) struct Kept {
+pub(crate) struct CachedBlocks {
     // What the last commit wrote.
     last: Writes,
     // Of a block that the last commit wrote it may have what was there before.
     cache: Cache,
 }
 
-impl Model for Kept {
+impl Model for CachedBlocks {
     ghost use Rattle.std.specs.Prelude.{◌++◌, ℕ, List};
 
     ghost Value = { List (ℕ × List ℕ) };
@@ -33,14 +33,14 @@ impl Model for Kept {
     ghost view = { λ k. k.last ++ k.cache };
 }
 
-impl Kept {
+impl CachedBlocks {
     /// None yet.
-    pub(crate) fn new(alloc: Global) -> Result<Kept, AllocError>
+    pub(crate) fn new(alloc: Global) -> Result<CachedBlocks, AllocError>
         ensures { IfOk result (λ kept. kept ≡ []) }
     {
         let last = Writes::new(alloc)?;
         let cache = Cache::new(alloc)?;
-        Ok(Kept { last, cache })
+        Ok(CachedBlocks { last, cache })
     }
 
     /// The word at an index of a block that is kept.

@@ -3,8 +3,10 @@ use Rattle.mg_disk.specs.Disk.{block_at}
 use Rattle.mg_journal.specs.Staged.{staged, waiting}
 use Rattle.mg_journal.specs.Standing.{total_of}
 use Rattle.mg_model.specs.Bytes.{block_words}
-use Rattle.mg_pages.proofs.Awaited.{coming-none, coming-waiting, replayed-some}
-use Rattle.mg_pages.proofs.BlocksKept.{matched, missing, staged-twice, there, waiting-staged}
+use Rattle.mg_pages.proofs.Awaited.{coming-none, coming-waiting}
+use Rattle.mg_pages.proofs.BlocksKept.{matched, missing, staged-twice, there}
+use Rattle.mg_pages.proofs.Staging.{waiting-staged}
+use Rattle.mg_pages.specs.SpelledLemmas.{replayed_is}
 use Rattle.mg_pages.proofs.blocks.Blocks.set_word.Goals as goal
 
 pub returns-then-put_staged-clause-staged : goal.returns-then-put_staged-clause-staged
@@ -38,7 +40,7 @@ returns-in-Ok-clause-staged g c =
           put.are
           ∙ ap (λ bytes. slice_set (block_words bytes) c.args.index c.args.value)
           (coming-none now.store now.writes image block whole.bytes (c.requires.stands.fits image told) none.0
-          (λ r is. whole.are image told first low are ∙ ap (λ i. block_at i block) (replayed-some (total_of now.store) image r is)));
+          (λ r is. whole.are image told first low are ∙ ap (λ i. block_at i block) (replayed_is (total_of now.store) image r is)));
     }
 
 pub returns-in-Ok-clause-keeps : goal.returns-in-Ok-clause-keeps

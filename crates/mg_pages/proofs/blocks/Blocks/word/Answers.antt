@@ -6,13 +6,14 @@ use Rattle.mg_journal.specs.ResultLemmas.{some_of}
 use Rattle.mg_journal.specs.Staged.{waiting}
 use Rattle.mg_journal.specs.Standing.{total_of}
 use Rattle.mg_model.specs.Bytes.{number_at}
-use Rattle.mg_pages.proofs.Awaited.{coming-none, coming-waiting, replayed-some}
+use Rattle.mg_pages.proofs.Awaited.{coming-none, coming-waiting}
 use Rattle.mg_pages.proofs.BlocksKept.{keeps-then}
 use Rattle.mg_pages.proofs.KeptWrites.{kept-same}
 use Rattle.mg_pages.proofs.Staging.{written-none}
 use Rattle.mg_pages.specs.Kept.{AreKept, kept_at}
 use Rattle.mg_pages.specs.Meaning.{replayed}
 use Rattle.mg_pages.specs.Parts.{coming_of}
+use Rattle.mg_pages.specs.SpelledLemmas.{replayed_is}
 use Rattle.mg_pages.proofs.blocks.Blocks.word.Goals as goal
 
 pub returns-in-Some-clause-word : goal.returns-in-Some-clause-word
@@ -33,7 +34,7 @@ returns-in-Some-word-clause-word g c image told first low are =
     kept.2
     ∙ ap (λ bytes. number_at bytes (8 * c.args.index))
     (coming-none now.store now.writes image c.args.block kept.0 (c.requires.stands.fits image told) c.in-None.ensures
-    (λ r is. are c.args.block kept.0 kept.1 low ∙ ap (λ i. block_at i c.args.block) (replayed-some (total_of now.store) image r is)))
+    (λ r is. are c.args.block kept.0 kept.1 low ∙ ap (λ i. block_at i c.args.block) (replayed_is (total_of now.store) image r is)))
 
 pub returns-in-None-word-clause-word : goal.returns-in-None-word-clause-word
 returns-in-None-word-clause-word g c =

@@ -1,7 +1,7 @@
 use Rattle.std.proofs.Common.{◌++◌, subst}
 use Rattle.mg_pages.proofs.KeptWrites.{besides-behind}
 use Rattle.mg_pages.specs.Kept.{KeepsBesides}
-use Rattle.mg_pages.proofs.kept.Kept.put.Goals as goal
+use Rattle.mg_pages.proofs.kept.CachedBlocks.put.Goals as goal
 
 pub returns : goal.returns
 returns c =

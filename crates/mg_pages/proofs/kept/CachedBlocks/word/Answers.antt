@@ -4,7 +4,7 @@ use Rattle.mg_journal.specs.Staged.{waiting}
 use Rattle.mg_model.specs.Bytes.{number_at}
 use Rattle.mg_pages.proofs.KeptWrites.{kept-before, kept-behind, same-behind}
 use Rattle.mg_pages.specs.Kept.{KeepsSame, kept_at}
-use Rattle.mg_pages.proofs.kept.Kept.word.Goals as goal
+use Rattle.mg_pages.proofs.kept.CachedBlocks.word.Goals as goal
 
 pub returns-in-Some-clause-word : goal.returns-in-Some-clause-word
 returns-in-Some-clause-word c =

@@ -2,7 +2,7 @@ use Rattle.std.proofs.Common.{rules, ◌≡◌, ◌++◌, subst, sym, arith}
 use Rattle.mg_model.specs.Replay.{written}
 use Rattle.mg_pages.proofs.KeptWrites.{kept-written, none-of}
 use Rattle.mg_pages.specs.Kept.{AreKept}
-use Rattle.mg_pages.proofs.kept.Kept.take.Goals as goal
+use Rattle.mg_pages.proofs.kept.CachedBlocks.take.Goals as goal
 
 pub returns-then-len-gt0-clause-kept : goal.returns-then-len-gt0-clause-kept
 returns-then-len-gt0-clause-kept c total r fit long are =
