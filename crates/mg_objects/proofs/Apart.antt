@@ -12,7 +12,8 @@ use Rattle.mg_model.specs.KeptListLemmas.{AllPairs-head, AllPairs-nil}
 use Rattle.mg_model.specs.Ranges.{IsObjectRow}
 use Rattle.mg_model.specs.State.{ObjectRow}
 use Rattle.mg_objects.specs.Held.{AreApart, IsBefore, key_of, objects_in}
-use Rattle.mg_objects.proofs.Lists.{find-none, find-only, pair-cases}
+use Rattle.mg_index.specs.ListLemmas.{pair-cases}
+use Rattle.mg_objects.proofs.Lists.{find-none, find-only}
 use Rattle.mg_objects.proofs.Rows.{at, before-lower, objects-had, within-table}
 
 -- objects are apart, if each ends before the next begins

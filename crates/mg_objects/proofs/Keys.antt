@@ -2,11 +2,11 @@
 use Rattle.std.specs.Prelude.{◌≡◌, ◌≢◌, ◌+◌, ◌/◌, ◌<◌, ◌≤◌, ◌==◌, ◌⊎◌, ℕ, zero, suc, true, false, not, All, List, [], ◌∷◌, ◌++◌, Option, None, Some, filter, find, length, map, position, replicate, slice_index, slice_index_or, slice_set, take}
 use Rattle.std.specs.List.{Contains, list_any}
 use Rattle.std.specs.Option.{ForSome, option_map}
-use Rattle.std.proofs.Common.{refl, sym, ap, ◌∙◌, subst, inl, inr, ⊎_elim, arith, get_or, get_or-set_other, get_or-set_same, length-set}
-use Rattle.std.proofs.lemmas.Bool.{and_from, both_ways, cases_eq, cases_lt, cond_both, eq-eqb, eqb-false, eqb-true, ne_eqb, not-true, true_from_ne_false}
+use Rattle.std.proofs.Common.{refl, sym, ap, ◌∙◌, subst, inl, inr, ⊎_elim, arith, get_or-set_other, get_or-set_same, length-set}
+use Rattle.std.proofs.lemmas.Bool.{both_ways, cases_eq, cases_lt, eq-eqb, eqb-false, eqb-true, ne_eqb, true_from_ne_false}
 use Rattle.std.proofs.lemmas.Bool.Decides.{nat_tests}
 use Rattle.std.proofs.lemmas.List.{get_or_past, length-map, length-replicate, length-take-le, take_more}
-use Rattle.std.proofs.lemmas.List.Elements.{All-contains, All-filter, All-from_get_or}
+use Rattle.std.proofs.lemmas.List.Elements.{All-contains, All-from_get_or}
 use Rattle.std.proofs.lemmas.List.Folds.{list_any_at, list_any_none}
 use Rattle.std.proofs.lemmas.List.Quantifiers.{position-Some}
 use Rattle.mg_index.specs.Pairs.{Ascends, IsBound, IsExact}
@@ -18,7 +18,9 @@ use Rattle.mg_model.specs.Ranges.{IsObjectRow}
 use Rattle.mg_model.specs.State.{ObjectRow}
 use Rattle.mg_model.specs.Tests.{all_distinct}
 use Rattle.mg_objects.specs.Held.{AreApart, AreBases, AreHeld, AreSound, IsLowestFree, IsPut, MeetsNone, base_of, into_place, key_of, objects_in, with_row}
-use Rattle.mg_objects.proofs.Lists.{all-from, find-had, find-none, find-only, map-at, map-had, map-has, rises-once, same-rising}
+use Rattle.mg_index.specs.DistinctLemmas.{own-distinct}
+use Rattle.mg_index.specs.ListLemmas.{map-at, rises-once}
+use Rattle.mg_objects.proofs.Lists.{all-from, find-had, find-none, find-only, map-had, map-has, same-rising}
 use Rattle.mg_objects.proofs.Rows.{AreThose, HaveOwnBases, apart-sound, at, base_in, cut-sound, insert-those, objects-few, objects-full, objects-those, push-put, put-sound, remove-those, same-those, set-put, sound-own, those-apart, update-those, within-table}
 
 base-some : (row : ObjectRow) → IsObjectRow row → row.base ≢ 0
@@ -63,17 +65,6 @@ module _ (rows : List (Option ObjectRow)) (bases : List ℕ) (short : length row
       let row = row_there p.1 p.0 is.0 is.2 in
       let P : ℕ → Type 0 = λ n. Contains (map key_of xs) (n, p.1) in
       subst P row.2 (map-has key_of xs (p.1, row.0) (those.has p.1 row.0 row.1)))
-
--- numbers that no two places have are distinct
-pub own-distinct : (xs : List ℕ) → ((j k : ℕ) → j ≢ k → slice_index xs j ≢ 0 → slice_index xs j ≢ slice_index xs k) → all_distinct (numbers_in xs) ≡ true
-own-distinct [] own = refl
-own-distinct (x ∷ xs) own =
-    cond_both (not (x == 0)) (x ∷ numbers_in xs) (numbers_in xs) (λ (ys : List ℕ). all_distinct ys ≡ true)
-    (λ t. and_from (not (list_any (λ y. x == y) (numbers_in xs))) (all_distinct (numbers_in xs))
-    (ap not (list_any_none (λ y. x == y) (numbers_in xs) (All-filter (λ y. not (y == 0)) (λ y. (x == y) ≡ false) xs
-    (All-from_get_or (λ y. (x == y) ≡ false) xs 0 (λ k under. ne_eqb x (get_or xs k 0) (own 0 (suc k) (omega arith) (eqb-false x 0 (not-true (x == 0) t))))))))
-    (own-distinct xs (λ j k other. own (suc j) (suc k) (omega arith))))
-    (λ _. own-distinct xs (λ j k other. own (suc j) (suc k) (omega arith)))
 
 pub apart-distinct : (rows : List (Option ObjectRow)) (bases : List ℕ) → AreBases (at rows) bases → AreSound (at rows) → all_distinct (numbers_in bases) ≡ true
 apart-distinct rows bases are sound =

@@ -1,25 +1,12 @@
 -- What a list contains, what a search in it gives, and lists that rise.
-use Rattle.std.specs.Prelude.{◌≡◌, ◌<◌, ◌⊎◌, ℕ, zero, suc, All, Bool, true, false, List, [], ◌∷◌, Option, None, Some, filter, find, if◌then◌else◌, map, slice_index}
-use Rattle.std.specs.List.{AllPairs, Contains, list_any}
-use Rattle.std.specs.List.Sorted.{IsNonDecreasingBy}
-use Rattle.std.proofs.Common.{refl, sym, ap, ◌∙◌, inl, inr, subst, ⊎_elim, arith, get_or}
-use Rattle.std.proofs.lemmas.Bool.{both_ways, cases_Bool, cases_lt, cases_order, cond_both}
-use Rattle.std.proofs.lemmas.List.{get_or-map, get_or_default, length-map}
+use Rattle.std.specs.Prelude.{◌≡◌, ◌<◌, ℕ, All, Bool, true, false, List, [], ◌∷◌, Option, None, Some, filter, find, if◌then◌else◌, map}
+use Rattle.std.specs.List.{Contains, list_any}
+use Rattle.std.proofs.Common.{refl, sym, ap, ◌∙◌, subst, ⊎_elim, arith, get_or}
+use Rattle.std.proofs.lemmas.Bool.{both_ways, cases_Bool, cond_both}
+use Rattle.std.proofs.lemmas.List.{get_or-map, length-map}
 use Rattle.std.proofs.lemmas.List.Elements.{All-contains, All-contains_itself, All-filter, Contains-get_or, filter_passes}
+use Rattle.mg_index.specs.ListLemmas.{Rises, contains-behind, contains-cases, contains-here, contains-none}
 use Rattle.mg_model.specs.KeptListLemmas.{AllPairs-head, AllPairs-tail}
-
-pub contains-here : {X : Type 0} (x : X) (xs : List X) → Contains (x ∷ xs) x
-contains-here x xs = (0, omega arith, refl)
-
-pub contains-behind : {X : Type 0} (y x : X) (xs : List X) → Contains xs x → Contains (y ∷ xs) x
-contains-behind y x xs there = (suc there.0, omega (arith, there.1), there.2)
-
-pub contains-cases : {X : Type 0} (y x : X) (xs : List X) → Contains (y ∷ xs) x → (y ≡ x) ⊎ Contains xs x
-contains-cases y x xs (zero, under, is) = inl is
-contains-cases y x xs (suc k, under, is) = inr (k, omega arith, is)
-
-pub contains-none : {X : Type 0} (x : X) → Contains [] x → ⊥
-contains-none x there = absurd (omega (arith, there.1))
 
 pub all-from : {X : Type 0} (P : X → Type 0) (xs : List X) → ((x : X) → Contains xs x → P x) → All P xs
 all-from P xs each k d under = each (get_or xs k d) (Contains-get_or xs k d under)
@@ -67,31 +54,6 @@ find-had {X} p (z ∷ zs) x is =
     cond_both (p z) (Some z) (find p zs) (λ (found : Option X). found ≡ Some x → Contains (z ∷ zs) x × (p x ≡ true))
     (λ t here. let same : z ≡ x = cc in ((0, omega arith, same), sym (ap p same) ∙ t)) (λ _ behind. let old = find-had p zs x behind in (contains-behind z x zs old.0, old.1)) is
 
--- two elements of a list in order are one, or in order one way or the other
-pub pair-cases : {X : Type 0} (R : X → X → Type 0) (xs : List X) (x y : X) → AllPairs R xs → Contains xs x → Contains xs y → (x ≡ y) ⊎ (R x y ⊎ R y x)
-pair-cases {X} R xs x y each at_x at_y =
-    ⊎_elim (λ e. inl (sym at_x.2 ∙ get_or_default xs at_x.0 x y at_x.1 ∙ ap (λ k. get_or xs k y) e ∙ at_y.2))
-    (λ other. inr (⊎_elim (λ l. inl (go x y at_x at_y l)) (λ l. inr (go y x at_y at_x l)) other)) (cases_order at_x.0 at_y.0)
-  where
-    go : (u v : X) (a : Contains xs u) (b : Contains xs v) → a.0 < b.0 → R u v
-    go u v a b before =
-        let P : X → Type 0 = R u in
-        let Q : X → Type 0 = λ w. R w (get_or xs b.0 u) in
-        subst P (get_or_default xs b.0 u v b.1 ∙ b.2) (subst Q a.2 (each a.0 b.0 u before b.1))
-
--- a list in which a number rises
-abbrev pub Rises : {X : Type 0} → (X → ℕ) → List X → Type 0
-Rises {X} key xs = AllPairs (λ (a b : X). key a < key b) xs
-
--- no two of its elements have one number
-pub rises-once : {X : Type 0} (key : X → ℕ) (xs : List X) (x y : X) → Rises key xs → Contains xs x → Contains xs y → key x ≡ key y → x ≡ y
-rises-once {X} key xs x y up at_x at_y same =
-    ⊎_elim (λ e. e) (λ other. absurd (⊎_elim (λ l. omega arith) (λ l. omega arith) other)) (pair-cases (λ (a b : X). key a < key b) xs x y up at_x at_y)
-
-pub no-falls : {X : Type 0} (key : X → ℕ) (xs : List X) → Rises key xs → IsNonDecreasingBy key xs
-no-falls key xs up i j d order under =
-    ⊎_elim (λ before. let l = up i j d before under in omega arith) (λ le. let e : i ≡ j = omega arith in let same = ap (λ n. key (get_or xs n d)) e in omega arith) (cases_lt i j)
-
 -- two that rise and contain the same are one
 above-first : {X : Type 0} (key : X → ℕ) (x y : X) (xs : List X) → Rises key (x ∷ xs) → Contains xs y → key x < key y
 above-first {X} key x y xs up there = All-contains (λ (b : X). key x < key b) xs y (AllPairs-head (λ (a b : X). key a < key b) x xs up) there
@@ -115,12 +77,6 @@ same-rising {X} key (x ∷ xs) (y ∷ ys) up_x up_y to from =
         ⊎_elim (λ is. sym is)
         (λ behind. ⊎_elim (λ is. is) (λ later. absurd (omega (arith, above-first key x y xs up_x later, above-first key y x ys up_y behind))) (contains-cases x y xs (from y (contains-here y ys))))
         (contains-cases y x ys (to x (contains-here x xs)))
-
--- what an image of each number has in a place
-pub map-at : (f : ℕ → ℕ) → f 0 ≡ 0 → (xs : List ℕ) (k : ℕ) → slice_index (map f xs) k ≡ f (slice_index xs k)
-map-at f stays [] k = sym stays
-map-at f stays (x ∷ xs) zero = refl
-map-at f stays (x ∷ xs) (suc k) = map-at f stays xs k
 
 -- what a test chose
 pub some_of : {X : Type 0} (t : Bool) (x y : X) → Some x ≡ (if t then Some y else None) → x ≡ y

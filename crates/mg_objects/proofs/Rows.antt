@@ -13,7 +13,8 @@ use Rattle.mg_model.specs.Objects.{page_behind, page_of}
 use Rattle.mg_model.specs.Ranges.{IsObjectRow}
 use Rattle.mg_model.specs.State.{ObjectRow}
 use Rattle.mg_objects.specs.Held.{AreApart, AreSound, IsBefore, IsPut, by_base, into_place, live_from, objects_in, with_row}
-use Rattle.mg_objects.proofs.Lists.{Rises, all-from, contains-behind, contains-cases, contains-none, filter-had, filter-has, map-had, map-has, pair-cases, same-rising}
+use Rattle.mg_index.specs.ListLemmas.{Rises, contains-behind, contains-cases, contains-none, pair-cases}
+use Rattle.mg_objects.proofs.Lists.{all-from, filter-had, filter-has, map-had, map-has, same-rising}
 
 -- a row of a table, by its place
 abbrev pub at : List (Option ObjectRow) → ℕ → Option ObjectRow

@@ -4,7 +4,7 @@ use Rattle.std.proofs.lemmas.List.{length-map}
 use Rattle.std.proofs.lemmas.List.Sorted.{IsPartitionPoint-from_clause, IsPartitionedBy-leb}
 use Rattle.mg_objects.specs.Held.{key_of}
 use Rattle.mg_objects.proofs.Apart.{bases-within}
-use Rattle.mg_objects.proofs.Lists.{no-falls}
+use Rattle.mg_index.specs.ListLemmas.{no-falls}
 use Rattle.mg_objects.proofs.objects.Objects.count_up_to.Goals as goal
 
 pub returns-clause-below : goal.returns-clause-below
