@@ -6,19 +6,19 @@ use Rattle.std.specs.Result.{result_flatten}
 use Rattle.std.proofs.lemmas.Bool.{lt-ltb}
 use Rattle.std.proofs.lemmas.Bool.Decides.{nat_tests}
 use Rattle.std.proofs.lemmas.Fmt.{decimal_nonempty}
-use Rattle.std.proofs.lemmas.List.{append-nil}
 use Rattle.std.proofs.lemmas.List.Elements.{All-head, All-tail}
 use Rattle.mg_asm.specs.declared.faults.AsmKind.TheVariants.{Register, Number, TooLong}
 use Rattle.mg_asm.specs.declared.items.Item.{Item}
 use Rattle.mg_asm.specs.declared.items.Item.TheVariants as item
 use Rattle.mg_asm.specs.declared.names.Name.{Name}
 use Rattle.mg_asm.specs.Assembled.{assembled, behind, word_limit, words_in, words_of}
+use Rattle.mg_asm.specs.LineLemmas.{AreWords, all-words, line-misses, newline_low, number-word, some_word, split-before, split-spaced, split-whole}
 use Rattle.mg_asm.specs.Printed.{instruction_words, printed, printed_words, signed_text, word_line}
 use Rattle.mg_asm.specs.Reading.{as_word, from, jump_to, line_reading, on_ok, reading, register_1_and_immediate, registers_2, registers_2_and_immediate, registers_3}
 use Rattle.mg_asm.specs.Tokens.{begins_note, distance_of, first_piece, immediate_of, is_gap, line_tokens, register_of, tokens}
 use Rattle.mg_asm.proofs.Numbers.{distance_of-back, immediate_of-back, name_of-signed, register_of-back, signed-high}
 use Rattle.mg_asm.proofs.Stepwise.{items-stepwise, items_behind, with_item, words-stepwise, words_behind, words_in-more}
-use Rattle.mg_text.specs.NumberLemmas.{High, decimal-digits, digits-high, hex-high, hex-some, number_of-hex}
+use Rattle.mg_text.specs.NumberLemmas.{High, hex-high, hex-some, number_of-hex}
 use Rattle.mg_model.specs.declared.instructions.Instr.{Instr}
 use Rattle.mg_model.specs.declared.instructions.Instr.TheVariants as op
 use Rattle.mg_model.specs.Print.{hex_text, spaced}
@@ -28,58 +28,11 @@ use Rattle.mg_model.specs.Words.{is_newline, is_some_word, split_at}
 use Rattle.mg_script.specs.DecodedLemmas.{decoded-registers, decoded-word}
 use Rattle.mg_script.specs.Encoded.{HasRegisters, encoded}
 
--- no byte cuts
-abbrev pub Misses : (ℕ → Bool) → List ℕ → Type 0
-Misses cuts [] = Unit {0}
-Misses cuts (b ∷ bytes) = (cuts b ≡ false) × Misses cuts bytes
-
-misses-append : (cuts : ℕ → Bool) (xs ys : List ℕ) → Misses cuts xs → Misses cuts ys → Misses cuts (xs ++ ys)
-misses-append cuts [] ys h k = k
-misses-append cuts (x ∷ xs) ys h k = (h.0, misses-append cuts xs ys h.1 k)
-
-high-misses : (cuts : ℕ → Bool) → ((b : ℕ) → 45 ≤ b → cuts b ≡ false) → (xs : List ℕ) → High xs → Misses cuts xs
-high-misses cuts low [] h = tt
-high-misses cuts low (b ∷ xs) h = (low b h.0, high-misses cuts low xs h.1)
-
-split-whole : (cuts : ℕ → Bool) (xs : List ℕ) → Misses cuts xs → split_at cuts xs ≡ xs ∷ []
-split-whole cuts [] h = refl
-split-whole cuts (b ∷ xs) h = rw (h.0, split-whole cuts xs h.1) refl
-
-pub split-before : (cuts : ℕ → Bool) (xs : List ℕ) (b : ℕ) (ys : List ℕ) → Misses cuts xs → cuts b ≡ true → split_at cuts (xs ++ b ∷ ys) ≡ xs ∷ split_at cuts ys
-split-before cuts [] b ys h e = rw e refl
-split-before cuts (x ∷ xs) b ys h e = rw (h.0, split-before cuts xs b ys h.1 e) refl
-
 gap_low : (b : ℕ) → 45 ≤ b → is_gap b ≡ false
 gap_low b h = grind (arith, nat_tests)
 
 note_low : (b : ℕ) → 45 ≤ b → begins_note b ≡ false
 note_low b h = grind (arith, nat_tests)
-
-pub newline_low : (b : ℕ) → 45 ≤ b → is_newline b ≡ false
-newline_low b h = grind (arith, nat_tests)
-
--- words as they are printed
-abbrev pub AreWords : List (List ℕ) → Type 0
-AreWords [] = Unit {0}
-AreWords (t ∷ ts) = ((is_some_word t ≡ true) × High t) × AreWords ts
-
-pub split-spaced : (cuts : ℕ → Bool) → ((b : ℕ) → 45 ≤ b → cuts b ≡ false) → cuts 32 ≡ true → (t : List ℕ) (ts : List (List ℕ)) → High t → AreWords ts
-    → split_at cuts (t ++ spaced ts) ≡ t ∷ ts
-split-spaced cuts low space t [] h are = ap (split_at cuts) (append-nil t) ∙ split-whole cuts t (high-misses cuts low t h)
-split-spaced cuts low space t (u ∷ us) h are =
-    split-before cuts t 32 (u ++ spaced us) (high-misses cuts low t h) space ∙ ap (λ (v : List (List ℕ)). t ∷ v) (split-spaced cuts low space u us are.0.1 are.1)
-
-pub all-words : (ts : List (List ℕ)) → AreWords ts → filter is_some_word ts ≡ ts
-all-words [] are = refl
-all-words (t ∷ ts) are = rw are.0.0 (ap (λ (v : List (List ℕ)). t ∷ v) (all-words ts are.1))
-
-spaced-misses : (cuts : ℕ → Bool) → ((b : ℕ) → 45 ≤ b → cuts b ≡ false) → cuts 32 ≡ false → (ts : List (List ℕ)) → AreWords ts → Misses cuts (spaced ts)
-spaced-misses cuts low space [] are = tt
-spaced-misses cuts low space (t ∷ ts) are =
-    (space, misses-append cuts t (spaced ts) (high-misses cuts low t are.0.1) (spaced-misses cuts low space ts are.1))
-
-pub line-misses : (cuts : ℕ → Bool) → ((b : ℕ) → 45 ≤ b → cuts b ≡ false) → cuts 32 ≡ false → (t : List ℕ) (ts : List (List ℕ)) → High t → AreWords ts → Misses cuts (t ++ spaced ts)
-line-misses cuts low space t ts h are = misses-append cuts t (spaced ts) (high-misses cuts low t h) (spaced-misses cuts low space ts are)
 
 line-tokens : (t : List ℕ) (ts : List (List ℕ)) → is_some_word t ≡ true → High t → AreWords ts → line_tokens (t ++ spaced ts) ≡ t ∷ ts
 line-tokens t ts some h are =
@@ -88,13 +41,6 @@ line-tokens t ts some h are =
     ∙ all-words (t ∷ ts) ((some, h), are)
 
 -- operands
-some_word : (xs : List ℕ) → 0 < length xs → is_some_word xs ≡ true
-some_word [] h = absurd (omega (arith, h))
-some_word (b ∷ xs) h = refl
-
-pub number-word : (n : ℕ) → n < 2 ^ 64 → (is_some_word (decimal n) ≡ true) × High (decimal n)
-number-word n fits = (some_word (decimal n) (decimal_nonempty n fits), digits-high (decimal n) (decimal-digits n fits))
-
 register-word : (a : ℕ) → a < 8 → (is_some_word (decimal a) ≡ true) × High (decimal a)
 register-word a h = number-word a (omega arith)
 

@@ -11,3 +11,4 @@ pub mod Stored
 pub mod Labels
 -- Lemmas that a crate above cites.
 pub mod CutLemmas
+pub mod LineLemmas

@@ -1,4 +1,3 @@
-pub mod Numbers
 pub mod Loads
 pub mod Stored
 pub mod RepliesTold

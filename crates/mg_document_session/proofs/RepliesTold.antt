@@ -9,7 +9,7 @@ use Rattle.mg_document.specs.Documents.{document, packed, words_for}
 use Rattle.mg_document.specs.EndedLemmas.{not_last}
 use Rattle.mg_document.specs.Replies.{bytes_behind, bytes_of, bytes_told, ended, first_bytes, with_told, word_told}
 use Rattle.mg_document_session.specs.Trips.{AllOk, ComesBack, IsByte, replies}
-use Rattle.mg_document_session.proofs.Loads.{high-misses, misses-append, newline_low, split-before}
+use Rattle.mg_asm.specs.LineLemmas.{high-misses, misses-append, newline_low, split-before}
 use Rattle.mg_text.specs.NumberLemmas.{hex-high, number_of-hex}
 use Rattle.mg_document_session.proofs.Stored.{IsRoomy, loads-tell, stores-hold, value_lines}
 use Rattle.mg_model.specs.declared.replies.Reply.TheVariants.{Value}
