@@ -2,7 +2,7 @@
 use Rattle.std.specs.Prelude.{◌≡◌, ◌≢◌, ℕ, ◌+◌, ◌<◌, ◌≤◌, ◌==◌, ◌&&◌, ◌⊎◌, ◌||◌, Bool, true, false, All, List, [], ◌∷◌, ◌++◌, length, slice_index, slice_index_or, slice_set, take}
 use Rattle.std.specs.List.{AllPairs, AllWithin, HoldsAt}
 use Rattle.std.proofs.Common.{refl, sym, ap, ◌∙◌, arith, get_or, subst, ⊎_elim}
-use Rattle.std.proofs.Math.Bool.{or-false}
+use Rattle.std.proofs.Math.Bool.{or-false, or_assoc}
 use Rattle.std.proofs.lemmas.Bool.{cases_eq, cases_lt, eq-eqb, ne_eqb}
 use Rattle.std.proofs.lemmas.List.Folds.{list_any-append}
 use Rattle.std.proofs.lemmas.List.{get_or-set_other, get_or-set_same, length-set, map_more}
@@ -60,10 +60,6 @@ module _ (objects : List (ℕ × ObjectRow)) (base m : ℕ) (row : ObjectRow) (r
       ⊎_elim (λ more. let l = rise m k d more before in let h = here m d refl in omega arith) (λ le. let h = here k d (omega arith) in omega arith) (cases_lt m k)
 
 -- Marks that get more
-
-or_assoc : (a b c : Bool) → ((a || b) || c) ≡ (a || (b || c))
-or_assoc true b c = refl
-or_assoc false b c = refl
 
 module _ {Key : Type 0} (has : ℕ → Key → Bool) (gives : ObjectRow → ℕ → Key → Bool) (objects : List (ℕ × ObjectRow)) where
   pub marks_none : (marks : List ℕ) → Marks has gives objects [] marks marks

@@ -2,7 +2,7 @@
 use Rattle.std.specs.Prelude.{◌≡◌, ℕ, zero, suc, ◌+◌, ◌<◌, ◌≤◌, ◌==◌, ◌&&◌, ◌||◌, nat_le, Bool, true, false, List, [], ◌∷◌, ◌++◌, flat_map, if◌then◌else◌, length, map, None, slice_index, slice_index_or, take}
 use Rattle.std.specs.List.{HoldsAt}
 use Rattle.std.proofs.Common.{append-nil, refl, sym, ap, subst, ◌∙◌, arith, ⊎_elim}
-use Rattle.std.proofs.Math.Bool.{and-false, and-true, or-false}
+use Rattle.std.proofs.Math.Bool.{and-false, and-or_distrib_right, and-true, or-false, or_assoc}
 use Rattle.std.proofs.lemmas.Bool.{cases_lt, le-leb, lt-leb}
 use Rattle.std.proofs.lemmas.Bool.Decides.{nat_tests}
 use Rattle.std.proofs.lemmas.List.Folds.{list_any-append}
@@ -27,21 +27,11 @@ use Rattle.mg_show.proofs.Marked.{marks_none, marks_then}
 
 -- Tests
 
-or_assoc : (a b c : Bool) → ((a || b) || c) ≡ (a || (b || c))
-or_assoc true b c = refl
-or_assoc false b c = refl
-
 crossed : (a b c d : Bool) → ((a || b) || (c || d)) ≡ ((a || c) || (b || d))
 crossed true b c d = refl
 crossed false true true d = refl
 crossed false true false d = refl
 crossed false false c d = refl
-
-over : (a b c : Bool) → ((a && c) || (b && c)) ≡ ((a || b) && c)
-over true b true = refl
-over true true false = refl
-over true false false = refl
-over false b c = refl
 
 -- the bases that capabilities name
 abbrev pub bases_in : List (ℕ × ℕ) → List ℕ
@@ -93,7 +83,7 @@ any-rank : (rank n : ℕ) (caps : List (ℕ × ℕ)) (row : ObjectRow)
 any-rank rank n [] row = refl
 any-rank rank n (c ∷ caps) row =
     ap (λ v. (c.0 == row.base && nat_le rank n) || v) (any-rank rank n caps row)
-    ∙ over (c.0 == row.base) (is_among (bases_in caps) row.base) (nat_le rank n)
+    ∙ sym (and-or_distrib_right (c.0 == row.base) (is_among (bases_in caps) row.base) (nat_le rank n))
 
 -- a rank leaves the lower ones alone
 lower : (rank : ℕ) (objects : List (ℕ × ObjectRow)) (caps : List (ℕ × ℕ)) (a b : List ℕ)

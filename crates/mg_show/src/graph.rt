@@ -105,58 +105,58 @@ fn has_number(thread: &(u64, ThrRow), number: u64) -> bool
     number != 0 && thread.0 == number - 1
 }
 
-// Writes these threads, and what is reached from the objects that these slots name in at most `n` steps.
+// Writes these threads, and what is reached from the objects that these slots name in at most `steps` steps.
 fn put_part<D: Disk, K: Sink>(
     shown: &Shown,
     drawn: &[(u64, ThrRow)],
     slots: &[Slot],
-    n: u64,
+    steps: u64,
     bytes: &mut [u8],
     ranks: &mut [u64],
     disk: &mut D,
     out: &mut Writer,
     sink: &mut K,
 )
-    requires few { n ≤ 65535 }
+    requires few { steps ≤ 65535 }
     requires places { All (λ t. t.0 < thread_limit) drawn.now }
     requires long { length bytes.old ≡ length shown.now.objects }
     requires long_ranks { length ranks.old ≡ length shown.now.objects }
     requires can { CanShow D.Disk shown.now disk.old }
-    ensures { PutsOf D.Disk K.Sink (held_in shown.now) (λ r. part_text (state_shown shown.now r) (map numbered drawn.now) (bases_of slots.now) n) disk.old disk.new sink.old sink.new out.old out.new }
+    ensures { PutsOf D.Disk K.Sink (held_in shown.now) (λ r. part_text (state_shown shown.now r) (map numbered drawn.now) (bases_of slots.now) steps) disk.old disk.new sink.old sink.new out.old out.new }
 {
     mark_opened(shown, bytes);
     fill(ranks, 0);
     rank(shown, slots, 1, ranks);
-    walk(shown, bytes, n, ranks, disk, out);
-    put_ranked(shown, drawn, n, bytes, ranks, disk, out, sink);
+    walk(shown, bytes, steps, ranks, disk, out);
+    put_ranked(shown, drawn, steps, bytes, ranks, disk, out, sink);
 }
 
-// Writes these threads, the objects whose rank is at most `n + 1`, and the lists whose rank is at most `n`. A byte has R for a list.
+// Writes these threads, the objects whose rank is at most `steps + 1`, and the lists whose rank is at most `steps`. A byte has R for a list.
 fn put_ranked<D: Disk, K: Sink>(
     shown: &Shown,
     drawn: &[(u64, ThrRow)],
-    n: u64,
+    steps: u64,
     bytes: &[u8],
     ranks: &[u64],
     disk: &mut D,
     out: &mut Writer,
     sink: &mut K,
 )
-    requires few { n ≤ 65535 }
+    requires few { steps ≤ 65535 }
     requires places { All (λ t. t.0 < thread_limit) drawn.now }
     requires long { length bytes.now ≡ length shown.now.objects }
     requires long_ranks { length ranks.now ≡ length shown.now.objects }
     requires can { CanShow D.Disk shown.now disk.old }
-    ensures { PutsOf D.Disk K.Sink (held_in shown.now) (λ r. part_ranked shown.now r n bytes.now ranks.now drawn.now) disk.old disk.new sink.old sink.new out.old out.new }
+    ensures { PutsOf D.Disk K.Sink (held_in shown.now) (λ r. part_ranked shown.now r steps bytes.now ranks.now drawn.now) disk.old disk.new sink.old sink.new out.old out.new }
 {
     out.add(
         b"digraph volume {\n  rankdir=LR\n  node [shape=box style=dashed]\n",
         sink,
     );
     put_thread_nodes(drawn, out, sink);
-    put_nodes(shown, n, bytes, ranks, out, sink);
+    put_nodes(shown, steps, bytes, ranks, out, sink);
     put_domains(shown, drawn, out, sink);
-    put_lists(shown, n, bytes, ranks, disk, out, sink);
+    put_lists(shown, steps, bytes, ranks, disk, out, sink);
     out.add(b"}\n", sink);
 }
 
