@@ -205,11 +205,11 @@ fn length_of(rt: &impl Files, path: &str) -> Option<u64> {
     }
 }
 
-/// Whether a file is its owner's alone.
-fn is_private(rt: &impl Files, path: &str) -> bool {
+/// The permissions of a file.
+fn mode_of(rt: &impl Files, path: &str) -> Option<u32> {
     match fs::metadata(rt, path) {
-        Ok(metadata) => metadata.permissions().mode() & 0o777 == 0o600,
-        Err(_) => false,
+        Ok(metadata) => Some(metadata.permissions().mode() & 0o777),
+        Err(_) => None,
     }
 }
 
@@ -223,8 +223,18 @@ fn a_file_that_is_made_is_new_and_has_the_length_that_was_set(rt: HostRuntime) {
     assert!(rt; is_new(disk.found()));
     assert!(rt; disk.end().is_none());
     assert!(rt; length_of(&rt, "long") == Some(81_920));
-    assert!(rt; is_private(&rt, "long"));
+    assert!(rt; mode_of(&rt, "long") == Some(0o600));
     assert!(rt; removed(&rt, "long"));
+}
+
+#[test]
+fn a_file_that_is_made_has_the_mode_that_was_set(rt: HostRuntime) {
+    let _ = removed(&rt, "mode");
+    let mut disk = FileDisk::new(&rt, "mode");
+    disk.set_mode(0o700);
+    assert!(rt; byte_of(&mut disk, 0) == Some(0));
+    assert!(rt; mode_of(&rt, "mode") == Some(0o700));
+    assert!(rt; removed(&rt, "mode"));
 }
 
 #[test]
