@@ -1,5 +1,5 @@
 -- What reads and writes of blocks leave of the journal and of what is kept.
-use Rattle.std.specs.Prelude.{◌≡◌, ℕ, true, false, is_some, List, [], ◌∷◌, Option, Some, None, MatchOption, ◌==◌}
+use Rattle.std.specs.Prelude.{◌≡◌, ℕ, true, false, is_some, List, [], ◌∷◌, Option, Some, None, IfSome, MatchOption, ◌==◌}
 use Rattle.std.specs.Option.{ForSome}
 use Rattle.std.proofs.Common.{refl, sym, ap, subst, ◌∙◌, ⊎_elim}
 use Rattle.std.proofs.lemmas.Bool.{cases_Bool, eq-eqb, false≢true}
@@ -36,6 +36,10 @@ read-block store image block bytes fits read = read (replayed (total_of store) i
 pub there : {X : Type 0} (o : Option X) (none : Type 0) (some : X → Type 0) → true ≡ is_some o → MatchOption o none some → (x : X) × (o ≡ Some x) × some x
 there None none some is match = absurd (false≢true (sym is))
 there (Some x) none some is match = (x, refl, match)
+
+pub found-or : {X : Type 0} (o : Option X) (none : Type 0) (some : X → Type 0) → none → IfSome o some → MatchOption o none some
+found-or None none some nothing is = nothing
+found-or (Some x) none some nothing is = is
 
 pub missing : {X : Type 0} (o : Option X) (none : Type 0) (some : X → Type 0) → false ≡ is_some o → MatchOption o none some → (o ≡ None) × none
 missing None none some is match = (refl, match)

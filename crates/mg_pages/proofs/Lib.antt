@@ -5,6 +5,7 @@ pub mod Changed
 pub mod Committed
 pub mod Counted
 pub mod Entries
+pub mod InMemory
 pub mod KeptWrites
 pub mod Loaded
 pub mod Looked
@@ -13,6 +14,7 @@ pub mod Numbers
 pub mod OneBlock
 pub mod Opened
 pub mod PageWords
+pub mod PairSteps
 pub mod Places
 pub mod Released
 pub mod Restaged

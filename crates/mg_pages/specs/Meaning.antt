@@ -150,6 +150,11 @@ pub record CountsOne (old new : Pages) (before now : ℕ) : Type 0 where
   pub words : words_in new ≡ (words_in old + 1) % 2 ^ 64
   pub ticks : now ≡ before + 1
 
+-- this many were read, and counted
+pub record CountsSome (n : ℕ) (old new : Pages) (before now : ℕ) : Type 0 where
+  pub words : words_in new % 2 ^ 64 ≡ (words_in old + n) % 2 ^ 64
+  pub ticks : now ≡ before + n
+
 -- none was
 pub record CountsNone (old new : Pages) (before now : ℕ) : Type 0 where
   pub words : words_in new ≡ words_in old

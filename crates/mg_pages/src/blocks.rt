@@ -1,6 +1,6 @@
 // The blocks of a volume: those of its journal's contents, those that wait for a commit over them, and frame blocks that are
 // kept in memory.
-ghost use Rattle.std.specs.Prelude.{[], ◌≡◌, ◌≢◌, ◌⊎◌, ◌≤◌, ◌<◌, ◌*◌, ℕ, List, IfOk, IsOk, IsSome, IsSomeAnd, MatchOption, None, OnErr, OnOk, ◌+◌, is_ok, is_some, length, slice_set, true};
+ghost use Rattle.std.specs.Prelude.{[], ◌≡◌, ◌≢◌, ◌⊎◌, ◌≤◌, ◌<◌, ◌*◌, ℕ, List, IfOk, IsOk, IsSome, IsSomeAnd, MatchOption, None, OnErr, OnOk, Some, ◌+◌, ◌++◌, is_ok, is_some, length, replicate, slice_set, true};
 ghost use Rattle.std.specs.List.{position, splice};
 ghost use Rattle.std.specs.Option.{ForSome};
 ghost use Rattle.mg_disk.specs.Disk.{Image, block_at};
@@ -12,7 +12,7 @@ ghost use Rattle.mg_model.specs.Bytes.{block_words, number_at, padded_to, word_b
 ghost use Rattle.mg_model.specs.Layout.{block_size, body_limit};
 ghost use Rattle.mg_model.specs.Replay.{homes_fit, written};
 ghost use Rattle.mg_pages.specs.Held.{with_writes};
-ghost use Rattle.mg_pages.specs.Kept.{AreKept};
+ghost use Rattle.mg_pages.specs.Kept.{AreKept, kept_at};
 ghost use Rattle.mg_pages.specs.Meaning.{replayed};
 ghost use Rattle.mg_pages.specs.Parts.{KeepsMore, StagesBlock, coming_of};
 
@@ -120,6 +120,23 @@ impl Blocks {
         }
     }
 
+    /// The bytes of a block as it will be, if it is staged or kept. They are not copied.
+    pub(crate) fn held(&self, block: u64) -> Option<&Block>
+        ensures { MatchOption result (waiting self.now.writes block ≡ None) (λ bytes. kept_at (self.now.writes ++ self.now.kept) block ≡ Some bytes.now) }
+    {
+        match self.writes.get(block) {
+            Some(bytes) => Some(bytes),
+            None => self.kept.held(block),
+        }
+    }
+
+    /// A block of zeros.
+    pub(crate) fn zeros(&self) -> &Block
+        ensures { result.now ≡ replicate block_size 0 }
+    {
+        self.blank.zeros()
+    }
+
     // The word at an index of a block of the contents, which is kept then.
     fn read_word<D: Disk>(&mut self, disk: &mut D, block: u64, index: u64) -> Result<u64, Failed>
         requires stands { Stands D.Disk self.old.store disk.old }
@@ -139,8 +156,13 @@ impl Blocks {
         }
     }
 
-    // Gives a block of the contents, and keeps it. A read that fails changes nothing.
-    fn read<D: Disk>(&mut self, disk: &mut D, block: u64, bytes: &mut Block) -> Result<(), Failed>
+    /// Gives a block of the contents, and keeps it. A read that fails changes nothing.
+    pub(crate) fn read<D: Disk>(
+        &mut self,
+        disk: &mut D,
+        block: u64,
+        bytes: &mut Block,
+    ) -> Result<(), Failed>
         requires stands { Stands D.Disk self.old.store disk.old }
         requires place { block < total_of self.old.store }
         ensures block { OnOk result (ForSome (D.seen disk.old) (λ image. bytes.new ≡ block_at (replayed (total_of self.old.store) image) block)) }

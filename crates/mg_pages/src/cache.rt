@@ -1,5 +1,5 @@
 // The frame blocks that were read or written last.
-ghost use Rattle.std.specs.Prelude.{[], ◌≡◌, ◌<◌, ◌*◌, IfOk, IfSome, IsSomeAnd, MatchOption, None, false, is_some, length, true};
+ghost use Rattle.std.specs.Prelude.{[], ◌≡◌, ◌<◌, ◌*◌, IfOk, IfSome, IsSomeAnd, MatchOption, None, Some, false, is_some, length, true};
 ghost use Rattle.mg_journal.specs.Staged.{staged};
 ghost use Rattle.mg_model.specs.Bytes.{number_at};
 ghost use Rattle.mg_model.specs.Layout.{body_limit};
@@ -67,6 +67,16 @@ impl Cache {
     {
         match self.blocks.get(&block) {
             Some(bytes) => Some(word_at(bytes, index)),
+            None => None,
+        }
+    }
+
+    /// The bytes of a block that is kept. It counts as used no more than it did.
+    pub(crate) fn held(&self, block: u64) -> Option<&Block>
+        ensures { IfSome result (λ bytes. kept_at self.now block ≡ Some bytes.now) }
+    {
+        match self.blocks.peek(&block) {
+            Some(bytes) => Some(bytes),
             None => None,
         }
     }

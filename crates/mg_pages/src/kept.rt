@@ -1,5 +1,5 @@
 // What is in memory of the contents.
-ghost use Rattle.std.specs.Prelude.{[], ◌≡◌, ◌≤◌, ◌<◌, ◌*◌, ◌++◌, ℕ, IfOk, IfSome, IsSomeAnd, MatchOption, is_some, length, true};
+ghost use Rattle.std.specs.Prelude.{[], ◌≡◌, ◌≤◌, ◌<◌, ◌*◌, ◌++◌, ℕ, IfOk, IfSome, IsSomeAnd, MatchOption, Some, is_some, length, true};
 ghost use Rattle.mg_disk.specs.Disk.{Image};
 ghost use Rattle.mg_journal.specs.Staged.{staged};
 ghost use Rattle.mg_model.specs.Bytes.{number_at};
@@ -52,6 +52,16 @@ impl CachedBlocks {
         match staged_word(&self.last, block, index) {
             Some(word) => Some(word),
             None => self.cache.word(block, index),
+        }
+    }
+
+    /// The bytes of a block that is kept. It counts as used no more than it did.
+    pub(crate) fn held(&self, block: u64) -> Option<&Block>
+        ensures { IfSome result (λ bytes. kept_at self.now block ≡ Some bytes.now) }
+    {
+        match self.last.get(block) {
+            Some(bytes) => Some(bytes),
+            None => self.cache.held(block),
         }
     }
 

@@ -1,5 +1,5 @@
 // The pages of a volume, and what is staged.
-ghost use Rattle.std.specs.Prelude.{[], List, ◌≡◌, ◌≢◌, ◌⊎◌, ◌≤◌, ◌<◌, ◌+◌, ◌-◌, ◌%◌, ◌^◌, ℕ, true, false, IfOk, IfSome, IsOk, Ok, IsSomeAnd, MatchOption, OnErr, OnOk, is_some, length, slice_index, slice_set};
+ghost use Rattle.std.specs.Prelude.{[], List, ◌≡◌, ◌≢◌, ◌⊎◌, ◌≤◌, ◌<◌, ◌+◌, ◌-◌, ℕ, true, false, IfOk, IfSome, IsOk, Ok, IsSomeAnd, MatchOption, None, OnErr, OnOk, is_some, length, slice_index, slice_set};
 ghost use Rattle.std.specs.List.{splice};
 ghost use Rattle.std.specs.Option.{ForSome};
 ghost use Rattle.mg_disk.specs.Disk.{block_at};
@@ -7,21 +7,24 @@ ghost use Rattle.mg_disk.specs.Stops.{DiskCalls, Leaves, WritesNothing};
 ghost use Rattle.mg_journal.specs.Contents.{SameContents};
 ghost use Rattle.mg_journal.specs.Standing as journal;
 ghost use Rattle.mg_model.specs.Abbreviations.{table_of};
-ghost use Rattle.mg_model.specs.Bytes.{are_zeros, padded_to, word_bytes};
-ghost use Rattle.mg_model.specs.Layout.{block_size, body_limit, globals_block, table_block, total_blocks};
+ghost use Rattle.mg_model.specs.Bytes.{are_zeros, block_words, padded_to, word_bytes};
+ghost use Rattle.mg_model.specs.Layout.{block_size, body_limit, first_frame, globals_block, table_block, total_blocks};
 ghost use Rattle.mg_model.specs.Tests.{all_distinct};
 ghost use Rattle.mg_model.specs.Volume.{bound_pages};
 ghost use Rattle.mg_pages.specs.Committing.{HasContents};
 ghost use Rattle.mg_pages.specs.Held.{IsSound};
 ghost use Rattle.mg_pages.specs.Loading.{HoldFirstEntries};
+ghost use Rattle.mg_pages.specs.Pairs.{IsNextPair, words_looked_at};
 
 use crate::blocks::Blocks;
 use crate::coming::page_word;
+use crate::counting::count_word;
 use crate::loading::load_pages;
+use crate::pairs::next_pair;
 use crate::releasing::release_pages;
 use crate::storing::store_word;
-use crate::table::first_block;
-use mg_disk::{Block, Disk};
+use crate::table::{first_block, frame_block};
+use mg_disk::{BLOCK_SIZE, Block, Disk};
 use mg_faults::Failed;
 use mg_frames::Frames;
 use mg_journal::Store;
@@ -41,7 +44,7 @@ pub struct Pages {
 
 #[tactic(auto, unfolding(crate::specs::Meaning::total_of, crate::specs::Meaning::store_of, crate::specs::Meaning::frame_count, crate::specs::Meaning::table_in, crate::specs::Meaning::coming, crate::specs::Meaning::staged_in, crate::specs::Meaning::staged_of, crate::specs::Meaning::is_staged, crate::specs::Meaning::waiting_in, crate::specs::Meaning::kept_in, crate::specs::Meaning::is_live, crate::specs::Meaning::words_in))]
 impl Pages {
-    ghost use Rattle.mg_pages.specs.Meaning.{BindsOnly, CountsNone, CountsOne, HasTable, IsBare, IsKept, Keeps, Releases, Restages, SameShape, SetsWord, SpellsTable, StagesMore, StandsOn, Unbinds, IsSpelledBy, coming, frame_count, is_bound, is_live, is_staged, page_now, replayed, staged_in, staged_of, store_of, table_in, total_of, waiting_in, words_in};
+    ghost use Rattle.mg_pages.specs.Meaning.{BindsOnly, CountsNone, CountsOne, CountsSome, HasTable, IsBare, IsKept, Keeps, Releases, Restages, SameShape, SetsWord, SpellsTable, StagesMore, StandsOn, Unbinds, IsSpelledBy, coming, frame_count, is_bound, is_live, is_staged, page_now, replayed, staged_in, staged_of, store_of, table_in, total_of, waiting_in, words_in};
 
     /// The pages of a volume with this journal and these entries of its frame table, one a frame, 16 to 65,536 of them: the
     /// page that the frame holds, or 0. No page occurs twice. All memory that they will need is taken here.
@@ -203,6 +206,44 @@ impl Pages {
         }
     }
 
+    /// The first of the pairs of a page's words from place `from` on, and before place `count`, whose first word is `first`: its
+    /// place and its second word. Pair j is words 2 + 2 * j and 3 + 2 * j. [`Failed`] comes only if a call of the disk failed, and
+    /// changes nothing. Ok counts each word that is looked at, here and in `steps`. The page is not 0, as is each page in an object.
+    pub fn next_pair<D: Disk, L: Ledger>(
+        &mut self,
+        disk: &mut D,
+        page: u64,
+        from: u64,
+        count: u64,
+        first: u64,
+        steps: &mut Steps<L>,
+    ) -> Result<Option<(u64, u64)>, Failed>
+        requires stands { StandsOn D.Disk self.old disk.old }
+        requires page { page ≢ 0 }
+        requires from_up_to_count { from ≤ count }
+        requires at_most_255_pairs { count ≤ 255 }
+        ensures found { IfOk result (λ found. ForSome (D.seen disk.old) (λ image. IsNextPair (λ index. slice_index (page_now self.old image page) index) from count first found)) }
+        ensures place { IfOk result (λ found. IfSome found (λ pair. (from ≤ pair.0) × (pair.0 < count))) }
+        ensures keeps { Keeps self.old self.new }
+        ensures stands { StandsOn D.Disk self.new disk.new }
+        ensures writes { WritesNothing D.Disk disk.old disk.new }
+        ensures counts { IfOk result (λ found. CountsSome (words_looked_at from count found) self.old self.new steps.old steps.new) }
+        ensures counts_failed { OnErr result (CountsNone self.old self.new steps.old steps.new) }
+        ensures calls { DiskCalls D.Disk disk.old disk.new result }
+    {
+        let block = match self.frames.bound_frame(page) {
+            Some(frame) => frame_block(self.frames.len(), frame),
+            None => {
+                let zeros = self.blocks.zeros();
+                return Ok(next_pair(zeros, from, count, first, &mut self.count, steps));
+            }
+        };
+        match self.blocks.held(block) {
+            Some(bytes) => Ok(next_pair(bytes, from, count, first, &mut self.count, steps)),
+            None => self.read_pair(disk, block, from, count, first, steps),
+        }
+    }
+
     /// Writes a word at an index of a page, below 512. The first store to a page binds the lowest free frame, which begins
     /// with zeros. [`Failed`] comes only if a call of the disk failed, and changes nothing. Ok counts one word, here and
     /// in `steps`.
@@ -339,13 +380,37 @@ impl Pages {
     {
         self.count
     }
-}
 
-// One word more, read or written.
-fn count_word<L: Ledger>(count: &mut u64, steps: &mut Steps<L>)
-    ensures words { count.new ≡ (count.old + 1) % 2 ^ 64 }
-    ensures ticks { steps.new ≡ steps.old + 1 }
-{
-    *count = count.wrapping_add(1);
-    steps.tick();
+    // As `next_pair`, of a frame's block that is not in memory. It is not inlined, so that a search in memory clears no block.
+    #[inline(never)]
+    fn read_pair<D: Disk, L: Ledger>(
+        &mut self,
+        disk: &mut D,
+        block: u64,
+        from: u64,
+        count: u64,
+        first: u64,
+        steps: &mut Steps<L>,
+    ) -> Result<Option<(u64, u64)>, Failed>
+        requires stands { StandsOn D.Disk self.old disk.old }
+        requires low { first_frame (frame_count self.old) ≤ block }
+        requires place { block < total_of self.old }
+        requires waits_not { waiting_in self.old block ≡ None }
+        requires from_up_to_count { from ≤ count }
+        requires at_most_255_pairs { count ≤ 255 }
+        ensures found { IfOk result (λ found. ForSome (D.seen disk.old) (λ image. IsNextPair (λ index. slice_index (block_words (block_at (coming self.old image) block)) index) from count first found)) }
+        ensures place { IfOk result (λ found. IfSome found (λ pair. (from ≤ pair.0) × (pair.0 < count))) }
+        ensures keeps { Keeps self.old self.new }
+        ensures stands { StandsOn D.Disk self.new disk.new }
+        ensures writes { WritesNothing D.Disk disk.old disk.new }
+        ensures counts { IfOk result (λ found. CountsSome (words_looked_at from count found) self.old self.new steps.old steps.new) }
+        ensures counts_failed { OnErr result (CountsNone self.old self.new steps.old steps.new) }
+        ensures calls { DiskCalls D.Disk disk.old disk.new result }
+    {
+        let mut bytes = [0; BLOCK_SIZE];
+        match self.blocks.read(disk, block, &mut bytes) {
+            Ok(()) => Ok(next_pair(&bytes, from, count, first, &mut self.count, steps)),
+            Err(Failed) => Err(Failed),
+        }
+    }
 }

@@ -1,0 +1,15 @@
+-- A search through pairs of words is one through other words that are the same.
+use Rattle.std.specs.Prelude.{◌≡◌, ◌+◌, ◌*◌, ◌≤◌, ◌<◌, ℕ, IfSome, Option, Some, None}
+use Rattle.std.proofs.Common.{sym, ◌∙◌, arith}
+use Rattle.mg_pages.specs.Pairs.{IsNextPair}
+
+pub same_pair : (word word' : ℕ → ℕ) (from count first : ℕ) (found : Option (ℕ × ℕ)) → count ≤ 255 → ((index : ℕ) → index < 512 → word index ≡ word' index) → IfSome found (λ pair. (from ≤ pair.0) × (pair.0 < count))
+    → IsNextPair word from count first found → IsNextPair word' from count first found
+same_pair word word' from count first None few same place next =
+    record { none_before = λ j least below hit. next.none_before j least below (same (2 + 2 * j) (omega arith) ∙ hit); is = tt }
+same_pair word word' from count first (Some pair) few same place next =
+    let below = place.1 in
+    record {
+      none_before = λ j least before hit. next.none_before j least before (same (2 + 2 * j) (omega arith) ∙ hit);
+      is = (sym (same (2 + 2 * pair.0) (omega arith)) ∙ next.is.0, sym (same (3 + 2 * pair.0) (omega arith)) ∙ next.is.1);
+    }
