@@ -1,6 +1,8 @@
 -- A search through pairs of words is one through other words that are the same.
-use Rattle.std.specs.Prelude.{◌≡◌, ◌+◌, ◌*◌, ◌≤◌, ◌<◌, ℕ, IfSome, Option, Some, None}
+use Rattle.std.specs.Prelude.{◌≡◌, ◌+◌, ◌*◌, ◌≤◌, ◌<◌, ℕ, IfOk, IfSome, Option, Some, None, Result, Ok, Err}
+use Rattle.std.specs.Option.{ForSome}
 use Rattle.std.proofs.Common.{sym, ◌∙◌, arith}
+use Rattle.mg_disk.specs.Disk.{Image}
 use Rattle.mg_pages.specs.Pairs.{IsNextPair}
 
 pub same_pair : (word word' : ℕ → ℕ) (from count first : ℕ) (found : Option (ℕ × ℕ)) → count ≤ 255 → ((index : ℕ) → index < 512 → word index ≡ word' index) → IfSome found (λ pair. (from ≤ pair.0) × (pair.0 < count))
@@ -13,3 +15,10 @@ same_pair word word' from count first (Some pair) few same place next =
       none_before = λ j least before hit. next.none_before j least before (same (2 + 2 * j) (omega arith) ∙ hit);
       is = (sym (same (2 + 2 * pair.0) (omega arith)) ∙ next.is.0, sym (same (3 + 2 * pair.0) (omega arith)) ∙ next.is.1);
     }
+
+-- of a search that may fail, through the words of what reads give
+pub same_pairs : {E : Type 0} (r : Result (Option (ℕ × ℕ)) E) (told : Option Image) (word word' : Image → ℕ → ℕ) (from count first : ℕ) → count ≤ 255 → ForSome told (λ image. (index : ℕ) → index < 512 → word image index ≡ word' image index)
+    → IfOk r (λ found. IfSome found (λ pair. (from ≤ pair.0) × (pair.0 < count))) → IfOk r (λ found. ForSome told (λ image. IsNextPair (word image) from count first found))
+    → IfOk r (λ found. ForSome told (λ image. IsNextPair (word' image) from count first found))
+same_pairs (Ok found) told word word' from count first few same place next = λ image is. same_pair (word image) (word' image) from count first found few (same image is) place (next image is)
+same_pairs (Err e) told word word' from count first few same place next = tt

@@ -1,7 +1,7 @@
 -- What a call of the pages does to the volume.
 use Rattle.mg_model.specs.Limits.{thread_limit}
 use Rattle.std.proofs.lemmas.Bool.Decides.{nat_tests}
-use Rattle.std.specs.Prelude.{◌≡◌, ◌≢◌, ◌⊎◌, ◌+◌, ◌*◌, ◌%◌, ◌^◌, ◌<◌, ◌==◌, ℕ, Bool, true, false, All, List, [], ◌∷◌, map, slice_index, slice_set, OnErr, OnOk, Result, Ok, Err, length, ◌≤◌}
+use Rattle.std.specs.Prelude.{◌≡◌, ◌≢◌, ◌⊎◌, ◌+◌, ◌*◌, ◌%◌, ◌^◌, ◌<◌, ◌==◌, ℕ, Bool, true, false, All, List, [], ◌∷◌, map, slice_index, slice_set, IfOk, OnErr, OnOk, Result, Ok, Err, length, ◌≤◌}
 use Rattle.std.specs.List.{list_all, list_any}
 use Rattle.std.specs.Option.{ForSome}
 use Rattle.std.proofs.Common.{refl, sym, ap, ◌∙◌, ⊎_elim, inr, arith}
@@ -100,6 +100,12 @@ counted-none old new steps steps' words ticks = (0, omega arith, omega arith)
 pub counted : {T E : Type 0} (r : Result T E) (p p' : Pages) (steps steps' : ℕ) → OnOk r (pages.CountsOne p p' steps steps') → OnErr r (pages.CountsNone p p' steps steps') → CountsAlike (pages.words_in p) (pages.words_in p') steps steps'
 counted (Ok x) p p' steps steps' one none = counted-one (pages.words_in p) (pages.words_in p') steps steps' one.words one.ticks
 counted (Err e) p p' steps steps' one none = counted-none (pages.words_in p) (pages.words_in p') steps steps' none.words none.ticks
+
+-- of the words that a search looks at
+pub counted_some : {T E : Type 0} (n : T → ℕ) (r : Result T E) (p p' : Pages) (steps steps' : ℕ) → IfOk r (λ x. pages.CountsSome (n x) p p' steps steps') → OnErr r (pages.CountsNone p p' steps steps')
+    → CountsAlike (pages.words_in p) (pages.words_in p') steps steps'
+counted_some n (Ok x) p p' steps steps' some none = (n x, some.ticks, some.words)
+counted_some n (Err e) p p' steps steps' some none = counted-none (pages.words_in p) (pages.words_in p') steps steps' none.words none.ticks
 
 -- nothing changed but the count
 pub keeps_now : (v : VolumeHeld) (p : Pages) → pages.Keeps v.pages p → Keeps v (with_pages v p)

@@ -1,9 +1,10 @@
 // The words of a volume.
-ghost use Rattle.std.specs.Prelude.{◌≡◌, ◌≤◌, ◌<◌, ◌+◌, ◌*◌, true, IfOk, OnErr, OnOk};
+ghost use Rattle.std.specs.Prelude.{◌≡◌, ◌≤◌, ◌<◌, ◌+◌, ◌*◌, true, IfOk, IfSome, OnErr, OnOk};
 ghost use Rattle.std.specs.Option.{ForSome};
 ghost use Rattle.mg_disk.specs.Stops.{CountRose};
 ghost use Rattle.mg_model.specs.Limits.{page_size};
 ghost use Rattle.mg_model.specs.Objects.{with_word, word_at};
+ghost use Rattle.mg_pages.specs.Pairs.{IsNextPair, words_looked_at};
 ghost use Rattle.mg_volume.specs.Calls.{Reads, Serves};
 ghost use Rattle.mg_volume.specs.Meaning.{Keeps, SameParts, StandsOn, has_page, is_sound, now_of, objects_in, staged_of, total_of};
 ghost use Rattle.mg_volume.specs.Staging.{ObjectsStillStaged};
@@ -36,6 +37,33 @@ impl Volume {
         ensures cause { OnErr result (CountRose D.Disk disk.old disk.new) }
     {
         self.pages.page_word(disk, page, index, steps)
+    }
+
+    /// The first of the pairs of a page's words from place `from` on, and before place `count`, whose first word is `first`: its
+    /// place and its second word. Pair j is words 2 + 2 * j and 3 + 2 * j of a page of an object. [`Failed`] comes only if a call of
+    /// the disk failed, and changes nothing. Ok counts each word that is looked at, here and in `steps`.
+    pub fn next_pair<D: Disk, L: Ledger>(
+        &mut self,
+        disk: &mut D,
+        page: u64,
+        from: u64,
+        count: u64,
+        first: u64,
+        steps: &mut Steps<L>,
+    ) -> Result<Option<(u64, u64)>, Failed>
+        requires stands { StandsOn D.Disk self.old disk.old }
+        requires page { has_page self.old page ≡ true }
+        requires from_up_to_count { from ≤ count }
+        requires at_most_255_pairs { count ≤ 255 }
+        ensures found { IfOk result (λ found. ForSome (D.seen disk.old) (λ image. IsNextPair (λ index. word_at (now_of self.old image).objects (page_size * page + 8 * index)) from count first found)) }
+        ensures place { IfOk result (λ found. IfSome found (λ pair. (from ≤ pair.0) × (pair.0 < count))) }
+        ensures reads { Reads D.Disk self.old self.new disk.old disk.new steps.old steps.new }
+        ensures objects { ObjectsStillStaged self.old self.new }
+        ensures each { IfOk result (λ found. steps.new ≡ steps.old + words_looked_at from count found) }
+        ensures none { OnErr result (steps.new ≡ steps.old) }
+        ensures cause { OnErr result (CountRose D.Disk disk.old disk.new) }
+    {
+        self.pages.next_pair(disk, page, from, count, first, steps)
     }
 
     /// Writes a word at an index, below 512, of a page of an object. [`Failed`] comes only if a call of the disk failed,
