@@ -1,5 +1,5 @@
 // The search through the capability lists of a thread, over the words of the moment.
-ghost use Rattle.std.specs.Prelude.{List, ◌≡◌, ◌≤◌, ◌<◌, ◌+◌, ◌*◌, ◌/◌, ◌==◌, ℕ, true, false, find, length, slice_index, IfOk, IsSome, MatchOption, None, OnErr, OnOk};
+ghost use Rattle.std.specs.Prelude.{List, ◌≡◌, ◌≤◌, ◌<◌, ◌+◌, ◌*◌, ◌/◌, ◌==◌, ℕ, true, false, find, length, slice_index, IfOk, IfSome, IsSome, MatchOption, None, OnErr, OnOk};
 ghost use Rattle.std.specs.List.{list_any};
 ghost use Rattle.std.specs.Option.{ForSome};
 ghost use Rattle.mg_calls_dom.specs.Searching as searching;
@@ -7,6 +7,7 @@ ghost use Rattle.mg_calls_dom.specs.Searching.{IsOpenedBy};
 ghost use Rattle.mg_disk.specs.Stops.{CountRose};
 ghost use Rattle.mg_model.specs.Access.{domain_of, entries_of};
 ghost use Rattle.mg_model.specs.Limits.{page_size, search_limit};
+ghost use Rattle.mg_volume.specs.Pairs.{IsNextPair, words_looked_at};
 ghost use Rattle.mg_volume.specs.Calls.{IsSoundOn, Reads};
 ghost use Rattle.mg_volume.specs.Meaning.{has_page, now_of, objects_in, threads_in};
 
@@ -48,31 +49,30 @@ fn list_word<D: Disk, L: Ledger>(
     volume.word(disk, list / PAGE_SIZE, index, steps)
 }
 
-// Whether the entry at place j of a capability list is for the object that is sought, with a password that gives the right.
-// The password is read only if the base is the object's.
-fn entry_opens<D: Disk, L: Ledger>(
+// The first entry of a capability list from place `from` on, and before place `count`, that is for the object with this base: its
+// place and its password. The password is read only of such an entry.
+fn next_entry<D: Disk, L: Ledger>(
     volume: &mut Volume,
     disk: &mut D,
     list: u64,
-    j: u64,
-    sought: &Sought,
+    from: u64,
+    count: u64,
+    base: u64,
     steps: &mut Steps<L>,
-) -> Result<bool, Failed>
+) -> Result<Option<(u64, u64)>, Failed>
     requires sound { IsSoundOn D.Disk volume.old disk.old }
     requires held { IsSome (find (λ row. row.base == list) (objects_in volume.old)) }
     requires page { has_page volume.old (list / page_size) ≡ true }
-    requires place { j < 255 }
-    ensures opens { IfOk result (λ found. ForSome (D.seen disk.old) (λ image. found ≡ searching.opens sought.now (searching.entry_at (searching.words_based (now_of volume.old image).objects list) j))) }
-    ensures at_most_2_read { steps.new ≤ steps.old + 2 }
+    requires from_up_to_count { from ≤ count }
+    requires at_most_255_entries { count ≤ 255 }
+    ensures found { IfOk result (λ found. ForSome (D.seen disk.old) (λ image. IsNextPair (λ index. slice_index (searching.words_based (now_of volume.old image).objects list) index) from count base found)) }
+    ensures place { IfOk result (λ found. IfSome found (λ pair. (from ≤ pair.0) × (pair.0 < count))) }
+    ensures each { IfOk result (λ found. steps.new ≡ steps.old + words_looked_at from count found) }
+    ensures none { OnErr result (steps.new ≡ steps.old) }
     ensures reads { Reads D.Disk volume.old volume.new disk.old disk.new steps.old steps.new }
     ensures cause { OnErr result (CountRose D.Disk disk.old disk.new) }
 {
-    let base = list_word(volume, disk, list, 2 + 2 * j, steps)?;
-    if base != sought.object.base() {
-        return Ok(false);
-    }
-    let password = list_word(volume, disk, list, 3 + 2 * j, steps)?;
-    Ok(holds(&sought.object, password, sought.right, sought.period))
+    volume.next_pair(disk, list / PAGE_SIZE, from, count, base, steps)
 }
 
 // Whether an entry of a capability list opens the object. The search stops at the first that does.
@@ -92,9 +92,17 @@ fn list_opens<D: Disk, L: Ledger>(
     ensures cause { OnErr result (CountRose D.Disk disk.old disk.new) }
 {
     let count = entries(list_word(volume, disk, list, 0, steps)?);
-    for j in 0..count {
-        if entry_opens(volume, disk, list, j, sought, steps)? {
-            return Ok(true);
+    let base = sought.object.base();
+    let mut from = 0;
+    while from < count {
+        match next_entry(volume, disk, list, from, count, base, steps)? {
+            Some((j, password)) => {
+                if holds(&sought.object, password, sought.right, sought.period) {
+                    return Ok(true);
+                }
+                from = j + 1;
+            }
+            None => return Ok(false),
         }
     }
     Ok(false)

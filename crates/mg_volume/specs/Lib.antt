@@ -1,6 +1,7 @@
 -- Definitions, in the order in which one reads them. First what a layer above sees.
 pub mod Held
 pub mod Meaning
+pub mod Pairs
 pub mod Opening
 pub mod Staging
 pub mod Calls

@@ -1,32 +1,49 @@
-use Rattle.std.proofs.Common.{arith, sym, ◌∙◌}
-use Rattle.mg_calls_dom.specs.Searching.{entry_at, opens, words_based}
-use Rattle.mg_calls_dom.proofs.Entries.{entry-hit, entry-miss}
-use Rattle.mg_volume.specs.RunLemmas.{reads_then, told_since}
+use Rattle.std.proofs.Common.{◌≡◌, ◌+◌, ◌-◌, ◌≤◌, ◌<◌, ◌∙◌, IfSome, None, Some, arith, subst, sym}
+use Rattle.mg_calls_dom.proofs.Entries.{entry_before, next-hit, next-miss, next-none}
+use Rattle.mg_calls_dom.specs.Searching.{words_based}
 use Rattle.mg_volume.specs.Meaning.{now_of}
+use Rattle.mg_volume.specs.Pairs.{words_looked_at}
+use Rattle.mg_volume.specs.RunLemmas.{reads_then}
 use Rattle.mg_calls_dom.proofs.lists.list_opens.Goals as goal
 
-pub returns-in_err-entry_opens-clause-reads : goal.returns-in_err-entry_opens-clause-reads
-returns-in_err-entry_opens-clause-reads g c =
-    reads_then g.D.Disk c.args.volume.now c.loop-j.volume c.entry_opens.new.volume c.args.disk.now c.loop-j.disk c.entry_opens.new.disk c.args.steps.now c.loop-j.steps c.entry_opens.new.steps c.loop-j.invariant.reads c.entry_opens.ensures.reads
+pub returns-then-holds-clause-opens : goal.returns-then-holds-clause-opens
+returns-then-holds-clause-opens g c image told =
+    next-hit c.args.sought.now (words_based (now_of c.args.volume.now image).objects c.args.list) c.loop-from.from c.entries-count.result (c.loop-from.invariant.rest image told) (c.in-Some.j, c.in-Some.password)
+    (subst (λ o. IfSome o (λ pair. (c.loop-from.from ≤ pair.0) × (pair.0 < c.entries-count.result))) c.in-Some.is c.in_ok-j.ensures.place)
+    (entry_before g.D.Disk c.args.volume.now c.loop-from.volume c.args.disk.now c.loop-from.disk c.args.steps.now c.loop-from.steps c.args.list c.loop-from.from c.entries-count.result c.base-base.result c.args.sought.now
+    _ (Some (c.in-Some.j, c.in-Some.password)) c.loop-from.invariant.reads c.base-base.ensures.value c.in-Some.is c.in_ok-j.ensures.found image told)
+    (sym c.if-holds.true ∙ c.holds.ensures)
 
-pub returns-then-branch-clause-opens : goal.returns-then-branch-clause-opens
-returns-then-branch-clause-opens g c image told =
-    let base = c.args.list in
-    let found = told_since g.D.Disk c.args.volume.now c.loop-j.volume c.args.disk.now c.loop-j.disk c.args.steps.now c.loop-j.steps c.in_ok-entry_opens.field-0 (λ state. opens c.args.sought.now (entry_at (words_based state.objects base) c.loop-j.j))
-    c.loop-j.invariant.reads c.in_ok-entry_opens.ensures.opens image told in
-    entry-hit (λ entry. opens c.args.sought.now entry) (words_based (now_of c.args.volume.now image).objects base) c.loop-j.j c.entries-count.result c.loop-j-test.true (sym c.if-branch.true ∙ found) (c.loop-j.invariant.rest image told)
+pub returns-then-holds-clause-reads : goal.returns-then-holds-clause-reads
+returns-then-holds-clause-reads g c =
+    reads_then g.D.Disk c.args.volume.now c.loop-from.volume c.next_entry.new.volume c.args.disk.now c.loop-from.disk c.next_entry.new.disk c.args.steps.now c.loop-from.steps c.next_entry.new.steps c.loop-from.invariant.reads c.next_entry.ensures.reads
 
-pub returns-then-branch-clause-reads : goal.returns-then-branch-clause-reads
-returns-then-branch-clause-reads g c =
-    reads_then g.D.Disk c.args.volume.now c.loop-j.volume c.entry_opens.new.volume c.args.disk.now c.loop-j.disk c.entry_opens.new.disk c.args.steps.now c.loop-j.steps c.entry_opens.new.steps c.loop-j.invariant.reads c.entry_opens.ensures.reads
+pub loop-from-preserved : goal.loop-from-preserved
+loop-from-preserved g c =
+    let place = subst (λ o. IfSome o (λ pair. (c.loop-from.from ≤ pair.0) × (pair.0 < c.entries-count.result))) c.in-Some.is c.in_ok-j.ensures.place in
+    let below = place.1 in
+    let least = place.0 in
+    record {
+      within = omega arith;
+      reads = reads_then g.D.Disk c.args.volume.now c.loop-from.volume c.next_entry.new.volume c.args.disk.now c.loop-from.disk c.next_entry.new.disk c.args.steps.now c.loop-from.steps c.next_entry.new.steps c.loop-from.invariant.reads c.next_entry.ensures.reads;
+      few =
+          let was = c.loop-from.invariant.few in
+          let each : c.next_entry.new.steps ≡ c.loop-from.steps + (c.in-Some.j - c.loop-from.from + 2) =
+          subst (λ o. c.next_entry.new.steps ≡ c.loop-from.steps + words_looked_at c.loop-from.from c.entries-count.result o) c.in-Some.is c.in_ok-j.ensures.each in
+          omega arith;
+      rest = λ image told.
+          next-miss c.args.sought.now (words_based (now_of c.args.volume.now image).objects c.args.list) c.loop-from.from c.entries-count.result (c.loop-from.invariant.rest image told) (c.in-Some.j, c.in-Some.password) place
+          (entry_before g.D.Disk c.args.volume.now c.loop-from.volume c.args.disk.now c.loop-from.disk c.args.steps.now c.loop-from.steps c.args.list c.loop-from.from c.entries-count.result c.base-base.result c.args.sought.now
+          _ (Some (c.in-Some.j, c.in-Some.password)) c.loop-from.invariant.reads c.base-base.ensures.value c.in-Some.is c.in_ok-j.ensures.found image told)
+          (sym c.if-holds.false ∙ c.holds.ensures);
+    }
 
-pub loop-j-preserved : goal.loop-j-preserved
-loop-j-preserved g c = record {
-  reads = reads_then g.D.Disk c.args.volume.now c.loop-j.volume c.entry_opens.new.volume c.args.disk.now c.loop-j.disk c.entry_opens.new.disk c.args.steps.now c.loop-j.steps c.entry_opens.new.steps c.loop-j.invariant.reads c.entry_opens.ensures.reads;
-  few = let was = c.loop-j.invariant.few in let more = c.entry_opens.ensures.at_most_2_read in omega arith;
-  rest = λ image told.
-      let base = c.args.list in
-      let found = told_since g.D.Disk c.args.volume.now c.loop-j.volume c.args.disk.now c.loop-j.disk c.args.steps.now c.loop-j.steps c.in_ok-entry_opens.field-0 (λ state. opens c.args.sought.now (entry_at (words_based state.objects base) c.loop-j.j))
-      c.loop-j.invariant.reads c.in_ok-entry_opens.ensures.opens image told in
-      entry-miss (λ entry. opens c.args.sought.now entry) (words_based (now_of c.args.volume.now image).objects base) c.loop-j.j c.entries-count.result c.loop-j-test.true (sym c.if-branch.false ∙ found) (c.loop-j.invariant.rest image told);
-}
+pub returns-in-None-clause-opens : goal.returns-in-None-clause-opens
+returns-in-None-clause-opens g c image told =
+    next-none c.args.sought.now (words_based (now_of c.args.volume.now image).objects c.args.list) c.loop-from.from c.entries-count.result (c.loop-from.invariant.rest image told) c.loop-from.invariant.within
+    (entry_before g.D.Disk c.args.volume.now c.loop-from.volume c.args.disk.now c.loop-from.disk c.args.steps.now c.loop-from.steps c.args.list c.loop-from.from c.entries-count.result c.base-base.result c.args.sought.now
+    _ None c.loop-from.invariant.reads c.base-base.ensures.value c.in-None.is c.in_ok-j.ensures.found image told)
+
+pub returns-in-None-clause-reads : goal.returns-in-None-clause-reads
+returns-in-None-clause-reads g c =
+    reads_then g.D.Disk c.args.volume.now c.loop-from.volume c.next_entry.new.volume c.args.disk.now c.loop-from.disk c.next_entry.new.disk c.args.steps.now c.loop-from.steps c.next_entry.new.steps c.loop-from.invariant.reads c.next_entry.ensures.reads
