@@ -1,5 +1,6 @@
 -- Bodies that are read together, and homes that are written together.
-use Rattle.std.specs.Prelude.{◌≡◌, ◌++◌, ◌+◌, ◌-◌, ◌≤◌, ◌<◌, ℕ, zero, suc, true, All, List, [], drop, length, IsSomeAnd, option_map, slice_set, take, Option, Some, None}
+use Rattle.std.proofs.lemmas.Bool.Decides.{nat_tests}
+use Rattle.std.specs.Prelude.{◌≡◌, ◌+◌, ◌-◌, ◌≤◌, ◌<◌, ℕ, zero, suc, true, All, List, [], length, IsSomeAnd, option_map, slice_set, take, Option, Some, None}
 use Rattle.std.specs.Option.{ForSome}
 use Rattle.std.proofs.Common.{refl, sym, ap, subst, ◌∙◌, ⊎_elim, arith}
 use Rattle.std.proofs.lemmas.Bool.{cases_lt}
@@ -22,13 +23,8 @@ module _ (low high : ℕ) (old part : Image) (ordered : low ≤ high) (within : 
   abbrev put : Image
   put = put_mid low (high - low) old part
 
-  end : high ≡ low + length part
-  end = omega arith
-
   is_chunk : put ≡ put_chunk low old part
-  is_chunk =
-      ap (λ n. take low old ++ (part ++ drop n (drop low old))) (sym long)
-      ∙ sym (put_chunk_is low old part (omega arith))
+  is_chunk = grind (arith, put_chunk_is)
 
   before : (k : ℕ) → k < low → block_at put k ≡ block_at old k
   before k less = ap (λ l. block_at l k) is_chunk ∙ get_or-put_chunk_below low old part k [] less
@@ -97,10 +93,7 @@ module _ (places : List (ℕ × ℕ)) (a : Image) (first : ℕ) where
         other i apart = ap (λ l. block_at l i) set_is ∙ get_or-set_other (so_far n) (home + n) i (block_at new (home + n)) [] apart
 
         at : block_at (so_far (n + 1)) (home + n) ≡ block_at new (home + n)
-        at =
-            ⊎_elim (λ inside. ap (λ l. block_at l (home + n)) set_is ∙ get_or-set_same (so_far n) (home + n) (block_at new (home + n)) [] inside)
-            (λ past. let l = count_is (n + 1) in let m = count_is n in get_or_past (so_far (n + 1)) (home + n) [] (omega arith) ∙ sym (get_or_past new (home + n) [] (omega arith)))
-            (cases_lt (home + n) (length (so_far n)))
+        at = grind (arith, nat_tests, set_is, get_or-set_same, count_is, get_or_past)
 
     all_of : (n : ℕ) → first + n ≤ length places → AreInRow places first n → ((j : ℕ) → j < n → block_at new (home + j) ≡ block_at a (nth_body places (first + j))) → Written n
     all_of zero inside row has = record { here = λ i low high. absurd (omega arith); below = λ i low. refl; above = λ i high. refl }
@@ -139,10 +132,7 @@ named_row a places first n row inside in_row long k at =
 
 -- a row ends on the disk
 pub row_fits : (total : ℕ) (places : List (ℕ × ℕ)) (first n : ℕ) (row : Image) → All (IsPlace total) places → 0 < n → first + n ≤ length places → AreInRow places first n → length row ≡ n → nth_home places first + length row ≤ total
-row_fits total places first n row all some inside in_row long =
-    let last = in_row (n - 1) (omega arith) in
-    let high = (all (first + (n - 1)) (0, 0) (omega arith)).high in
-    omega (arith, last, high, long)
+row_fits total places first n row all some inside in_row long = grind (arith)
 
 -- a row more is written
 pub row_applied : (n : ℕ) (places : List (ℕ × ℕ)) (first count : ℕ) (memory row : Image) (told mid new : Option Image) → All (IsPlace n) places → first + count ≤ length places → AreInRow places first count
@@ -150,22 +140,14 @@ pub row_applied : (n : ℕ) (places : List (ℕ × ℕ)) (first count : ℕ) (me
     → mid ≡ option_map (λ a. written a (filled a (take first places))) told → SeenBut (InRange (nth_home places first) (length row)) mid new → ForSome new (HasBlocks (nth_home places first) row)
     → new ≡ option_map (λ a. written a (filled a (take (first + count) places))) told
 row_applied n places first count memory row None mid None all inside in_row gathered long bodies so_far same has = refl
-row_applied n places first count memory row None mid (Some b) all inside in_row gathered long bodies so_far same has =
-    absurd (subst (λ o. SeenBut (InRange (nth_home places first) (length row)) o (Some b)) so_far same)
-row_applied n places first count memory row (Some a) mid None all inside in_row gathered long bodies so_far same has =
-    absurd (subst (λ o. SeenBut (InRange (nth_home places first) (length row)) o None) so_far same)
+row_applied n places first count memory row None mid (Some b) all inside in_row gathered long bodies so_far same has = grind (arith)
+row_applied n places first count memory row (Some a) mid None all inside in_row gathered long bodies so_far same has = grind (arith)
 row_applied n places first count memory row (Some a) mid (Some b) all inside in_row gathered long bodies so_far same has =
     ap (λ x. Some x)
     (row_written places a first count memory row b inside in_row gathered long (bodies a refl) (λ k less. (all k (0, 0) less).body) but (has b refl))
   where
-    none : first ≡ first + 0
-    none = omega arith
-
     but : SameBut (InRange (nth_home places first) count) (written a (filled a (take (first + 0) places))) b
-    but =
-        subst (λ f. SameBut (InRange (nth_home places first) count) (written a (filled a (take f places))) b) none
-        (subst (λ c. SameBut (InRange (nth_home places first) c) (written a (filled a (take first places))) b) long
-        (subst (λ o. SeenBut (InRange (nth_home places first) (length row)) o (Some b)) so_far same))
+    but = grind (arith)
 
 -- What reads give after one more call, whatever it answers: still the image as it was told first but at these places.
 pub torn_more : (P : Image → ℕ → Type 0) (these : ℕ → Type 0) (told mid new : Option Image) → ((a : Image) (k : ℕ) → these k → P a k) → ForSome told (λ a. IsSomeAnd mid (SameBut (P a) a)) → SeenBut these mid new → ForSome told (λ a. IsSomeAnd new (SameBut (P a) a))

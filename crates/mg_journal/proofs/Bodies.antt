@@ -1,6 +1,7 @@
 -- Lemmas on the places of bodies: one more, and whether a segment fits.
+use Rattle.std.proofs.lemmas.Bool.Decides.{nat_tests}
 use Rattle.std.specs.Prelude.{◌≡◌, ◌+◌, ◌≤◌, ◌<◌, ◌&&◌, nat_le, nat_lt, ℕ, Bool, zero, suc, true, false, All, [], ◌∷◌, ◌++◌, if◌then◌else◌}
-use Rattle.std.proofs.Common.{refl, sym, ap, ◌∙◌, ⊎_elim, arith, append_assoc}
+use Rattle.std.proofs.Common.{refl, ap, ◌∙◌, ⊎_elim, arith, append_assoc}
 use Rattle.std.proofs.lemmas.Bool.{and_from, and_left, and_parts, and_right, both_ways, cases_Bool, cases_eq, le-leb, leb-true, lt-ltb, ltb-true}
 use Rattle.std.proofs.lemmas.List.{append-nil}
 use Rattle.std.proofs.lemmas.List.Elements.{All-head, All-tail}
@@ -16,10 +17,7 @@ not_le a b more = ⊎_elim (λ is. let le = leb-true a b is in absurd (omega ari
 
 pub places_from-last : (image : Image) (s j n : ℕ) → places_from image s j (suc n) ≡ places_from image s j n ++ (home_of image s (j + n), segment_body s (j + n)) ∷ []
 places_from-last image s j zero = let at : j ≡ j + zero = omega arith in ap (λ k. (home_of image s k, segment_body s k) ∷ []) at
-places_from-last image s j (suc n) =
-    let at : j + 1 + n ≡ j + suc n = omega arith in
-    ap (λ places. (home_of image s j, segment_body s j) ∷ places)
-    (places_from-last image s (j + 1) n ∙ ap (λ k. places_from image s (j + 1) n ++ (home_of image s k, segment_body s k) ∷ []) at)
+places_from-last image s j (suc n) = grind (arith, places_from-last image s (j + 1) n)
 
 -- homes fit if the places are places
 pub homes_are-fit : (total : ℕ) (image : Image) (s j n : ℕ) → All (IsPlace total) (places_from image s j n) → homes_fit total (writes_from image s j n) ≡ true
@@ -37,18 +35,14 @@ is_home total home = nat_le globals_block home && nat_lt home total
 -- they do not if one of them is within the journal or past the volume
 pub homes_are-unfit : (total : ℕ) (image : Image) (s j n k : ℕ) → k < n → is_home total (home_of image s (j + k)) ≡ false → homes_fit total (writes_from image s j n) ≡ false
 homes_are-unfit total image s j zero k below out = absurd (omega arith)
-homes_are-unfit total image s j (suc n) zero below out =
-    let at : j ≡ j + zero = omega arith in
-    and_left (is_home total (home_of image s j)) (homes_fit total (writes_from image s (j + 1) n)) (ap (λ k. is_home total (home_of image s k)) at ∙ out)
+homes_are-unfit total image s j (suc n) zero below out = grind (arith, and_left)
 homes_are-unfit total image s j (suc n) (suc k) below out =
     let at : j + 1 + k ≡ j + suc k = omega arith in
     and_right (is_home total (home_of image s j)) (homes_fit total (writes_from image s (j + 1) n))
     (homes_are-unfit total image s (j + 1) n k (omega arith) (ap (λ m. is_home total (home_of image s m)) at ∙ out))
 
 pub home-place : (total home body : ℕ) → is_home total home ≡ true → body < globals_block → IsPlace total (home, body)
-home-place total home body is inside =
-    let parts = and_parts (nat_le globals_block home) (nat_lt home total) is in
-    record { low = leb-true globals_block home parts.0; high = ltb-true home total parts.1; body = inside }
+home-place total home body is inside = grind (arith, and_parts, leb-true, ltb-true)
 
 module _ (total : ℕ) (image : Image) (s : ℕ) where
   pub bodies_are-fit : body_count image s ≤ body_limit → All (IsPlace total) (places_from image s 0 (body_count image s)) → bodies_fit total image s ≡ true
@@ -75,13 +69,8 @@ segments_fit-more total image s so_far here =
     fits-each total image 0 (s + 1) (λ t low high. ⊎_elim (λ is. ap (segment_fits total image) is ∙ here) (λ other. each-fits total image 0 s t so_far low (omega arith)) (cases_eq t s))
 
 pub segments_unfit : (total : ℕ) (image : Image) (s n : ℕ) → s < n → segment_fits total image s ≡ false → segments_fit total image 0 n ≡ false
-segments_unfit total image s n below unfit =
-    ⊎_elim (λ fit. absurd (both_ways (segment_fits total image s) unfit (each-fits total image 0 n s fit (omega arith) (omega arith)))) (λ no. no) (cases_Bool (segments_fit total image 0 n))
+segments_unfit total image s n below unfit = grind (arith, nat_tests, both_ways, each-fits)
 
 pub places_since-last : (image : Image) (from n : ℕ) → places_since image from (suc n) ≡ places_since image from n ++ places_of image (from + n)
 places_since-last image from zero = let at : from ≡ from + zero = omega arith in append-nil (places_of image from) ∙ ap (places_of image) at
-places_since-last image from (suc n) =
-    let at : from + 1 + n ≡ from + suc n = omega arith in
-    ap (λ places. places_of image from ++ places) (places_since-last image (from + 1) n)
-    ∙ sym (append_assoc (places_of image from) (places_since image (from + 1) n) (places_of image (from + 1 + n)))
-    ∙ ap (λ t. (places_of image from ++ places_since image (from + 1) n) ++ places_of image t) at
+places_since-last image from (suc n) = grind (arith, append_assoc, places_since-last image (from + 1) n)

@@ -1,4 +1,5 @@
 -- Lemmas on the closing of gates.
+use Rattle.std.proofs.lemmas.Bool.Decides.{nat_tests}
 use Rattle.std.specs.Prelude.{◌≡◌, ◌+◌, ◌<◌, nat_lt, ℕ, true, false, Option, Some, IsSomeAnd, is_some}
 use Rattle.std.specs.Option.{ForSome}
 use Rattle.std.proofs.Common.{refl, sym, ap, subst, ◌∙◌, ⊎_elim, arith}
@@ -36,15 +37,11 @@ closed_more s total a b c few up_to one = record {
 }
   where
     before : (t : ℕ) → t < s → is_open c t ≡ false
-    before t low =
-        ⊎_elim (λ is. ap (λ i. is_open i t) is ∙ up_to.shut t low)
-        (λ gate. same_gate b c t (gate.1.others (segment_gate t) (λ is. omega arith)) ∙ up_to.shut t low) one.may
+    before t low = grind (arith, nat_tests, same_gate)
 
 -- the gates after it are as they were
 behind_open : (s n : ℕ) (b c : Image) → AreOpen s n b → MayCloseOne s b c → AreOpen (s + 1) n c
-behind_open s n b c are may t low high =
-    ⊎_elim (λ is. ap (λ i. is_open i t) is ∙ are t (omega arith) high)
-    (λ gate. same_gate b c t (gate.1.others (segment_gate t) (λ is. omega arith)) ∙ are t (omega arith) high) may
+behind_open s n b c are may t low high = grind (arith, nat_tests, same_gate)
 
 module _ {D : Type 0} (facts : Ghosts D) (s n : ℕ) where
   -- gate s is open if those from it on are

@@ -1,5 +1,5 @@
 -- The images of a commit, phase by phase.
-use Rattle.std.specs.Prelude.{◌≡◌, ◌+◌, ◌≤◌, ◌<◌, nat_le, ℕ, true, false, List, [], length, option_map, slice_index, slice_set, Option, Some, None}
+use Rattle.std.specs.Prelude.{◌≡◌, ◌+◌, ◌≤◌, ◌<◌, nat_le, ℕ, true, false, List, length, option_map, slice_index, slice_set, Option, Some, None}
 use Rattle.std.proofs.Common.{ap, subst, ◌∙◌, inl, inr, ⊎_elim, arith}
 use Rattle.std.proofs.lemmas.Bool.{and_from, eq-eqb, le-leb}
 use Rattle.std.proofs.lemmas.List.{get_or-set_same}
@@ -78,9 +78,7 @@ module _ (total n : ℕ) (writes : List (ℕ × List ℕ)) (a : Image) (place : 
       gate_alone = same_set b (segment_gate n) gate
 
       is_opened : is_open opened n ≡ true
-      is_opened =
-          let c = holds.same.count in
-          eq-eqb (slice_index (block_at opened (segment_gate n)) 0) gate_open (ap (λ block. slice_index block 0) (get_or-set_same b (segment_gate n) gate [] (omega arith)) ∙ opens)
+      is_opened = grind (arith, eq-eqb, get_or-set_same)
 
       behind : (k : ℕ) → segment_gate n < k → k < segment_gate (n + 1) → block_at opened k ≡ block_at b k
       behind k low high = gate_alone.others k (λ is. omega arith)

@@ -1,12 +1,13 @@
 -- What changes at the homes of open segments do to the contents, and what closing the gates does once the homes are written.
+use Rattle.std.proofs.lemmas.Bool.Decides.{nat_tests}
 use Rattle.std.specs.Prelude.{◌≡◌, ◌≢◌, ◌⊎◌, ◌+◌, ◌-◌, ◌≤◌, ◌<◌, ◌==◌, ◌&&◌, nat_le, nat_lt, ℕ, zero, suc, true, false, List, [], ◌∷◌, ◌++◌, Some}
 use Rattle.std.proofs.Common.{refl, sym, ap, subst, ◌∙◌, ⊎_elim, inl, inr, arith}
 use Rattle.std.proofs.lemmas.Bool.{and_parts, both_ways, cases_Bool, cases_eq, cases_lt, eqb-true, leb-true, or_cases, or_left, or_right}
 use Rattle.std.proofs.lemmas.List.{ext_get_or}
 use Rattle.mg_disk.specs.Disk.{Image, SameBut, block_at, only_place}
-use Rattle.mg_model.specs.Layout.{body_limit, globals_block, segment_count, segment_gate}
-use Rattle.mg_model.specs.Replay.{body_count, homes_fit, is_open, replay, segment_fits, segments_fit, writes_of, writes_since, written}
-use Rattle.mg_journal.specs.Contents.{ClosedBelow, InJournal, bodies_of, names}
+use Rattle.mg_model.specs.Layout.{globals_block, segment_count, segment_gate}
+use Rattle.mg_model.specs.Replay.{homes_fit, is_open, replay, segment_fits, segments_fit, writes_of, writes_since, written}
+use Rattle.mg_journal.specs.Contents.{ClosedBelow, InJournal, names}
 use Rattle.mg_journal.specs.JournalLemmas.{open_writes, replay-some, replayed-fits, replayed-is, same_gate, same_wider}
 use Rattle.mg_journal.specs.SegmentLemmas.{IsAlike, all-write, alike-gates, alike-whole, each-fits, fits-closed, fits-each, fits-open, writes-closed, writes-open, writes_since-none, writes_since-split}
 use Rattle.mg_journal.specs.WrittenLemmas.{last_change_nothing, written_elsewhere, written_over, written_same}
@@ -32,15 +33,7 @@ names-last ((i, x) ∷ first) last k named = or_right (i == k) (names (first ++ 
 
 -- so do those of open segments that fit
 segment-behind : (total : ℕ) (a : Image) (s k : ℕ) → segment_fits total a s ≡ true → names (writes_of a s) k ≡ true → globals_block ≤ k
-segment-behind total a s k fit named = ⊎_elim opened shut (cases_Bool (is_open a s))
-  where
-    opened : is_open a s ≡ true → globals_block ≤ k
-    opened is =
-        fit-behind total (bodies_of a s) k (and_parts (nat_le (body_count a s) body_limit) (homes_fit total (bodies_of a s)) (sym (fits-open total a s is) ∙ fit)).1
-        (ap (λ w. names w k) (sym (writes-open a s is)) ∙ named)
-
-    shut : is_open a s ≡ false → globals_block ≤ k
-    shut is = absurd (both_ways false refl (ap (λ w. names w k) (sym (writes-closed a s is)) ∙ named))
+segment-behind total a s k fit named = grind (arith, nat_tests, fit-behind, and_parts, fits-open, writes-open, both_ways, writes-closed)
 
 pub since-behind : (total : ℕ) (a : Image) (from n k : ℕ) → segments_fit total a from n ≡ true → names (writes_since a from n) k ≡ true → globals_block ≤ k
 since-behind total a from zero k fit named = absurd (both_ways false refl named)
@@ -48,26 +41,19 @@ since-behind total a from (suc n) k fit named =
     let parts = and_parts (segment_fits total a from) (segments_fit total a (from + 1) n) fit in
     ⊎_elim (segment-behind total a from k parts.0) (since-behind total a (from + 1) n k parts.1) (names-append (writes_of a from) (writes_since a (from + 1) n) k named)
 
+-- when the replay takes the same from each segment
+alike_replays : (total : ℕ) (a b r : Image) → segments_fit total a 0 segment_count ≡ true → ((s : ℕ) → s < segment_count → IsAlike total a b s) → written b (open_writes a) ≡ r → replay b total ≡ Some r
+alike_replays total a b r fit alike is =
+    replay-some total b (fits-each total b 0 segment_count (λ s low high. (alike s (omega arith)).fits ∙ each-fits total a 0 segment_count s fit low high))
+    ∙ ap (λ w. Some (written b w)) (all-write a b 0 segment_count (λ s low high. (alike s (omega arith)).writes (each-fits total a 0 segment_count s fit low high)))
+    ∙ ap (λ i. Some i) is
+
 -- Any bytes in the homes that open segments name leave the replay.
 pub homes_torn : (total : ℕ) (a b r : Image) → replay a total ≡ Some r → SameBut (λ k. names (open_writes a) k ≡ true) a b → replay b total ≡ Some r
 homes_torn total a b r is same =
-    replay-some total b fits ∙ ap (λ w. Some (written b w)) writes ∙ ap (λ i. Some i) (written_over (open_writes a) a b same) ∙ ap (λ i. Some i) (sym (replayed-is total a r is))
-  where
-    fit : segments_fit total a 0 segment_count ≡ true
-    fit = replayed-fits total a r is
-
-    journal : (k : ℕ) → k < globals_block → block_at b k ≡ block_at a k
-    journal k low = same.others k (λ named. let high = since-behind total a 0 segment_count k fit named in omega arith)
-
-    fits : segments_fit total b 0 segment_count ≡ true
-    fits =
-        fits-each total b 0 segment_count
-        (λ s low high. (alike-whole total a b s (λ k from to. journal k (omega arith))).fits ∙ each-fits total a 0 segment_count s fit low high)
-
-    writes : open_writes b ≡ open_writes a
-    writes =
-        all-write a b 0 segment_count
-        (λ s low high. (alike-whole total a b s (λ k from to. journal k (omega arith))).writes (each-fits total a 0 segment_count s fit low high))
+    let fit = replayed-fits total a r is in
+    let journal : (k : ℕ) → k < globals_block → block_at b k ≡ block_at a k = λ k low. same.others k (λ named. let high = since-behind total a 0 segment_count k fit named in omega arith) in
+    alike_replays total a b r fit (λ s few. alike-whole total a b s (λ k from to. journal k (omega arith))) (written_over (open_writes a) a b same ∙ sym (replayed-is total a r is))
 
 -- Once all homes are written the image is its own replay.
 pub homes_written : (total : ℕ) (a r : Image) → replay a total ≡ Some r → replay r total ≡ Some r
@@ -161,6 +147,4 @@ first_gate_torn total a b s few before opened is same = ⊎_elim still shut (cas
 
     still : is_open b s ≡ true → replay b total ≡ Some b
     still opened' =
-        replay-some total b (fits-each total b 0 segment_count (λ t low high. (alike opened' t).fits ∙ each-fits total a 0 segment_count t fit low high))
-        ∙ ap (λ w. Some (written b w)) (all-write a b 0 segment_count (λ t low high. (alike opened' t).writes (each-fits total a 0 segment_count t fit low high)))
-        ∙ ap (λ i. Some i) (still_written a b [] (open_writes a) (sym (replayed-is total a a is)) (λ k named. since-behind total a 0 segment_count k fit named) journal)
+        alike_replays total a b b fit (λ t few. alike opened' t) (still_written a b [] (open_writes a) (sym (replayed-is total a a is)) (λ k named. since-behind total a 0 segment_count k fit named) journal)

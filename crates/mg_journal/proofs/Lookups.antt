@@ -1,17 +1,19 @@
 -- Why a block of the contents is read at its newest body.
-use Rattle.std.specs.Prelude.{◌≡◌, ◌+◌, ◌<◌, ◌==◌, ℕ, Bool, zero, suc, true, false, List, [], ◌∷◌, ◌++◌, find, if◌then◌else◌, length, map, reverse, slice_set, Option, Some, None}
+use Rattle.std.specs.Prelude.{◌≡◌, ◌<◌, ◌==◌, ℕ, Bool, true, false, List, [], ◌∷◌, find, if◌then◌else◌, length, reverse, slice_set, Option, Some, None}
 use Rattle.std.specs.Option.{option_map_or, option_or}
 use Rattle.std.proofs.Common.{refl, sym, ap, ◌∙◌, ⊎_elim, arith}
 use Rattle.std.proofs.lemmas.Bool.{cases_Bool, eqb-true, eqb-false}
-use Rattle.std.proofs.lemmas.List.{get_or-set_other, get_or-set_same, length-set, map-append, reverse-append}
+use Rattle.std.proofs.lemmas.List.{get_or-set_other, get_or-set_same, length-set, reverse-append}
 use Rattle.std.proofs.lemmas.List.Folds.{find-append}
 use Rattle.mg_disk.specs.Disk.{Image, block_at}
-use Rattle.mg_model.specs.Layout.{segment_body, segment_count}
-use Rattle.mg_model.specs.Replay.{body_count, home_of, is_open, replay, writes_from, writes_of, writes_since, written}
+use Rattle.mg_model.specs.Layout.{segment_count}
+use Rattle.mg_model.specs.Replay.{replay, writes_since, written}
+use Rattle.mg_journal.proofs.ApplySteps.{filled_since}
+use Rattle.mg_journal.specs.Applied.{filled}
 use Rattle.mg_journal.specs.JournalLemmas.{replayed-is}
 use Rattle.mg_journal.specs.Looked.{Fits, Placed}
 use Rattle.mg_journal.specs.Newest.{is_for, newest_at}
-use Rattle.mg_journal.specs.Places.{places_from, places_of, places_since}
+use Rattle.mg_journal.specs.Places.{places_since}
 
 -- what is in block i after these writes, if x was there
 abbrev pub value_at : List (ℕ × List ℕ) → ℕ → List ℕ → List ℕ
@@ -30,57 +32,25 @@ written_at ((home, bytes) ∷ writes) a i inside =
     ∙ ap (value_at writes i) (⊎_elim here there (cases_Bool (home == i)))
   where
     here : (home == i) ≡ true → block_at (slice_set a home bytes) i ≡ (if home == i then bytes else block_at a i)
-    here is =
-        ap (λ k. block_at (slice_set a k bytes) i) (eqb-true home i is)
-        ∙ get_or-set_same a i bytes [] inside
-        ∙ ap (λ t. if t then bytes else block_at a i) (sym is)
+    here is = grind (arith, eqb-true, get_or-set_same)
 
     there : (home == i) ≡ false → block_at (slice_set a home bytes) i ≡ (if home == i then bytes else block_at a i)
-    there not =
-        get_or-set_other a home i bytes [] (λ is. eqb-false home i not (sym is))
-        ∙ ap (λ t. if t then bytes else block_at a i) (sym not)
-
--- a place as a write
-abbrev pub with_bytes : Image → ℕ × ℕ → ℕ × List ℕ
-with_bytes a place = (place.0, block_at a place.1)
+    there not = grind (arith, get_or-set_other, eqb-false)
 
 either : (a : Image) (test : Bool) (body other : ℕ) → (if test then block_at a body else block_at a other) ≡ block_at a (if test then body else other)
 either a true body other = refl
 either a false body other = refl
 
-pub value_held : (a : Image) (places : List (ℕ × ℕ)) (i other : ℕ) → value_at (map (with_bytes a) places) i (block_at a other) ≡ block_at a (held_from places i other)
+pub value_held : (a : Image) (places : List (ℕ × ℕ)) (i other : ℕ) → value_at (filled a places) i (block_at a other) ≡ block_at a (held_from places i other)
 value_held a [] i other = refl
-value_held a ((home, body) ∷ places) i other =
-    ap (value_at (map (with_bytes a) places) i) (either a (home == i) body other) ∙ value_held a places i (if home == i then body else other)
-
-writes_are : (a : Image) (s j n : ℕ) → writes_from a s j n ≡ map (with_bytes a) (places_from a s j n)
-writes_are a s j zero = refl
-writes_are a s j (suc n) = ap (λ w. (home_of a s j, block_at a (segment_body s j)) ∷ w) (writes_are a s (j + 1) n)
-
-segment_writes_are : (a : Image) (s : ℕ) → writes_of a s ≡ map (with_bytes a) (places_of a s)
-segment_writes_are a s = by_gate (is_open a s)
-  where
-    by_gate : (t : Bool) → (if t then writes_from a s 0 (body_count a s) else []) ≡ map (with_bytes a) (if t then places_from a s 0 (body_count a s) else [])
-    by_gate true = writes_are a s 0 (body_count a s)
-    by_gate false = refl
-
-all_writes_are : (a : Image) (from n : ℕ) → writes_since a from n ≡ map (with_bytes a) (places_since a from n)
-all_writes_are a from zero = refl
-all_writes_are a from (suc n) =
-    ap (λ w. w ++ writes_since a (from + 1) n) (segment_writes_are a from)
-    ∙ ap (λ w. map (with_bytes a) (places_of a from) ++ w) (all_writes_are a (from + 1) n)
-    ∙ sym (map-append (with_bytes a) (places_of a from) (places_since a (from + 1) n))
+value_held a ((home, body) ∷ places) i other = grind (arith, either, value_held a places i (if home == i then body else other))
 
 abbrev pub found : Option (ℕ × ℕ) → ℕ → ℕ
 found place other = option_map_or (λ (p : ℕ × ℕ). p.1) place other
 
 later_first : (later : Option (ℕ × ℕ)) (home body i other : ℕ) → found later (if home == i then body else other) ≡ found (option_or later (find (is_for i) ((home, body) ∷ []))) other
 later_first (Some p) home body i other = refl
-later_first None home body i other = by_test (home == i)
-  where
-    by_test : (t : Bool) → (if t then body else other) ≡ found (if t then Some (home, body) else None) other
-    by_test true = refl
-    by_test false = refl
+later_first None home body i other = grind (arith)
 
 pub held_is : (places : List (ℕ × ℕ)) (i other : ℕ) → held_from places i other ≡ found (find (is_for i) (reverse places)) other
 held_is [] i other = refl
@@ -96,7 +66,7 @@ newest_reads view image r i fits inside is =
     ap (λ o. block_at image (found o i)) (fits.newest i)
     ∙ ap (block_at image) (sym (held_is places i i))
     ∙ sym (value_held image places i i)
-    ∙ ap (λ w. value_at w i (block_at image i)) (sym (all_writes_are image 0 segment_count))
+    ∙ ap (λ w. value_at w i (block_at image i)) (filled_since image 0 segment_count)
     ∙ sym (written_at (writes_since image 0 segment_count) image i inside)
     ∙ ap (λ a. block_at a i) (sym (replayed-is view.total image r is))
   where

@@ -1,20 +1,20 @@
 -- Why the newest bodies make the contents, and what a commit does to them.
-use Rattle.std.specs.Prelude.{◌≡◌, ◌≢◌, ◌⊎◌, ◌+◌, ◌-◌, ◌*◌, ◌≤◌, ◌<◌, ◌==◌, ◌||◌, nat_le, nat_lt, ℕ, Bool, zero, suc, true, false, List, [], ◌∷◌, ◌++◌, find, if◌then◌else◌, is_some, length, reverse, Option, Some, None}
+use Rattle.std.proofs.lemmas.Bool.Decides.{nat_tests}
+use Rattle.std.specs.Prelude.{◌≡◌, ◌≢◌, ◌⊎◌, ◌+◌, ◌-◌, ◌≤◌, ◌<◌, ◌==◌, nat_lt, ℕ, Bool, zero, suc, true, false, List, [], ◌∷◌, ◌++◌, find, if◌then◌else◌, is_some, length, reverse, Option, Some, None}
 use Rattle.std.specs.Option.{option_map_or, option_or}
 use Rattle.std.proofs.Common.{refl, sym, ap, subst, ◌∙◌, ⊎_elim, arith, append_assoc}
 use Rattle.std.proofs.lemmas.Bool.{and_from, cases_eq, cases_lt, le-leb, le-ltb, lt-ltb}
 use Rattle.std.proofs.lemmas.List.{append-nil, ext_get_or, reverse-append}
 use Rattle.std.proofs.lemmas.List.Folds.{find-append}
 use Rattle.mg_disk.specs.Disk.{Image, block_at}
-use Rattle.mg_model.specs.Bytes.{number_at}
 use Rattle.mg_model.specs.Layout.{body_limit, segment_body, segment_count, segment_gate, segment_index}
-use Rattle.mg_model.specs.Replay.{block_of, body_count, home_of, homes_fit, is_open, segment_fits, segments_fit, writes_from, written}
+use Rattle.mg_model.specs.Replay.{block_of, body_count, homes_fit, is_open, segment_fits, segments_fit, writes_from, written}
 use Rattle.mg_journal.proofs.ApplySteps.{filled_since}
 use Rattle.mg_journal.proofs.Bodies.{places-closed, places-open}
 use Rattle.mg_journal.proofs.Lookups.{held_is, value_held, written_at}
 use Rattle.mg_journal.proofs.Tables.{only-one}
 use Rattle.mg_journal.specs.Applied.{filled}
-use Rattle.mg_journal.specs.Contents.{InJournal, bodies_of, names}
+use Rattle.mg_journal.specs.Contents.{InJournal, names}
 use Rattle.mg_journal.specs.JournalLemmas.{same_gate, same_wider}
 use Rattle.mg_journal.specs.Looked.{Fits, Placed}
 use Rattle.mg_journal.specs.Newest.{Adds, Ascends, HasLast, is_for, lying}
@@ -28,11 +28,7 @@ use Rattle.mg_journal.specs.WrittenLemmas.{written_elsewhere}
 -- a block is named if one of the places belongs to it
 named_is : (a : Image) (places : List (ℕ × ℕ)) (k : ℕ) → names (filled a places) k ≡ is_some (find (is_for k) places)
 named_is a [] k = refl
-named_is a (place ∷ places) k = ap (λ t. (place.0 == k) || t) (named_is a places k) ∙ by_test (place.0 == k) (find (is_for k) places)
-  where
-    by_test : (t : Bool) (o : Option (ℕ × ℕ)) → (t || is_some o) ≡ is_some (if t then Some place else o)
-    by_test true o = refl
-    by_test false o = refl
+named_is a (place ∷ places) k = grind (arith, named_is a places k)
 
 turned : (k : ℕ) (places : List (ℕ × ℕ)) → is_some (find (is_for k) (reverse places)) ≡ is_some (find (is_for k) places)
 turned k [] = refl
@@ -83,22 +79,14 @@ table_settles view image fits up = record {
 -- places of the segments of two images that are alike
 places-all : (a b : Image) (from n : ℕ) → ((s : ℕ) → from ≤ s → s < from + n → places_of b s ≡ places_of a s) → places_since b from n ≡ places_since a from n
 places-all a b from zero alike = refl
-places-all a b from (suc n) alike =
-    let here : places_of b from ≡ places_of a from = alike from (omega arith) (omega arith) in
-    let rest : places_since b (from + 1) n ≡ places_since a (from + 1) n = places-all a b (from + 1) n (λ s low high. alike s (omega arith) (omega arith)) in
-    ap (λ p. p ++ places_since b (from + 1) n) here ∙ ap (λ p. places_of a from ++ p) rest
+places-all a b from (suc n) alike = grind (arith, places-all a b (from + 1) n (λ s low high. alike s (omega arith) (omega arith)))
 
 places-none : (a : Image) (from n : ℕ) → ((s : ℕ) → from ≤ s → s < from + n → is_open a s ≡ false) → places_since a from n ≡ []
 places-none a from zero shut = refl
-places-none a from (suc n) shut =
-    ap (λ p. p ++ places_since a (from + 1) n) (places-closed a from (shut from (omega arith) (omega arith)))
-    ∙ places-none a (from + 1) n (λ s low high. shut s (omega arith) (omega arith))
+places-none a from (suc n) shut = grind (arith, places-closed, places-none a (from + 1) n (λ s low high. shut s (omega arith) (omega arith)))
 
 places-split : (a : Image) (from m n : ℕ) → places_since a from (m + n) ≡ places_since a from m ++ places_since a (from + m) n
-places-split a from zero n =
-    let here : places_since a from (zero + n) ≡ places_since a from n = ap (places_since a from) (omega arith) in
-    let there : places_since a (from + zero) n ≡ places_since a from n = ap (λ s. places_since a s n) (omega arith) in
-    here ∙ sym there
+places-split a from zero n = grind (arith)
 places-split a from (suc m) n =
     let count : suc m + n ≡ suc (m + n) = omega arith in
     let place : from + 1 + m ≡ from + suc m = omega arith in
@@ -109,33 +97,21 @@ places-split a from (suc m) n =
 
 -- when no segment after s is open
 places-up_to : (i : Image) (s n count : ℕ) → s + suc n ≡ count → ((t : ℕ) → s < t → t < count → is_open i t ≡ false) → places_since i 0 count ≡ places_since i 0 s ++ places_of i s
-places-up_to i s n count is closed =
-    let from : 0 + s ≡ s = omega arith in
-    let behind : places_since i (s + 1) n ≡ [] = places-none i (s + 1) n (λ t low high. closed t (omega arith) (omega arith)) in
-    ap (places_since i 0) (sym is) ∙ places-split i 0 s (suc n)
-    ∙ ap (λ t. places_since i 0 s ++ places_since i t (suc n)) from
-    ∙ ap (λ p. places_since i 0 s ++ (places_of i s ++ p)) behind
-    ∙ ap (λ p. places_since i 0 s ++ p) (append-nil (places_of i s))
+places-up_to i s n count is closed = grind (arith, places-none, places-split, append-nil)
 
 -- the places of a segment with the same gate and index
 module _ (a b : Image) (s : ℕ) (gate : is_open b s ≡ is_open a s) (index : block_of b (segment_index s) ≡ block_of a (segment_index s)) where
   same-from : (j n : ℕ) → places_from b s j n ≡ places_from a s j n
   same-from j zero = refl
-  same-from j (suc n) =
-      ap (λ home. (home, segment_body s j) ∷ places_from b s (j + 1) n) (ap (λ block. number_at block (8 + 8 * j)) index)
-      ∙ ap (λ p. (home_of a s j, segment_body s j) ∷ p) (same-from (j + 1) n)
+  same-from j (suc n) = grind (arith, same-from (j + 1) n)
 
   same-places : places_of b s ≡ places_of a s
-  same-places =
-      ap (λ t. if t then places_from b s 0 (body_count b s) else []) gate
-      ∙ ap (λ p. if is_open a s then p else []) (ap (places_from b s 0) (ap (λ block. number_at block 0) index) ∙ same-from 0 (body_count a s))
+  same-places = grind (arith, same-from)
 
 -- the places of a segment's bodies are those of its writes
 from_writes : (i : Image) (s j n : ℕ) → places_from i s j n ≡ lying (segment_body s j) (writes_from i s j n)
 from_writes i s j zero = refl
-from_writes i s j (suc n) =
-    let e : segment_body s (j + 1) ≡ segment_body s j + 1 = omega arith in
-    ap (λ p. (home_of i s j, segment_body s j) ∷ p) (from_writes i s (j + 1) n ∙ ap (λ f. lying f (writes_from i s (j + 1) n)) e)
+from_writes i s j (suc n) = grind (arith, from_writes i s (j + 1) n)
 
 -- when no segment is open the table is empty
 pub closed_holds : (total : ℕ) (image : Image) → AllClosed image → HoldsOpen total 0 [] image
@@ -164,13 +140,10 @@ module _ (total n : ℕ) (table more : List (ℕ × ℕ)) (writes : List (ℕ ×
   opens s below = ⊎_elim (λ is. ap (is_open b) is ∙ next.opened ∙ sym (lt-ltb s (n + 1) (omega arith))) (λ other. gates s other ∙ holds.gates s below ∙ apart other (cases_lt s n)) (cases_eq s n)
     where
       apart : s ≢ n → (s < n) ⊎ (n ≤ s) → nat_lt s n ≡ nat_lt s (n + 1)
-      apart other which =
-          ⊎_elim (λ low. lt-ltb s n low ∙ sym (lt-ltb s (n + 1) (omega arith))) (λ high. le-ltb s n high ∙ sym (le-ltb s (n + 1) (omega arith))) which
+      apart other which = grind (arith, nat_tests, lt-ltb, le-ltb)
 
   fits_here : segment_fits total b n ≡ true
-  fits_here =
-      fits-open total b n next.opened
-      ∙ and_from (nat_le (body_count b n) body_limit) (homes_fit total (bodies_of b n)) (le-leb (body_count b n) body_limit (let c = next.count in omega arith)) (ap (homes_fit total) next.bodies ∙ fit)
+  fits_here = grind (arith, fits-open, and_from, le-leb)
 
   fits : segments_fit total b 0 segment_count ≡ true
   fits =
@@ -201,25 +174,11 @@ module _ (total n : ℕ) (table more : List (ℕ × ℕ)) (writes : List (ℕ ×
 -- how many segments are open
 none_open : (a : Image) (s k : ℕ) → ((t : ℕ) → s ≤ t → t < s + k → is_open a t ≡ false) → open_since a s k ≡ 0
 none_open a s zero shut = refl
-none_open a s (suc k) shut =
-    let rest : open_since a (s + 1) k ≡ 0 = none_open a (s + 1) k (λ t low high. shut t (omega arith) (omega arith)) in
-    let here : open_since a s (suc k) ≡ 0 + open_since a (s + 1) k = ap (λ t. (if t then 1 else 0) + open_since a (s + 1) k) (shut s (omega arith) (omega arith)) in
-    omega arith
+none_open a s (suc k) shut = grind (arith, none_open a (s + 1) k (λ t low high. shut t (omega arith) (omega arith)))
 
 some_open : (a : Image) (n s k : ℕ) → ((t : ℕ) → s ≤ t → t < s + k → is_open a t ≡ nat_lt t n) → s ≤ n → n ≤ s + k → open_since a s k + s ≡ n
 some_open a n s zero gates low high = omega arith
-some_open a n s (suc k) gates low high = ⊎_elim (here (some_open a n (s + 1) k)) end (cases_lt s n)
-  where
-    here : (((t : ℕ) → s + 1 ≤ t → t < s + 1 + k → is_open a t ≡ nat_lt t n) → s + 1 ≤ n → n ≤ s + 1 + k → open_since a (s + 1) k + (s + 1) ≡ n) → s < n → open_since a s (suc k) + s ≡ n
-    here again below =
-        let rest = again (λ t from to. gates t (omega arith) (omega arith)) (omega arith) (omega arith) in
-        let one : open_since a s (suc k) ≡ 1 + open_since a (s + 1) k = ap (λ t. (if t then 1 else 0) + open_since a (s + 1) k) (gates s (omega arith) (omega arith) ∙ lt-ltb s n below) in
-        omega arith
-
-    end : n ≤ s → open_since a s (suc k) + s ≡ n
-    end past =
-        let none = none_open a s (suc k) (λ t from to. gates t from to ∙ le-ltb t n (omega arith)) in
-        omega arith
+some_open a n s (suc k) gates low high = grind (arith, nat_tests, lt-ltb, none_open, le-ltb, some_open a n (s + 1) k)
 
 pub counted : (total n : ℕ) (table : List (ℕ × ℕ)) (a : Image) → HoldsOpen total n table a → n ≤ segment_count → open_count a ≡ n
 counted total n table a holds few = let is = some_open a n 0 segment_count (λ t low high. holds.gates t (omega arith)) (omega arith) (omega arith) in omega arith

@@ -1,7 +1,10 @@
 -- A write more among writes that go each to another block.
-use Rattle.std.specs.Prelude.{◌≡◌, ◌==◌, ◌&&◌, ◌||◌, ℕ, zero, suc, true, false, not, List, [], ◌∷◌, ◌++◌, slice_set, Some, None}
-use Rattle.std.proofs.Common.{refl, sym, ap, ◌∙◌, ⊎_elim}
-use Rattle.std.proofs.lemmas.Bool.{and_from, and_parts, both_ways, cases_Bool, eq-eqb, ne_eqb, not_from_false, not-true, or_from, or_parts}
+use Rattle.std.proofs.Common.{arith}
+use Rattle.std.proofs.lemmas.Bool.Decides.{nat_tests}
+use Rattle.std.specs.Prelude.{◌≡◌, ◌==◌, ◌&&◌, ◌||◌, ℕ, zero, suc, true, false, not, List, [], ◌∷◌, ◌++◌, slice_set, None}
+use Rattle.std.proofs.Common.{refl, sym, ap, ◌∙◌}
+use Rattle.std.proofs.lemmas.Bool.{and_from, and_parts, both_ways, eq-eqb, ne_eqb, not_from_false, not-true, or_from, or_parts}
+use Rattle.std.proofs.lemmas.Option.{none-some}
 use Rattle.mg_journal.specs.Contents.{names}
 use Rattle.mg_journal.specs.Staged.{are_once, home_at, waiting}
 
@@ -17,18 +20,9 @@ once_set ((i, x) ∷ ws) zero y = refl
 once_set ((i, x) ∷ ws) (suc k) y = ap (λ t. not t && are_once (slice_set ws k (home_at ws k, y))) (names-set ws k y i) ∙ ap (λ t. not (names ws i) && t) (once_set ws k y)
 
 -- a write after the others, to a block for which nothing waits
-none_list : (x : List ℕ) → Some x ≡ None → ⊥
-none_list x is = cc
-
 names-none : (ws : List (ℕ × List ℕ)) (b : ℕ) → waiting ws b ≡ None → names ws b ≡ false
 names-none [] b none = refl
-names-none ((i, x) ∷ ws) b none = ⊎_elim here (there (names-none ws b)) (cases_Bool (i == b))
-  where
-    here : (i == b) ≡ true → names ((i, x) ∷ ws) b ≡ false
-    here same = let is : waiting ((i, x) ∷ ws) b ≡ Some x = rw same refl in absurd (none_list x (sym is ∙ none))
-
-    there : (waiting ws b ≡ None → names ws b ≡ false) → (i == b) ≡ false → names ((i, x) ∷ ws) b ≡ false
-    there rest other = let is : waiting ((i, x) ∷ ws) b ≡ waiting ws b = rw other refl in or_from (i == b) (names ws b) other (rest (sym is ∙ none))
+names-none ((i, x) ∷ ws) b none = grind (arith, nat_tests, none-some, or_from, names-none ws b)
 
 names-more : (ws : List (ℕ × List ℕ)) (b : ℕ) (y : List ℕ) (k : ℕ) → names ws k ≡ false → (b == k) ≡ false → names (ws ++ (b, y) ∷ []) k ≡ false
 names-more [] b y k none other = or_from (b == k) false other refl

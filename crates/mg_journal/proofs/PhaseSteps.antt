@@ -1,7 +1,8 @@
 -- Lemmas on the phases of a commit: what is in a segment once its index and its bodies are written.
 use Rattle.std.specs.Prelude.{◌≡◌, ◌+◌, ◌*◌, ◌≤◌, ◌<◌, ℕ, zero, suc, List, [], ◌∷◌, length, is_some, IsSomeAnd, Option, Some, None}
 use Rattle.std.specs.Option.{ForSome}
-use Rattle.std.proofs.Common.{refl, sym, ap, subst, ◌∙◌, arith}
+use Rattle.std.proofs.Common.{refl, ap, ◌∙◌, arith}
+use Rattle.std.proofs.lemmas.Option.{none-some}
 use Rattle.mg_disk.specs.Disk.{HasBlocks, Image, InRange, SameBut, SeenBut, block_at}
 use Rattle.mg_model.specs.Bytes.{number_at}
 use Rattle.mg_model.specs.Layout.{body_limit, segment_body, segment_count, segment_index}
@@ -9,9 +10,6 @@ use Rattle.mg_model.specs.Replay.{body_count, home_of, writes_from}
 use Rattle.mg_journal.specs.JournalLemmas.{same_wider}
 use Rattle.mg_journal.specs.Phases.{HoldsWrites, IsBehind}
 use Rattle.mg_journal.specs.Staged.{IsRunOf, bytes_of, home_at}
-
-none_some : (image : Image) → None ≡ Some image → ⊥
-none_some image is = cc
 
 writes_read : (image : Image) (s j n : ℕ) (writes : List (ℕ × List ℕ)) → n ≡ length writes → ((i : ℕ) → i < length writes → home_of image s (j + i) ≡ home_at writes i)
     → ((i : ℕ) → i < length writes → block_at image (segment_body s j + i) ≡ bytes_of writes i) → writes_from image s j n ≡ writes
@@ -39,9 +37,7 @@ module _ (s : ℕ) (writes : List (ℕ × List ℕ)) (run a b : Image) (place : 
   index_there = let at : segment_index s ≡ segment_index s + 0 = omega arith in ap (block_at b) at ∙ has 0 (let long = is.long in omega arith)
 
   body_there : (i : ℕ) → i < length writes → block_at b (segment_body s 0 + i) ≡ bytes_of writes i
-  body_there i below =
-      let at : segment_body s 0 + i ≡ segment_index s + (1 + i) = omega arith in
-      ap (block_at b) at ∙ has (1 + i) (let long = is.long in omega arith) ∙ is.bodies i below
+  body_there i below = grind (arith)
 
   count_there : body_count b s ≡ length writes
   count_there = ap (λ block. number_at block 0) index_there ∙ is.count
@@ -58,14 +54,8 @@ module _ (s : ℕ) (writes : List (ℕ × List ℕ)) (run a b : Image) (place : 
 -- the same of what reads give, before and after
 pub wrote_all : (s : ℕ) (writes : List (ℕ × List ℕ)) (run : Image) (old mid new : Option Image) → s < segment_count → length writes ≤ body_limit → IsRunOf writes run
     → SeenBut (InRange (segment_index s) (length run)) old mid → ForSome mid (HasBlocks (segment_index s) run) → new ≡ mid → ForSome old (λ image. IsSomeAnd new (HoldsWrites s writes image))
-wrote_all s writes run old None new place few is same has kept image told = absurd (no_image old image same told)
-  where
-    no_image : (old : Option Image) (image : Image) → SeenBut (InRange (segment_index s) (length run)) old None → old ≡ Some image → ⊥
-    no_image None image same told = none_some image told
-    no_image (Some a) image same told = same
-wrote_all s writes run old (Some b) new place few is same has kept image told =
-    subst (λ o. IsSomeAnd o (HoldsWrites s writes image)) (sym kept)
-    (holds_all s writes run image b place few is (subst (λ o. SeenBut (InRange (segment_index s) (length run)) o (Some b)) told same) (has b refl))
+wrote_all s writes run old None new place few is same has kept image told = grind (arith, none-some)
+wrote_all s writes run old (Some b) new place few is same has kept image told = grind (arith, holds_all)
 
 pub told_still : (P : ℕ → Type 0) (old mid new : Option Image) → SeenBut P old mid → new ≡ mid → is_some new ≡ is_some old
 told_still P None None new same kept = ap is_some kept

@@ -13,10 +13,6 @@ use Rattle.mg_journal.proofs.Homes.{homes_torn, homes_written, since-behind}
 use Rattle.mg_journal.specs.Recovery.{AreOpen, IsClosedUpTo, IsRecovered, IsStill, Settles}
 use Rattle.mg_journal.specs.WrittenLemmas.{written_elsewhere}
 
-pub told_map : (change : Image → Image) (told : Option Image) → is_some (option_map change told) ≡ is_some told
-told_map change None = refl
-told_map change (Some a) = refl
-
 -- what is told now of what was told before, seen from the end
 pub came_back : (P : Image → Image → Type 0) (told now : Option Image) → is_some now ≡ is_some told → ForSome told (λ a. IsSomeAnd now (P a)) → ForSome now (λ b. IsSomeAnd told (λ a. P a b))
 came_back P None None same each b is = absurd (let e : ◌≡◌ {A = Option Image} None (Some b) = is in cc)

@@ -1,14 +1,16 @@
 -- Tables of newest bodies: what a search finds, and what a place more does.
-use Rattle.std.specs.Prelude.{◌≡◌, ◌≢◌, ◌≤◌, ◌<◌, ◌+◌, ◌-◌, ◌⊎◌, ◌==◌, ◌&&◌, nat_le, nat_lt, ℕ, zero, suc, Bool, true, false, All, List, [], ◌∷◌, ◌++◌, drop, find, if◌then◌else◌, insert, length, option_map, reverse, slice_set, take, Option, Some, None}
+use Rattle.std.proofs.lemmas.Bool.Decides.{nat_tests}
+use Rattle.std.specs.Prelude.{◌≡◌, ◌≢◌, ◌≤◌, ◌<◌, ◌+◌, ◌-◌, ◌⊎◌, ◌&&◌, nat_le, nat_lt, ℕ, zero, suc, true, All, List, [], ◌∷◌, ◌++◌, drop, find, if◌then◌else◌, insert, length, option_map, reverse, slice_set, take, Option, Some, None}
 use Rattle.std.specs.List.{AllWithin}
 use Rattle.std.specs.List.Sorted.{IsNonDecreasingBy}
 use Rattle.std.specs.Option.{option_or}
-use Rattle.std.proofs.Common.{refl, sym, ap, subst, ◌∙◌, inl, inr, ⊎_elim, arith, get_or}
+use Rattle.std.proofs.Common.{refl, sym, ap, ◌∙◌, inl, inr, ⊎_elim, arith, get_or}
 use Rattle.std.proofs.lemmas.Bool.{cases_eq, cases_lt, and_parts, eq-eqb, leb-true, ltb-true, ne_eqb}
 use Rattle.std.proofs.lemmas.List.{append-nil, get_or-take, length-take-le, reverse-append, take-append-drop, take_more}
 use Rattle.std.proofs.lemmas.List.Edits.{get_or-insert_above, get_or-insert_at, get_or-insert_below, length-insert}
 use Rattle.std.proofs.lemmas.List.Elements.{All-head, All-tail}
 use Rattle.std.proofs.lemmas.List.Folds.{find-append, find_past}
+use Rattle.std.proofs.lemmas.Option.{none-some}
 use Rattle.mg_model.specs.Layout.{globals_block}
 use Rattle.mg_model.specs.Replay.{homes_fit}
 use Rattle.mg_journal.specs.Newest.{Ascends, HasLast, Puts, TakesIn, is_for, lying}
@@ -16,9 +18,7 @@ use Rattle.mg_journal.specs.Places.{IsPlace}
 use Rattle.mg_journal.specs.Staged.{home_at}
 
 pub no-falls : (table : List (ℕ × ℕ)) → Ascends table → IsNonDecreasingBy (λ (place : ℕ × ℕ). place.0) table
-no-falls table up i j d order under =
-    ⊎_elim (λ before. let l = up i j d before under in omega arith)
-    (λ le. let e : i ≡ j = omega arith in let P : ℕ → Type 0 = λ n. (get_or table i d).0 ≤ (get_or table n d).0 in subst P e (omega arith)) (cases_lt i j)
+no-falls table up i j d order under = grind (arith, nat_tests)
 
 ascends-rest : (place : ℕ × ℕ) (table : List (ℕ × ℕ)) → Ascends (place ∷ table) → Ascends table
 ascends-rest place table up i j d order under = up (suc i) (suc j) d (omega arith) (omega arith)
@@ -40,13 +40,7 @@ found-at i (place ∷ table) (suc at) d under below is =
 -- when the first places belong to blocks below i, and the rest to others
 pub found-none : (i : ℕ) (table : List (ℕ × ℕ)) (at : ℕ) → Ascends table → AllWithin (λ (place : ℕ × ℕ). place.0 < i) table 0 at → AllWithin (λ (place : ℕ × ℕ). i ≤ place.0) table at (length table)
     → ((d : ℕ × ℕ) → at < length table → (get_or table at d).0 ≢ i) → find (is_for i) table ≡ None
-found-none i table at up below above other = none-for i table here
-  where
-    here : (k : ℕ) (d : ℕ × ℕ) → k < length table → (get_or table k d).0 ≢ i
-    here k d under is =
-        ⊎_elim (λ low. let b = below k d (omega arith) low in omega arith)
-        (λ high. ⊎_elim (λ e. other d (omega arith) (ap (λ n. (get_or table n d).0) (sym e) ∙ is)) (λ later. let r = up at k d (omega arith) under in let a = above at d (omega arith) (omega arith) in omega arith) (cases_eq k at))
-        (cases_lt k at)
+found-none i table at up below above other = grind (arith, none-for, nat_tests)
 
 -- a place over the one of its block
 set-here : (place : ℕ × ℕ) (table : List (ℕ × ℕ)) (at : ℕ) → at < length table → AllWithin (λ (p : ℕ × ℕ). p.0 < place.0) table 0 at → find (is_for place.0) (slice_set table at place) ≡ Some place
@@ -56,50 +50,33 @@ set-here place (first ∷ table) (suc at) under below =
     ap (λ t. if t then Some first else find (is_for place.0) (slice_set table at place)) (ne_eqb first.0 place.0 (λ e. let b = below 0 first (omega arith) (omega arith) in omega arith))
     ∙ set-here place table at (omega arith) (λ k d low high. below (suc k) d (omega arith) (omega arith))
 
-pub set-puts : (place : ℕ × ℕ) (table : List (ℕ × ℕ)) (at : ℕ) (d : ℕ × ℕ) → at < length table → AllWithin (λ (p : ℕ × ℕ). p.0 < place.0) table 0 at → (get_or table at d).0 ≡ place.0 → Puts table place (slice_set table at place)
-set-puts place table at d under below is i = ⊎_elim here there (cases_eq place.0 i)
-  where
-    here : place.0 ≡ i → find (is_for i) (slice_set table at place) ≡ (if place.0 == i then Some place else find (is_for i) table)
-    here e =
-        ap (λ n. find (is_for n) (slice_set table at place)) (sym e)
-        ∙ set-here place table at under below
-        ∙ ap (λ t. if t then Some place else find (is_for i) table) (sym (eq-eqb place.0 i e))
+-- a table that has the place for its block, and is as it was for the others
+puts-from : (place : ℕ × ℕ) (old new : List (ℕ × ℕ)) → find (is_for place.0) new ≡ Some place → ((i : ℕ) → place.0 ≢ i → find (is_for i) new ≡ find (is_for i) old) → Puts old place new
+puts-from place old new here there i = grind (arith, nat_tests, eq-eqb, ne_eqb)
 
-    there : place.0 ≢ i → find (is_for i) (slice_set table at place) ≡ (if place.0 == i then Some place else find (is_for i) table)
-    there other =
-        find_past (is_for i) table at place d (ne_eqb (get_or table at d).0 i (λ e. other (sym is ∙ e))) (ne_eqb place.0 i other)
-        ∙ ap (λ t. if t then Some place else find (is_for i) table) (sym (ne_eqb place.0 i other))
+pub set-puts : (place : ℕ × ℕ) (table : List (ℕ × ℕ)) (at : ℕ) (d : ℕ × ℕ) → at < length table → AllWithin (λ (p : ℕ × ℕ). p.0 < place.0) table 0 at → (get_or table at d).0 ≡ place.0 → Puts table place (slice_set table at place)
+set-puts place table at d under below is = grind (arith, puts-from, set-here, find_past, ne_eqb)
 
 -- a place entered before those of higher blocks
 module _ (place : ℕ × ℕ) (table : List (ℕ × ℕ)) (at : ℕ) (within : at ≤ length table) (below : AllWithin (λ (p : ℕ × ℕ). p.0 < place.0) table 0 at) where
   none-before : find (is_for place.0) (take at table) ≡ None
-  none-before =
-      none-for place.0 (take at table)
-      (λ k d under is.
-      let l = length-take-le at table within in
-      let e = get_or-take at table k d (omega arith) in
-      let b = below k d (omega arith) (omega arith) in
-      let f = ap (λ (p : ℕ × ℕ). p.0) e in
-      omega arith)
+  none-before = grind (arith, none-for, length-take-le, get_or-take)
 
   pub insert-puts : Puts table place (insert table at place)
-  insert-puts i = ⊎_elim here there (cases_eq place.0 i)
+  insert-puts = puts-from place table (insert table at place) here there
     where
-      here : place.0 ≡ i → find (is_for i) (insert table at place) ≡ (if place.0 == i then Some place else find (is_for i) table)
-      here e =
-          ap (λ n. find (is_for n) (insert table at place)) (sym e)
-          ∙ find-append (is_for place.0) (take at table) (place ∷ drop at table)
+      here : find (is_for place.0) (insert table at place) ≡ Some place
+      here =
+          find-append (is_for place.0) (take at table) (place ∷ drop at table)
           ∙ ap (λ o. option_or o (find (is_for place.0) (place ∷ drop at table))) none-before
           ∙ ap (λ t. if t then Some place else find (is_for place.0) (drop at table)) (eq-eqb place.0 place.0 refl)
-          ∙ ap (λ t. if t then Some place else find (is_for i) table) (sym (eq-eqb place.0 i e))
 
-      there : place.0 ≢ i → find (is_for i) (insert table at place) ≡ (if place.0 == i then Some place else find (is_for i) table)
-      there other =
+      there : (i : ℕ) → place.0 ≢ i → find (is_for i) (insert table at place) ≡ find (is_for i) table
+      there i other =
           find-append (is_for i) (take at table) (place ∷ drop at table)
           ∙ ap (λ t. option_or (find (is_for i) (take at table)) (if t then Some place else find (is_for i) (drop at table))) (ne_eqb place.0 i other)
           ∙ sym (find-append (is_for i) (take at table) (drop at table))
           ∙ ap (find (is_for i)) (take-append-drop at table)
-          ∙ ap (λ t. if t then Some place else find (is_for i) table) (sym (ne_eqb place.0 i other))
 
   pub insert-ascends : Ascends table → AllWithin (λ (p : ℕ × ℕ). place.0 ≤ p.0) table at (length table) → ((d : ℕ × ℕ) → at < length table → (get_or table at d).0 ≢ place.0) → Ascends (insert table at place)
   insert-ascends up above other i j d order under = go (cases_lt j at) (cases_eq j at) (cases_lt i at) (cases_eq i at)
@@ -114,15 +91,10 @@ module _ (place : ℕ × ℕ) (table : List (ℕ × ℕ)) (at : ℕ) (within : a
       middle k e = ap (λ n. (get_or (insert table at place) n d).0) e ∙ ap (λ (p : ℕ × ℕ). p.0) (get_or-insert_at table at place d within)
 
       high : (k : ℕ) → at < k → (get_or (insert table at place) k d).0 ≡ (get_or table (k - 1) d).0
-      high k b =
-          let e : k ≡ k - 1 + 1 = omega arith in
-          ap (λ n. (get_or (insert table at place) n d).0) e ∙ ap (λ (p : ℕ × ℕ). p.0) (get_or-insert_above table at place d (k - 1) (omega arith) within)
+      high k b = grind (arith, get_or-insert_above)
 
       over : (k : ℕ) → at ≤ k → k < length table → place.0 < (get_or table k d).0
-      over k from to =
-          let a = above k d from to in
-          ⊎_elim (λ e. let n = other d (omega arith) in let f : (get_or table at d).0 ≡ (get_or table k d).0 = ap (λ m. (get_or table m d).0) (sym e) in let g : (get_or table k d).0 ≢ place.0 = λ h. n (f ∙ h) in ⊎_elim (λ h. absurd (g h)) (λ h. omega arith) (cases_eq (get_or table k d).0 place.0))
-          (λ later. let r = up at k d (omega arith) to in let b = above at d (omega arith) (omega arith) in omega arith) (cases_eq k at)
+      over k from to = grind (arith, nat_tests)
 
       go : (j < at) ⊎ (at ≤ j) → (j ≡ at) ⊎ (j ≢ at) → (i < at) ⊎ (at ≤ i) → (i ≡ at) ⊎ (i ≢ at) → (get_or (insert table at place) i d).0 < (get_or (insert table at place) j d).0
       go (inl lj) ej (inl li) ei = let l = long in let a = low i li in let b = low j lj in let r = up i j d order (omega arith) in omega arith
@@ -135,10 +107,7 @@ module _ (place : ℕ × ℕ) (table : List (ℕ × ℕ)) (at : ℕ) (within : a
 
 -- a place more, after those that a table has the last of
 pub last-more : (places old new : List (ℕ × ℕ)) (place : ℕ × ℕ) → HasLast places old → Puts old place new → HasLast (places ++ place ∷ []) new
-last-more places old new place last puts i =
-    puts i
-    ∙ ap (λ o. if place.0 == i then Some place else o) (last i)
-    ∙ sym (ap (find (is_for i)) (reverse-append places (place ∷ [])))
+last-more places old new place last puts i = grind (arith, reverse-append)
 
 -- when there are no more places
 pub takes-none : (more table : List (ℕ × ℕ)) → more ≡ [] → TakesIn more table table
@@ -146,10 +115,7 @@ takes-none more table none places last i = last i ∙ ap (λ p. find (is_for i) 
 
 lying-last : (first : ℕ) (writes : List (ℕ × List ℕ)) (last : ℕ × List ℕ) → lying first (writes ++ last ∷ []) ≡ lying first writes ++ (last.0, first + length writes) ∷ []
 lying-last first [] last = let e : first ≡ first + 0 = omega arith in ap (λ n. (last.0, n) ∷ []) e
-lying-last first ((home, x) ∷ writes) last =
-    let e : first + 1 + length writes ≡ first + suc (length writes) = omega arith in
-    ap (λ p. (home, first) ∷ p) (lying-last (first + 1) writes last)
-    ∙ ap (λ n. (home, first) ∷ (lying (first + 1) writes ++ (last.0, n) ∷ [])) e
+lying-last first ((home, x) ∷ writes) last = grind (arith, lying-last (first + 1) writes last)
 
 pub lying_more : (first : ℕ) (writes : List (ℕ × List ℕ)) (k : ℕ) → k < length writes → lying first (take (k + 1) writes) ≡ lying first (take k writes) ++ (home_at writes k, first + k) ∷ []
 lying_more first writes k below =
@@ -161,10 +127,7 @@ lying_more first writes k below =
 -- a body of a write whose home fits
 pub lies_fit : (total first : ℕ) (writes : List (ℕ × List ℕ)) (k : ℕ) → homes_fit total writes ≡ true → k < length writes → first + k < globals_block → IsPlace total (home_at writes k, first + k)
 lies_fit total first [] k fit below room = absurd (omega arith)
-lies_fit total first (write ∷ writes) zero fit below room =
-    let parts = and_parts (nat_le globals_block write.0 && nat_lt write.0 total) (homes_fit total writes) fit in
-    let home = and_parts (nat_le globals_block write.0) (nat_lt write.0 total) parts.0 in
-    record { low = leb-true globals_block write.0 home.0; high = ltb-true write.0 total home.1; body = room }
+lies_fit total first (write ∷ writes) zero fit below room = grind (arith, and_parts, leb-true, ltb-true)
 lies_fit total first (write ∷ writes) (suc k) fit below room =
     let rest = lies_fit total (first + 1) writes k (and_parts (nat_le globals_block write.0 && nat_lt write.0 total) (homes_fit total writes) fit).1 (omega arith) (omega arith) in
     record { low = rest.low; high = rest.high; body = room }
@@ -189,28 +152,10 @@ only-one i (place ∷ table) up =
         ∙ sym (ap (λ t. if t then Some place else find (is_for i) table) (eq-eqb place.0 i is))
 
     there : place.0 ≢ i → option_or (find (is_for i) table) (find (is_for i) (place ∷ [])) ≡ find (is_for i) (place ∷ table)
-    there other =
-        ap (λ t. option_or (find (is_for i) table) (if t then Some place else None)) (ne_eqb place.0 i other)
-        ∙ or_none (find (is_for i) table)
-        ∙ sym (ap (λ t. if t then Some place else find (is_for i) table) (ne_eqb place.0 i other))
+    there other = grind (arith, ne_eqb, or_none)
 
 -- a body that is found lies on the volume
-some_is : (x y : ℕ) → ◌≡◌ {A = Option ℕ} (Some x) (Some y) → x ≡ y
-some_is x y is = cc
-
 pub found-below : (total : ℕ) (table : List (ℕ × ℕ)) (i body : ℕ) → All (IsPlace total) table → option_map (λ (p : ℕ × ℕ). p.1) (find (is_for i) table) ≡ Some body → body < total
-found-below total [] i body all is = absurd (none_some body is)
-  where
-    none_some : (x : ℕ) → ◌≡◌ {A = Option ℕ} None (Some x) → ⊥
-    none_some x is = cc
-found-below total (place ∷ table) i body all is = by_test (found-below total table i body (All-tail (IsPlace total) place table all)) (place.0 == i) is
-  where
-    by_test : (option_map (λ (p : ℕ × ℕ). p.1) (find (is_for i) table) ≡ Some body → body < total) → (t : Bool) → option_map (λ (p : ℕ × ℕ). p.1) (if t then Some place else find (is_for i) table) ≡ Some body → body < total
-    by_test rest true e =
-        let here = All-head (IsPlace total) place table all in
-        let low = here.low in
-        let high = here.high in
-        let inside = here.body in
-        let same = some_is place.1 body e in
-        omega arith
-    by_test rest false e = rest e
+found-below total [] i body all is = absurd (none-some body is)
+found-below total (place ∷ table) i body all is =
+    grind (arith, All-tail, All-head, found-below total table i body (All-tail (IsPlace total) place table all))

@@ -61,7 +61,8 @@ impl Writes {
 
     // The place of the write to this block.
     fn place_of(&self, block: u64) -> Option<usize>
-        ensures { result ≡ position (goes_to block) self.now }
+        ensures place { result ≡ position (goes_to block) self.now }
+        ensures waits { MatchOption result (waiting self.now block ≡ None) (λ place. (place < length self.now) × (waiting self.now block ≡ Some (bytes_of self.now place))) }
     {
         self.homes.place_of(block)
     }
@@ -100,7 +101,6 @@ impl Writes {
     }
 
     /// Stages a write, in place of the one to that block if there is one. It takes no memory.
-    #[tactic(auto, using(crate::proofs::Waits::waits_none))]
     pub fn stage(&mut self, block: u64, from: &Block)
         requires there_or_fewer_than_160 { IsSome (position (goes_to block) self.old) ⊎ (length self.old < body_limit) }
         ensures { self.new ≡ staged self.old block from.now }
@@ -113,7 +113,6 @@ impl Writes {
 
     /// Stages a write of a block that begins with these bytes and continues as `rest` does, in place of the write to that block
     /// if there is one. It takes no memory.
-    #[tactic(auto, using(crate::proofs::Waits::waits_none))]
     pub fn stage_over(&mut self, block: u64, first: &[u8], rest: &Block)
         requires there_or_fewer_than_160 { IsSome (position (goes_to block) self.old) ⊎ (length self.old < body_limit) }
         requires within { length first.now ≤ block_size }

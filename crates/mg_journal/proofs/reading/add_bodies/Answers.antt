@@ -1,10 +1,10 @@
-use Rattle.std.proofs.Common.{◌≡◌, ◌+◌, ◌*◌, ◌++◌, ◌∷◌, [], ℕ, suc, List, All, append_assoc, ap, arith, refl, subst, sym, ◌∙◌}
+use Rattle.std.proofs.Common.{◌≡◌, ◌+◌, ◌*◌, ◌++◌, ◌∷◌, [], ℕ, suc, List, All, append_assoc, ap, arith, subst, sym, ◌∙◌}
 use Rattle.std.proofs.lemmas.List.Elements.{All-push}
 use Rattle.mg_disk.specs.Disk.{Image, block_at}
 use Rattle.mg_model.specs.Bytes.{number_at}
 use Rattle.mg_model.specs.Layout.{segment_body, segment_index}
 use Rattle.mg_model.specs.Replay.{body_count, home_of}
-use Rattle.mg_journal.specs.Newest.{HasLast, TakesIn}
+use Rattle.mg_journal.specs.Newest.{HasLast}
 use Rattle.mg_journal.specs.Places.{IsPlace, places_from}
 use Rattle.mg_journal.proofs.Tables.{last-more, takes-none}
 use Rattle.mg_journal.proofs.Bodies.{bodies_are-fit, home-place, home-unfit, is_home, places_from-last, too_many-unfit}
@@ -33,12 +33,7 @@ returns-then-not-is_home-clause-fits c image is =
     (ap (is_home c.args.total) (sym home) ∙ sym c.is_home.ensures ∙ c.if-not-is_home.true)
 
 pub loop-k-init : goal.loop-k-init
-loop-k-init c = record {
-  newest = λ image is. takes-none [] c.args.table.now refl;
-  places = λ image is k d below. absurd (omega arith);
-  fit = λ all. all;
-  few = omega arith;
-}
+loop-k-init c = grind (arith, takes-none)
 
 pub loop-k-preserved : goal.loop-k-preserved
 loop-k-preserved c =
@@ -70,7 +65,4 @@ returns-clause-fits c image is =
     bodies_are-fit c.args.total image c.args.segment (omega arith) (subst (λ m. All (IsPlace c.args.total) (places_from image c.args.segment 0 m)) end (c.loop-k.invariant.places image is))
 
 pub returns-clause-newest : goal.returns-clause-newest
-returns-clause-newest c fits image is =
-    let n = ap (λ b. number_at b 0) is in
-    let end : c.loop-k.k ≡ body_count image c.args.segment = let past = c.loop-k-test.false in let last = c.loop-k.auto.k-end in omega arith in
-    subst (λ m. TakesIn (places_from image c.args.segment 0 m) c.args.table.now c.loop-k.table) end (c.loop-k.invariant.newest image is)
+returns-clause-newest c fits image is = grind (arith)

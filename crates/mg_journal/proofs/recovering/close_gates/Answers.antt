@@ -1,7 +1,6 @@
-use Rattle.std.proofs.Common.{rules, refl, sym, ◌∙◌, ◌≡◌, subst, arith}
+use Rattle.std.proofs.Common.{rules, refl, sym, ◌∙◌, subst, arith}
 use Rattle.std.specs.Prelude.{IsSomeAnd}
-use Rattle.mg_model.specs.Layout.{segment_count}
-use Rattle.mg_journal.specs.Recovery.{AreOpen, IsClosedUpTo}
+use Rattle.mg_journal.specs.Recovery.{AreOpen}
 use Rattle.mg_journal.proofs.ClosingSteps.{begin_closing, close_more, close_run, close_seen, open_now, open_yet, still_now}
 use Rattle.mg_journal.proofs.recovering.close_gates.Goals as goal
 
@@ -16,8 +15,7 @@ loop-segment-init g c = record {
 }
 
 pub close_gate-requires-clause-known : goal.close_gate-requires-clause-known
-close_gate-requires-clause-known g c =
-    open_now g.D.Disk c.loop-segment.segment c.args.opened c.args.disk.now c.loop-segment.disk c.loop-segment.invariant.tells c.loop-segment.invariant.gates
+close_gate-requires-clause-known g c = search (rules, open_now)
 
 pub returns-in_err-close_gate-clause-any_moment : goal.returns-in_err-close_gate-clause-any_moment
 returns-in_err-close_gate-clause-any_moment g c image told total own =
@@ -40,9 +38,7 @@ pub returns-clause-any_moment : goal.returns-clause-any_moment
 returns-clause-any_moment g c image told total own = (c.loop-segment.invariant.closing image told total own).run
 
 pub returns-clause-closed : goal.returns-clause-closed
-returns-clause-closed g c image told total own =
-    let at_end : c.loop-segment.segment ≡ segment_count = let past = c.loop-segment-test.false in let end = c.loop-segment.auto.segment-end in omega arith in
-    subst (λ n. IsSomeAnd (g.D.Disk.seen c.loop-segment.disk) (IsClosedUpTo n total image)) at_end (c.loop-segment.invariant.closing image told total own).shows
+returns-clause-closed g c image told total own = grind (arith)
 
 pub returns-in_err-close_gate-clause-still : goal.returns-in_err-close_gate-clause-still
 returns-in_err-close_gate-clause-still g c image told total own =

@@ -23,8 +23,7 @@ returns-then-len-eq0-clause-came_from g c now told =
     subst (λ o. IsSomeAnd o (λ image. NewContents total image c.args.writes.now now)) (sym told) (subst (λ w. NewContents total now w now) (sym empty) (new_itself total now))
 
 pub returns-in-Ok-clause-came_from : goal.returns-in-Ok-clause-came_from
-returns-in-Ok-clause-came_from g c now told =
-    came_back (λ image z. NewContents c.args.self.now.total image c.args.writes.now z) (g.D.Disk.seen c.args.disk.now) (g.D.Disk.seen c.commit_segment.new.disk) c.in-Ok.ensures.tells c.in-Ok.ensures.done now told
+returns-in-Ok-clause-came_from g c = came_back (λ image z. NewContents c.args.self.now.total image c.args.writes.now z) _ _ c.in-Ok.ensures.tells c.in-Ok.ensures.done
 
 pub returns-then-len-eq0-clause-late : goal.returns-then-len-eq0-clause-late
 returns-then-len-eq0-clause-late g c some =

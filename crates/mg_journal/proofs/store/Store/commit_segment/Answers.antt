@@ -5,31 +5,29 @@ use Rattle.mg_model.specs.Replay.{homes_fit}
 use Rattle.mg_journal.proofs.CommitRuns.{make_done, make_run, some_same}
 use Rattle.mg_journal.proofs.NewestSteps.{counted, holds_next, is_late}
 use Rattle.mg_journal.proofs.RecoverSteps.{came_back}
-use Rattle.mg_journal.specs.Contents.{NewContents, SameContents}
+use Rattle.mg_journal.specs.Contents.{NewContents}
 use Rattle.mg_journal.specs.Phases.{IsNext}
 use Rattle.mg_journal.specs.ResultLemmas.{some_of}
-use Rattle.mg_journal.specs.Standing.{HoldsOpen, IsLate, OldOrNew, fits_held, held_fits}
+use Rattle.mg_journal.specs.Standing.{HoldsOpen, IsLate, fits_held, held_fits}
 use Rattle.mg_journal.proofs.store.Store.commit_segment.Goals as goal
 
 pub returns-in_err-make_room-clause-any_moment : goal.returns-in_err-make_room-clause-any_moment
 returns-in_err-make_room-clause-any_moment g c image told =
-    let total = c.args.self.now.total in
-    leaves_wider g.D.Disk c.args.disk.now c.make_room.new.disk (SameContents total image) (OldOrNew total c.args.writes.now image) (c.make_room.ensures.any_moment image told) (λ x same. inl same)
+    leaves_wider g.D.Disk _ _ _ _ (c.make_room.ensures.any_moment image told) (λ x same. inl same)
 
 pub returns-in_err-write_next-clause-any_moment : goal.returns-in_err-write_next-clause-any_moment
 returns-in_err-write_next-clause-any_moment g c image told =
-    make_run g.D.Disk c.args.self.now.total c.make_room.new.self.total c.make_room.ensures.total c.args.writes.now image c.args.disk.now c.make_room.new.disk c.write_next.new.disk
-    (c.make_room.ensures.any_moment image told) (c.in_ok-make_room.ensures.contents image told) c.write_next.ensures.any_moment
+    make_run g.D.Disk _ _ c.make_room.ensures.total c.args.writes.now image _ _ _ (c.make_room.ensures.any_moment image told)
+    (c.in_ok-make_room.ensures.contents image told) c.write_next.ensures.any_moment
 
 pub returns-clause-any_moment : goal.returns-clause-any_moment
 returns-clause-any_moment g c image told =
-    make_run g.D.Disk c.args.self.now.total c.make_room.new.self.total c.make_room.ensures.total c.args.writes.now image c.args.disk.now c.make_room.new.disk c.write_next.new.disk
-    (c.make_room.ensures.any_moment image told) (c.in_ok-make_room.ensures.contents image told) c.write_next.ensures.any_moment
+    make_run g.D.Disk _ _ c.make_room.ensures.total c.args.writes.now image _ _ _ (c.make_room.ensures.any_moment image told)
+    (c.in_ok-make_room.ensures.contents image told) c.write_next.ensures.any_moment
 
 pub returns-clause-done : goal.returns-clause-done
 returns-clause-done g c image told =
-    make_done g.D.Disk c.args.self.now.total c.make_room.new.self.total c.make_room.ensures.total c.args.writes.now image c.make_room.new.self.opened (g.D.Disk.seen c.make_room.new.disk) (g.D.Disk.seen c.write_next.new.disk)
-    (c.in_ok-make_room.ensures.contents image told) c.in_ok-write_next.ensures.next
+    make_done g.D.Disk _ _ c.make_room.ensures.total c.args.writes.now image _ _ _ (c.in_ok-make_room.ensures.contents image told) c.in_ok-write_next.ensures.next
 
 pub returns-clause-stands : goal.returns-clause-stands
 returns-clause-stands g c =

@@ -1,9 +1,8 @@
 use Rattle.std.proofs.Common.{arith, sym, subst}
-use Rattle.std.specs.Option.{ForSome}
 use Rattle.mg_disk.specs.Runs.{still_seen}
 use Rattle.mg_journal.specs.Held.{Store}
 use Rattle.mg_journal.specs.Looked.{Fits}
-use Rattle.mg_journal.specs.Standing.{IsFitting, held_fits}
+use Rattle.mg_journal.specs.Standing.{held_fits}
 use Rattle.mg_journal.proofs.store.Store.read.Goals as goal
 
 pub read-requires-clause-fits : goal.read-requires-clause-fits
@@ -12,11 +11,4 @@ read-requires-clause-fits g c image told =
     record { fit = fits.fit; newest = fits.newest }
 
 pub returns-clause-stands : goal.returns-clause-stands
-returns-clause-stands g c =
-    let stands = c.requires.stands in
-    record {
-      journal = stands.journal;
-      room = omega (arith, c.read.ensures.calls.blocks);
-      settled = still_seen g.D.Disk c.args.disk.now c.read.new.disk stands.settled c.read.ensures.writes.same c.read.ensures.writes.stops;
-      fits = subst (λ o. ForSome o (IsFitting c.args.self.now)) (sym c.read.ensures.writes.same) stands.fits;
-    }
+returns-clause-stands g c = grind (arith, still_seen)

@@ -1,5 +1,4 @@
 use Rattle.std.proofs.Common.{arith, subst, sym, true}
-use Rattle.mg_journal.specs.Contents.{SameContents}
 use Rattle.mg_journal.specs.Recovery.{IsRecovered}
 use Rattle.mg_journal.specs.ResultLemmas.{some_of}
 use Rattle.mg_journal.specs.Standing.{HoldsOpen, fits_held}
@@ -8,8 +7,7 @@ use Rattle.mg_journal.proofs.RecoverSteps.{came_back}
 use Rattle.mg_journal.proofs.store.Store.recover.Goals as goal
 
 pub returns-in-Ok-clause-came_from : goal.returns-in-Ok-clause-came_from
-returns-in-Ok-clause-came_from g c =
-    came_back (SameContents c.args.view.total) (g.D.Disk.seen c.args.disk.now) (g.D.Disk.seen c.recover.new.disk) c.recover.ensures.tells c.recover.ensures.contents
+returns-in-Ok-clause-came_from g c = came_back _ _ _ c.recover.ensures.tells c.recover.ensures.contents
 
 pub returns-in-Ok-clause-stands : goal.returns-in-Ok-clause-stands
 returns-in-Ok-clause-stands g c =
@@ -25,8 +23,7 @@ returns-in-Ok-clause-stands g c =
     }
 
 pub returns-in-Err-clause-came_from : goal.returns-in-Err-clause-came_from
-returns-in-Err-clause-came_from g c =
-    came_back (SameContents c.args.view.total) (g.D.Disk.seen c.args.disk.now) (g.D.Disk.seen c.recover.new.disk) c.recover.ensures.tells c.recover.ensures.contents
+returns-in-Err-clause-came_from g c = came_back _ _ _ c.recover.ensures.tells c.recover.ensures.contents
 
 pub returns-in-Ok-clause-closed : goal.returns-in-Ok-clause-closed
 returns-in-Ok-clause-closed g c now told =

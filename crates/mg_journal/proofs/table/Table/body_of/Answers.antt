@@ -1,4 +1,4 @@
-use Rattle.std.proofs.Common.{◌≡◌, ◌≢◌, ◌≤◌, ◌<◌, ◌∙◌, ℕ, List, Some, ap, arith, find, get_or, length, option_map, sym, subst}
+use Rattle.std.proofs.Common.{◌≢◌, ◌≤◌, ◌<◌, ◌∙◌, ℕ, List, ap, arith, find, get_or, length, option_map, sym, subst}
 use Rattle.std.specs.List.{AllWithin}
 use Rattle.std.proofs.lemmas.List.{get_or_default}
 use Rattle.mg_journal.proofs.Tables.{found-at, found-none}
@@ -7,20 +7,7 @@ use Rattle.mg_journal.proofs.table.Table.body_of.Goals as goal
 use Rattle.mg_journal.proofs.table.Table.body_of.Goals.{else-at-len-via-then-at-len+else-index-block, else-at-len-via-else-at-len}
 
 pub returns-then-index-block : goal.returns-then-index-block
-returns-then-index-block c =
-    let table = c.self.inside.places.items in
-    let at = c.count_below-at.result in
-    let block = c.args.block in
-    let under : at < length table = omega (arith, c.self.inside.places.ok.0) in
-    let below : AllWithin (λ (p : ℕ × ℕ). p.0 < block) table 0 at = let P = λ (xs : List (ℕ × ℕ)). AllWithin (λ (p : ℕ × ℕ). p.0 < block) xs 0 at in subst P c.deref.ensures.value c.count_below-at.ensures.below in
-    let one = c.index.result.now in
-    let two = c.index-then-index-block.result.now in
-    let same : get_or table at (0, 0) ≡ one = get_or_default table at (0, 0) one under ∙ sym c.index.ensures in
-    let same' : get_or table at (0, 0) ≡ two = get_or_default table at (0, 0) two under ∙ sym c.index-then-index-block.ensures in
-    let found : find (is_for block) table ≡ Some (get_or table at (0, 0)) = found-at block table at (0, 0) under below (ap (λ (p : ℕ × ℕ). p.0) same ∙ c.if-index-block.true) in
-    sym (ap (λ (xs : List (ℕ × ℕ)). option_map (λ (p : ℕ × ℕ). p.1) (find (is_for block) xs)) (sym c.self.view_is)
-    ∙ ap (option_map (λ (p : ℕ × ℕ). p.1)) found
-    ∙ ap (λ (p : ℕ × ℕ). Some p.1) same')
+returns-then-index-block c = grind (arith, get_or_default, found-at)
 
 pub returns-else-at-len : goal.returns-else-at-len
 returns-else-at-len c =

@@ -1,9 +1,9 @@
-use Rattle.std.proofs.Common.{rules, ◌≡◌, ◌≢◌, ◌≤◌, ◌<◌, ◌∙◌, ℕ, List, ap, arith, get_or, if◌then◌else◌, insert, is_ok, length, slice_set, sym, subst, true}
+use Rattle.std.proofs.Common.{rules, ◌≡◌, ◌≢◌, ◌≤◌, ◌<◌, ◌∙◌, ℕ, List, ap, arith, get_or, if◌then◌else◌, insert, is_ok, length, sym, subst, true}
 use Rattle.std.specs.List.{AllWithin}
 use Rattle.std.specs.Vec.{vec_capacity, vec_len}
 use Rattle.std.proofs.lemmas.List.{get_or_default}
 use Rattle.mg_journal.proofs.Tables.{insert-ascends, insert-puts, set-puts}
-use Rattle.mg_journal.specs.Newest.{Ascends, Puts}
+use Rattle.mg_journal.specs.Newest.{Ascends}
 use Rattle.mg_journal.proofs.table.Table.put.Goals as goal
 use Rattle.mg_journal.proofs.table.Table.put.Goals.{else-at-len-via-then-at-len+else-index-place, else-at-len-via-else-at-len}
 
@@ -30,28 +30,7 @@ invariant_of-self-else-at-len c =
     (omega (arith, c.insert.ensures.capacity, c.self.invariant.0), subst Ascends (sym items) (insert-ascends place table at within below c.self.invariant.1 above other))
 
 pub returns-then-index-place-clause-puts : goal.returns-then-index-place-clause-puts
-returns-then-index-place-clause-puts c =
-    let table = c.self.inside.places.items in
-    let at = c.count_below-at.result in
-    let place = c.args.place in
-    let under : at < length table = omega (arith, c.self.inside.places.ok.0) in
-    let below : AllWithin (λ (p : ℕ × ℕ). p.0 < place.0) table 0 at = let P = λ (xs : List (ℕ × ℕ)). AllWithin (λ (p : ℕ × ℕ). p.0 < place.0) xs 0 at in subst P c.deref.ensures.value c.count_below-at.ensures.below in
-    let one = c.index.result.now in
-    let same : get_or table at (0, 0) ≡ one = get_or_default table at (0, 0) one under ∙ sym c.index.ensures in
-    let here = set-puts place table at (0, 0) under below (ap (λ (p : ℕ × ℕ). p.0) same ∙ c.if-index-place.true) in
-    subst (λ (old : List (ℕ × ℕ)). Puts old place (slice_set table at place)) c.self.view_is here
+returns-then-index-place-clause-puts c = grind (arith, get_or_default, set-puts)
 
 pub returns-else-at-len-clause-puts : goal.returns-else-at-len-clause-puts
-returns-else-at-len-clause-puts c =
-    let table = c.self.inside.places.items in
-    let at = c.count_below-at.result in
-    let place = c.args.place in
-    let value = c.deref.ensures.value in
-    let below : AllWithin (λ (p : ℕ × ℕ). p.0 < place.0) table 0 at = let P = λ (xs : List (ℕ × ℕ)). AllWithin (λ (p : ℕ × ℕ). p.0 < place.0) xs 0 at in subst P value c.count_below-at.ensures.below in
-    let within : at ≤ length table = omega (arith, ap length value, c.count_below-at.ensures.within) in
-    let small : length table < 1280 = omega (arith, ap length c.self.view_is, c.requires.fits_in_table) in
-    let room : vec_len c.self.inside.places < vec_capacity c.self.inside.places = omega (arith, c.self.inside.places.ok.0, c.self.invariant.0) in
-    let done : is_ok c.insert.result ≡ true = search (rules, c.insert.ensures.succeeds room) in
-    let items : c.insert.new.self.items ≡ insert table at place = c.insert.ensures.items ∙ ap (λ t. if t then insert table at place else table) done in
-    subst (λ (new : List (ℕ × ℕ)). Puts c.args.self.now place new) (sym items)
-    (subst (λ (old : List (ℕ × ℕ)). Puts old place (insert table at place)) c.self.view_is (insert-puts place table at within below))
+returns-else-at-len-clause-puts c = grind (arith, insert-puts)

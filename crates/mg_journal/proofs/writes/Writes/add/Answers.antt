@@ -7,16 +7,10 @@ use Rattle.mg_journal.specs.Staged.{AreHeld, paired, waiting}
 use Rattle.mg_journal.proofs.writes.Writes.add.Goals as goal
 
 pub add_home-requires : goal.add_home-requires
-add_home-requires c =
-    let n = pairs_count c.self.inside.homes c.self.inside.blocks.items 1 in
-    let few = subst (λ (ws : List (ℕ × List ℕ)). length ws < body_limit) (sym c.self.view_is) c.requires.fewer_than_160 in
-    record { fewer_than_160 = omega (arith, c.len.ensures.count) }
+add_home-requires c = grind (arith, pairs_count)
 
 pub push-requires-clause-fewer_than_160 : goal.push-requires-clause-fewer_than_160
-push-requires-clause-fewer_than_160 c =
-    let n = pairs_count c.self.inside.homes c.self.inside.blocks.items 1 in
-    let few = subst (λ (ws : List (ℕ × List ℕ)). length ws < body_limit) (sym c.self.view_is) c.requires.fewer_than_160 in
-    omega arith
+push-requires-clause-fewer_than_160 c = grind (arith, pairs_count)
 
 pub push-requires-clause-new : goal.push-requires-clause-new
 push-requires-clause-new c =
@@ -27,11 +21,7 @@ push-requires-clause-new c =
     sym (pairs_position homes blocks 1 block) ∙ none_waits (paired homes blocks 1) block none
 
 pub push_reserved-requires : goal.push_reserved-requires
-push_reserved-requires c =
-    let n = pairs_count c.self.inside.homes c.self.inside.blocks.items 1 in
-    let m = long_held c.self.inside.homes c.self.inside.blocks.items c.self.invariant.1 in
-    let few = subst (λ (ws : List (ℕ × List ℕ)). length ws < body_limit) (sym c.self.view_is) c.requires.fewer_than_160 in
-    omega (arith, c.self.inside.blocks.ok.0, c.self.invariant.0)
+push_reserved-requires c = grind (arith, pairs_count, long_held)
 
 pub invariant_of-self : goal.invariant_of-self
 invariant_of-self c =
@@ -56,12 +46,4 @@ invariant_of-self c =
     )
 
 pub returns : goal.returns
-returns c =
-    let homes = c.self.inside.homes in
-    let blocks = c.self.inside.blocks.items in
-    let home = c.args.block in
-    let x = c.args.from.now in
-    ap (λ (hs : List ℕ). paired hs c.push_reserved.new.self.items 1) c.push.ensures.added
-    ∙ ap (λ (bs : List (List ℕ)). paired (homes ++ home ∷ []) bs 1) c.push_reserved.ensures.items
-    ∙ pairs_added homes blocks c.self.invariant.1 home c.add_home.new.index x
-    ∙ ap (λ (ws : List (ℕ × List ℕ)). ws ++ (home, x) ∷ []) c.self.view_is
+returns c = grind (arith, pairs_added)

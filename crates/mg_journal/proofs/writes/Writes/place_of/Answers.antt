@@ -1,10 +1,12 @@
 use Rattle.std.proofs.Common.{◌∙◌, ap, position, sym}
 use Rattle.mg_journal.proofs.Pairs.{pairs_position}
+use Rattle.mg_journal.proofs.Waits.{waits-at}
 use Rattle.mg_journal.specs.Staged.{goes_to}
 use Rattle.mg_journal.proofs.writes.Writes.place_of.Goals as goal
 
-pub returns : goal.returns
-returns c =
-    let homes = c.self.inside.homes in
-    let blocks = c.self.inside.blocks.items in
-    c.place_of.ensures ∙ sym (pairs_position homes blocks 1 c.args.block) ∙ ap (position (goes_to c.args.block)) c.self.view_is
+pub returns-clause-place : goal.returns-clause-place
+returns-clause-place c =
+    c.place_of.ensures ∙ sym (pairs_position c.self.inside.homes c.self.inside.blocks.items 1 c.args.block) ∙ ap (position (goes_to c.args.block)) c.self.view_is
+
+pub returns-clause-waits : goal.returns-clause-waits
+returns-clause-waits c = waits-at c.args.self.now c.args.block _ (returns-clause-place c)

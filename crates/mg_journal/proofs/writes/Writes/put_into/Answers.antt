@@ -1,38 +1,12 @@
-use Rattle.std.proofs.Common.{◌≡◌, ◌+◌, ◌<◌, ◌∙◌, List, ap, length, slice_set, subst, sym, ℕ}
-use Rattle.std.specs.List.{splice}
+use Rattle.std.proofs.Common.{arith}
 use Rattle.mg_journal.proofs.Pairs.{bytes_held, held_put, pairs_put}
-use Rattle.mg_journal.specs.Staged.{bytes_of, home_at}
-use Rattle.mg_model.specs.Bytes.{word_bytes}
 use Rattle.mg_journal.proofs.writes.Writes.put_into.Goals as goal
 
 pub invariant_of-self : goal.invariant_of-self
-invariant_of-self c =
-    let homes = c.self.inside.homes in
-    let blocks = c.self.inside.blocks.items in
-    let below = subst (λ (ws : List (ℕ × List ℕ)). c.args.k < length ws) (sym c.self.view_is) c.requires.there in
-    (c.self.invariant.0, held_put homes blocks c.self.invariant.1 c.args.k c.put_number.new.out below)
+invariant_of-self c = (c.self.invariant.0, held_put _ _ c.self.invariant.1 _ c.self.view_is c.args.k c.requires.there c.put_number.new.out)
 
 pub returns-clause-put : goal.returns-clause-put
-returns-clause-put c =
-    let homes = c.self.inside.homes in
-    let blocks = c.self.inside.blocks.items in
-    let now = c.args.self.now in
-    let k = c.args.k in
-    let at = c.args.at in
-    let out = c.put_number.new.out in
-    let below = subst (λ (ws : List (ℕ × List ℕ)). k < length ws) (sym c.self.view_is) c.requires.there in
-    let old : c.index_mut.result.now ≡ bytes_of now k =
-    c.index_mut.ensures.value ∙ bytes_held homes blocks c.self.invariant.1 k c.index_mut.result.now below ∙ ap (λ (ws : List (ℕ × List ℕ)). bytes_of ws k) c.self.view_is in
-    pairs_put homes blocks c.self.invariant.1 k out below
-    ∙ ap (λ (ws : List (ℕ × List ℕ)). slice_set ws k (home_at ws k, out)) c.self.view_is
-    ∙ ap (λ (bytes : List ℕ). slice_set now k (home_at now k, bytes)) (c.put_number.ensures.put ∙ ap (λ (bytes : List ℕ). splice bytes at (at + 8) (word_bytes c.args.word)) old)
+returns-clause-put c = grind (arith, pairs_put, bytes_held)
 
 pub returns-clause-whole : goal.returns-clause-whole
-returns-clause-whole c =
-    let homes = c.self.inside.homes in
-    let blocks = c.self.inside.blocks.items in
-    let k = c.args.k in
-    let below = subst (λ (ws : List (ℕ × List ℕ)). k < length ws) (sym c.self.view_is) c.requires.there in
-    let old : c.index_mut.result.now ≡ bytes_of c.args.self.now k =
-    c.index_mut.ensures.value ∙ bytes_held homes blocks c.self.invariant.1 k c.index_mut.result.now below ∙ ap (λ (ws : List (ℕ × List ℕ)). bytes_of ws k) c.self.view_is in
-    ap (λ (bytes : List ℕ). length bytes) (sym old) ∙ c.put_number.ensures.whole
+returns-clause-whole c = grind (arith, bytes_held)
