@@ -1,5 +1,5 @@
 -- Runs are apart exactly if no number lies in two of them; so a list can be tested in another order.
-use Rattle.std.specs.Prelude.{◌≡◌, ℕ, zero, suc, ◌+◌, ◌<◌, ◌≤◌, ◌==◌, ◌&&◌, ◌||◌, nat_le, nat_lt, not, Bool, true, false, List, [], ◌∷◌, All, if◌then◌else◌, length, map, slice_index_or, sum_by}
+use Rattle.std.specs.Prelude.{◌≡◌, ℕ, zero, suc, ◌+◌, ◌<◌, ◌≤◌, ◌==◌, ◌&&◌, nat_le, nat_lt, not, Bool, true, false, List, [], ◌∷◌, All, if◌then◌else◌, length, map, slice_index_or, sum_by}
 use Rattle.std.specs.List.{AllAdjacentBelow, list_any}
 use Rattle.std.specs.List.Sorted.{IsPermutation, IsSorted}
 use Rattle.std.specs.Ordering.{is_lt, nat_cmp, ordering_then}
@@ -86,15 +86,11 @@ apart_behind span (next ∷ spans) ordered some single =
 
 apart_ordered : (spans : List (ℕ × ℕ)) → ordered_from 0 spans ≡ true → All IsSome spans → ((n : ℕ) → times n spans ≤ 1) → apart_from 0 spans ≡ true
 apart_ordered [] ordered some single = refl
-apart_ordered (span ∷ spans) ordered some single =
-    and_from (nat_le 0 span.0) (apart_from span.1 spans) (le-leb 0 span.0 (omega arith)) (apart_behind span spans (and_parts (nat_le 0 span.0) (ordered_from span.0 spans) ordered).1 some single)
+apart_ordered (span ∷ spans) ordered some single = grind (arith, and_from, le-leb, apart_behind, and_parts)
 
 -- Two lists in order, of which each number lies in as many runs, are apart alike.
 pub apart-same : (xs ys : List (ℕ × ℕ)) → ordered_from 0 xs ≡ true → ordered_from 0 ys ≡ true → All IsSome xs → All IsSome ys → ((n : ℕ) → times n xs ≡ times n ys) → apart_from 0 xs ≡ apart_from 0 ys
-apart-same xs ys ordered_x ordered_y some_x some_y same =
-    both_ways (apart_from 0 xs) (apart_from 0 ys)
-    (λ apart. apart_ordered ys ordered_y some_y (λ n. let o = once 0 xs some_x apart n in let e = same n in omega arith))
-    (λ apart. apart_ordered xs ordered_x some_x (λ n. let o = once 0 ys some_y apart n in let e = same n in omega arith))
+apart-same xs ys ordered_x ordered_y some_x some_y same = grind (arith, both_ways, apart_ordered, once)
 
 -- numbers
 rises_apart : (bound : ℕ) (xs : List ℕ) → rises_from bound xs ≡ apart_from bound (units xs)
@@ -123,11 +119,7 @@ there n (x ∷ xs) is = ⊎_elim here (later (there n xs)) (cases_Bool (n == x))
     here t = let e = times_in n (unit x) (units xs) (is_in_unit n x ∙ t) in omega arith
 
     later : (list_any (λ y. n == y) xs ≡ true → 1 ≤ times n (units xs)) → (n == x) ≡ false → 1 ≤ times n (units (x ∷ xs))
-    later more f =
-        let rest : list_any (λ y. n == y) xs ≡ true = sym (ap (λ b. b || list_any (λ y. n == y) xs) f) ∙ is in
-        let t = more rest in
-        let m = times_more n (unit x) (units xs) in
-        omega arith
+    later more f = grind (arith, times_more)
 
 distinct_once : (xs : List ℕ) → all_distinct xs ≡ true → (n : ℕ) → times n (units xs) ≤ 1
 distinct_once [] distinct n = omega arith
@@ -184,21 +176,10 @@ ordered-all (span ∷ spans) each = and_from (nat_le 0 span.0) (ordered_from spa
 
 -- what a sort says of neighbours
 pair_le : (x y : ℕ × ℕ) → is_lt (ordering_then (nat_cmp y.0 x.0) (nat_cmp y.1 x.1)) ≡ false → x.0 ≤ y.0
-pair_le x y no_less = ⊎_elim below (λ le. le) (cases_lt y.0 x.0)
-  where
-    below : y.0 < x.0 → x.0 ≤ y.0
-    below l =
-        let t : is_lt (ordering_then (nat_cmp y.0 x.0) (nat_cmp y.1 x.1)) ≡ true =
-        ap (λ b. is_lt (ordering_then (if b then Less else if y.0 == x.0 then Equal else Greater) (nat_cmp y.1 x.1))) (lt-ltb y.0 x.0 l) in
-        absurd (cc)
+pair_le x y no_less = grind (arith, nat_tests, Less, Equal, Greater, lt-ltb)
 
 number_le : (x y : ℕ) → is_lt (nat_cmp y x) ≡ false → x ≤ y
-number_le x y no_less = ⊎_elim below (λ le. le) (cases_lt y x)
-  where
-    below : y < x → x ≤ y
-    below l =
-        let t : is_lt (nat_cmp y x) ≡ true = ap (λ b. is_lt (if b then Less else if y == x then Equal else Greater)) (lt-ltb y x l) in
-        absurd (cc)
+number_le x y no_less = grind (arith, nat_tests, Less, Equal, Greater, lt-ltb)
 
 pub sorted-pairs : (spans : List (ℕ × ℕ)) → IsSorted (λ (x y : ℕ × ℕ). ordering_then (nat_cmp x.0 y.0) (nat_cmp x.1 y.1)) spans → ordered_from 0 spans ≡ true
 sorted-pairs spans sorted = ordered-all spans (λ k d below. pair_le (slice_index_or spans k d) (slice_index_or spans (k + 1) d) (sorted k d (omega arith) below))

@@ -1,9 +1,10 @@
 -- Among runs that are apart, the last one that begins no higher decides whether a number lies in one.
+use Rattle.std.proofs.lemmas.Bool.Decides.{nat_tests}
 use Rattle.std.specs.Prelude.{◌≡◌, ℕ, ◌-◌, ◌<◌, ◌≤◌, ◌&&◌, ◌||◌, nat_le, nat_lt, not, Bool, true, false, List, [], ◌∷◌, All, length, slice_index_or}
 use Rattle.std.specs.List.{list_all, list_any}
 use Rattle.std.specs.List.Sorted.{IsNonDecreasingBy, IsPartitionPoint, IsPermutation}
 use Rattle.std.proofs.Common.{refl, sym, ap, ◌∙◌, arith, ⊎_elim}
-use Rattle.std.proofs.lemmas.Bool.{cases_eq, cases_lt, leb-true, leb-false, lt-ltb, ltb-true}
+use Rattle.std.proofs.lemmas.Bool.{cases_eq, leb-true, leb-false, lt-ltb, ltb-true}
 use Rattle.std.proofs.lemmas.List.{get_or_default}
 use Rattle.std.proofs.lemmas.List.Folds.{Any-from_list_any, list_any_at}
 use Rattle.std.proofs.lemmas.List.Sorted.{list_any-IsPermutation}
@@ -20,46 +21,17 @@ module _ (spans : List (ℕ × ℕ)) (some : All IsSome spans) (apart : apart_fr
   module _ (n place : ℕ) (within : place ≤ length spans) (point : IsPartitionPoint (λ (span : ℕ × ℕ). nat_le span.0 n ≡ true) (λ (span : ℕ × ℕ). nat_le span.0 n ≡ false) spans place) where
     -- a run that it lies in begins no higher
     begins_before : list_any (is_in n) spans ≡ true → (k : ℕ) × (k < place) × ((d : ℕ × ℕ) → n < (slice_index_or spans k d).1)
-    begins_before any =
-        let found = Any-from_list_any (is_in n) spans any in
-        let k = found.0 in
-        let x = found.1 in
-        let inside = in_one n x found.4 in
-        let at : (d : ℕ × ℕ) → slice_index_or spans k d ≡ x = λ d. get_or_default spans k d x found.2 ∙ found.3 in (
-          k,
-          ⊎_elim (λ before. before) (λ behind. absurd (let f = leb-false (slice_index_or spans k x).0 n (point.1 k x behind found.2) in let e = ap (λ (span : ℕ × ℕ). span.0) (at x) in omega arith)) (cases_lt k place),
-          λ d. let e = ap (λ (span : ℕ × ℕ). span.1) (at d) in omega arith,
-        )
+    begins_before any = grind (arith, nat_tests, Any-from_list_any, in_one, get_or_default, leb-false)
 
     pub none_before : place ≤ 0 → nat_lt 0 place ≡ list_any (is_in n) spans
-    none_before none =
-        both_ways (nat_lt 0 place) (list_any (is_in n) spans)
-        (λ t. absurd (let l = ltb-true 0 place t in omega arith))
-        (λ any. absurd (let b = begins_before any in omega arith))
+    none_before none = grind (arith, both_ways, ltb-true, begins_before)
 
     pub last_decides : (e : ℕ × ℕ) → 0 < place → nat_lt n (slice_index_or spans (place - 1) e).1 ≡ list_any (is_in n) spans
-    last_decides e some_before =
-        both_ways (nat_lt n (slice_index_or spans (place - 1) e).1) (list_any (is_in n) spans)
-        (λ t. list_any_at (is_in n) spans (place - 1) e (omega arith)
-        (one_in n (slice_index_or spans (place - 1) e) (leb-true (slice_index_or spans (place - 1) e).0 n (point.0 (place - 1) e (omega arith) (omega arith))) (ltb-true n (slice_index_or spans (place - 1) e).1 t)))
-        (λ any. let b = begins_before any in lt-ltb n (slice_index_or spans (place - 1) e).1 (last b.0 b.1 (b.2 e)))
-      where
-        last : (k : ℕ) → k < place → n < (slice_index_or spans k e).1 → n < (slice_index_or spans (place - 1) e).1
-        last k before inside =
-            ⊎_elim (λ same. let q = ap (λ j. (slice_index_or spans j e).1) same in omega arith)
-            (λ other. absurd (
-            let p = apart-pairs 0 spans some apart k (place - 1) e (omega arith) (omega arith) in
-            let low = leb-true (slice_index_or spans (place - 1) e).0 n (point.0 (place - 1) e (omega arith) (omega arith)) in
-            omega arith))
-            (cases_eq k (place - 1))
+    last_decides e some_before = grind (arith, both_ways, list_any_at, one_in, leb-true, ltb-true, begins_before, lt-ltb, nat_tests, apart-pairs)
 
 -- a run that is in the list
 pub within-there : (spans : List (ℕ × ℕ)) (k : ℕ) (d : ℕ × ℕ) → k < length spans → IsWithin (slice_index_or spans k d) spans
 within-there spans k d there n inside = list_any_at (is_in n) spans k d there inside
-
--- a run without a number
-pub none-within : (spans : List (ℕ × ℕ)) → IsWithin (0, 0) spans
-none-within spans n inside = absurd (let i = in_one n (0, 0) inside in omega arith)
 
 -- all of a list pass if all do in another order
 pub all-permuted : (p : ℕ → Bool) (xs ys : List ℕ) → IsPermutation xs ys → list_all p xs ≡ list_all p ys

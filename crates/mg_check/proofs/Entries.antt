@@ -1,5 +1,5 @@
 -- The entries of the frame table, one after another.
-use Rattle.std.specs.Prelude.{◌≡◌, ℕ, zero, suc, ◌+◌, ◌-◌, ◌*◌, ◌/◌, ◌%◌, ◌<◌, ◌≤◌, ◌==◌, ◌&&◌, min, true, false, List, [], ◌∷◌, ◌++◌, drop, length, take}
+use Rattle.std.specs.Prelude.{◌≡◌, ℕ, zero, suc, ◌+◌, ◌-◌, ◌*◌, ◌/◌, ◌<◌, ◌≤◌, ◌==◌, ◌&&◌, min, true, false, List, [], ◌∷◌, ◌++◌, drop, length, take}
 use Rattle.std.proofs.Common.{refl, sym, ap, ◌∙◌, arith, ⊎_elim}
 use Rattle.std.proofs.lemmas.Bool.{and_from, and_left, and_right, cases_eq}
 use Rattle.std.proofs.lemmas.List.{drop_at, take_at}
@@ -7,7 +7,7 @@ use Rattle.std.proofs.lemmas.List.Folds.{list_all-append}
 use Rattle.std.proofs.Math.Bool.{and-true}
 use Rattle.std.proofs.Math.Nat.{mul-suc}
 use Rattle.mg_model.specs.Abbreviations.{table_of}
-use Rattle.mg_model.specs.Bytes.{are_zeros, number_at, numbers_at}
+use Rattle.mg_model.specs.Bytes.{are_zeros, numbers_at}
 use Rattle.mg_model.specs.Layout.{table_block, table_blocks}
 use Rattle.mg_model.specs.Replay.{block_of}
 use Rattle.mg_model.specs.Volume.{table_entries, whole_table}
@@ -37,12 +37,6 @@ module _ (entry : ℕ → ℕ) where
       ⊎_elim (λ here. and_left (entry i == 0) (are_zeros (entries entry (i + 1) m)) (ap (λ k. entry k == 0) (sym here) ∙ some))
       (λ other. and_right (entry i == 0) (are_zeros (entries entry (i + 1) m)) (not_zeros (i + 1) m f (omega arith) (omega arith) some))
       (cases_eq f i)
-
-  pub entries-none : (frames : ℕ) (table : List ℕ) → table ≡ [] → AreEntries entry 0 frames table
-  entries-none frames table none = record {
-    are = none ∙ ap (entries entry 0) (let e : 0 ≡ min 0 frames = omega arith in e);
-    rest = ap (λ n. are_zeros (entries entry frames n)) (let e : 0 - frames ≡ 0 = omega arith in e);
-  }
 
   -- an entry of a frame
   pub entry-held : (f frames : ℕ) (old new : List ℕ) → f < frames → AreEntries entry f frames old → new ≡ old ++ entry f ∷ [] → AreEntries entry (f + 1) frames new
@@ -74,16 +68,7 @@ module _ (image : List (List ℕ)) (block : ℕ) where
 
   in_block : (k j m : ℕ) → j + m ≤ 512 → numbers_at (block_of image (block + k)) (8 * j) m ≡ entries entry_behind (512 * k + j) m
   in_block k j zero few = refl
-  in_block k j (suc m) few =
-      let place : k ≡ (512 * k + j) / 512 = omega arith in
-      let within : j ≡ (512 * k + j) % 512 = omega arith in
-      let next : 8 * j + 8 ≡ 8 * (j + 1) = omega arith in
-      let behind : 512 * k + (j + 1) ≡ 512 * k + j + 1 = omega arith in
-      ap (λ p. number_at (block_of image (block + p)) (8 * j) ∷ numbers_at (block_of image (block + k)) (8 * j + 8) m) place
-      ∙ ap (λ p. number_at (block_of image (block + (512 * k + j) / 512)) (8 * p) ∷ numbers_at (block_of image (block + k)) (8 * j + 8) m) within
-      ∙ ap (λ o. entry_behind (512 * k + j) ∷ numbers_at (block_of image (block + k)) o m) next
-      ∙ ap (λ rest. entry_behind (512 * k + j) ∷ rest) (in_block k (j + 1) m (omega arith))
-      ∙ ap (λ i. entry_behind (512 * k + j) ∷ entries entry_behind i m) behind
+  in_block k j (suc m) few = grind (arith, in_block k (j + 1) m (omega arith))
 
   whole_block : (k w : ℕ) → w ≡ 512 → numbers_at (block_of image (block + k)) 0 w ≡ entries entry_behind (512 * k) w
   whole_block k w is = in_block k 0 w (omega arith) ∙ ap (λ i. entries entry_behind i w) (let e : 512 * k + 0 ≡ 512 * k = omega arith in e)

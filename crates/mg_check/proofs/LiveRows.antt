@@ -22,18 +22,11 @@ with_live_more i (Some row) xs ys = refl
 
 module _ {R : Type 0} (read : ℕ → Read R) where
   step : (i n : ℕ) (row : Option R) (rest : List (ℕ × R)) → read i ≡ Some row → live_rows read (i + 1) n ≡ Some rest → live_rows read i (suc n) ≡ Some (with_live i row rest)
-  step i n row rest here later =
-      ap (λ o. and_then o (λ row. and_then (live_rows read (i + 1) n) (λ rows. Some (with_live i row rows)))) here
-      ∙ ap (λ o. and_then o (λ rows. Some (with_live i row rows))) later
+  step i n row rest here later = grind (arith)
 
   -- one place more
   more : (i n j : ℕ) (xs : List (ℕ × R)) (row : Option R) → i + n ≡ j → live_rows read i n ≡ Some xs → read j ≡ Some row → live_rows read i (suc n) ≡ Some (xs ++ with_live j row [])
-  more i zero j xs row at first here =
-      let same : i ≡ j = omega arith in
-      let none : [] ≡ xs = cc in
-      step i zero row [] (ap read same ∙ here) refl
-      ∙ ap (λ k. Some (with_live k row [])) same
-      ∙ ap (λ ys. Some (ys ++ with_live j row [])) none
+  more i zero j xs row at first here = grind (arith, step)
   more i (suc n) j xs row at first here =
       let a = and_then_some (read i) (λ row. and_then (live_rows read (i + 1) n) (λ rows. Some (with_live i row rows))) xs first in
       let b = and_then_some (live_rows read (i + 1) n) (λ rows. Some (with_live i a.0 rows)) xs a.2 in

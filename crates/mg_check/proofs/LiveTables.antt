@@ -1,8 +1,9 @@
 -- Lemmas on the live rows of a table that has a row or none in each place.
-use Rattle.std.specs.Prelude.{◌≡◌, ◌&&◌, ℕ, suc, ◌+◌, ◌≤◌, nat_le, List, [], ◌∷◌, ◌++◌, Option, Some, None, length, sum_by}
+use Rattle.std.proofs.Common.{rules}
+use Rattle.std.specs.Prelude.{◌≡◌, ◌&&◌, ℕ, ◌+◌, ◌≤◌, nat_le, List, [], ◌∷◌, ◌++◌, Option, Some, None, length, sum_by}
 use Rattle.std.specs.List.{filter_map, list_all}
 use Rattle.std.specs.Option.{option_map}
-use Rattle.std.proofs.Common.{refl, sym, ap, ◌∙◌, arith}
+use Rattle.std.proofs.Common.{refl, ap, ◌∙◌, arith}
 use Rattle.std.proofs.lemmas.List.{append-nil, length-append}
 use Rattle.std.proofs.lemmas.List.Sums.{sum_by-cons}
 use Rattle.mg_model.specs.State.{ObjectRow}
@@ -16,17 +17,11 @@ module _ {R : Type 0} where
   live-behind : (i : ℕ) (rows : List (Option R)) (row : Option R) → live_from i (rows ++ row ∷ []) ≡ live_from i rows ++ with_live (i + length rows) row []
   live-behind i [] None = refl
   live-behind i [] (Some row) = let e : i ≡ i + 0 = omega arith in ap (λ n. (n, row) ∷ []) e
-  live-behind i (None ∷ rows) row =
-      let e : i + 1 + length rows ≡ i + suc (length rows) = omega arith in
-      live-behind (i + 1) rows row ∙ ap (λ n. live_from (i + 1) rows ++ with_live n row []) e
-  live-behind i (Some first ∷ rows) row =
-      let e : i + 1 + length rows ≡ i + suc (length rows) = omega arith in
-      ap (λ xs. (i, first) ∷ xs) (live-behind (i + 1) rows row ∙ ap (λ n. live_from (i + 1) rows ++ with_live n row []) e)
+  live-behind i (None ∷ rows) row = grind (arith, live-behind (i + 1) rows row)
+  live-behind i (Some first ∷ rows) row = grind (arith, live-behind (i + 1) rows row)
 
   pub behind-row : (i : ℕ) (row : R) (old new : List (Option R)) → length old ≡ i → new ≡ old ++ Some row ∷ [] → live_from 0 new ≡ live_from 0 old ++ (i, row) ∷ []
-  behind-row i row old new long more =
-      let e : 0 + length old ≡ i = omega arith in
-      ap (live_from 0) more ∙ live-behind 0 old (Some row) ∙ ap (λ n. live_from 0 old ++ (n, row) ∷ []) e
+  behind-row i row old new long more = grind (arith, live-behind)
 
   pub behind-none : (old new : List (Option R)) → new ≡ old ++ None ∷ [] → live_from 0 new ≡ live_from 0 old
   behind-none old new more = ap (live_from 0) more ∙ live-behind 0 old None ∙ append-nil (live_from 0 old)
@@ -53,15 +48,9 @@ live-paid accounts i (Some row ∷ rows) = ap (λ t. nat_le row.account accounts
 pub live-pages : (i : ℕ) (rows : List (Option ObjectRow)) → sum_by pages_in rows ≡ sum_by (λ (o : ℕ × ObjectRow). o.1.pages) (live_from i rows)
 live-pages i [] = refl
 live-pages i (None ∷ rows) = live-pages (i + 1) rows
-live-pages i (Some row ∷ rows) =
-    sum_by-cons pages_in (Some row) rows
-    ∙ ap (λ n. row.pages + n) (live-pages (i + 1) rows)
-    ∙ sym (sum_by-cons (λ (o : ℕ × ObjectRow). o.1.pages) (i, row) (live_from (i + 1) rows))
+live-pages i (Some row ∷ rows) = search (rules, sum_by-cons, live-pages (i + 1) rows)
 
 pub live-count : (i : ℕ) (rows : List (Option ObjectRow)) → sum_by count_in rows ≡ length (live_from i rows)
 live-count i [] = refl
 live-count i (None ∷ rows) = live-count (i + 1) rows
-live-count i (Some row ∷ rows) =
-    let rest = live-count (i + 1) rows in
-    let e : 1 + sum_by count_in rows ≡ suc (length (live_from (i + 1) rows)) = omega arith in
-    sum_by-cons count_in (Some row) rows ∙ e
+live-count i (Some row ∷ rows) = search (rules, sum_by-cons, live-count (i + 1) rows)

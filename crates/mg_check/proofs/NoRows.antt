@@ -1,8 +1,9 @@
 -- If something is not spelled, or an account follows a free row, there is no state.
-use Rattle.std.specs.Prelude.{◌≡◌, ◌&&◌, ℕ, true, false, List, drop, if◌then◌else◌, length, take, Option, None, Some}
+use Rattle.std.proofs.lemmas.Bool.Decides.{nat_tests}
+use Rattle.std.proofs.Common.{arith}
+use Rattle.std.specs.Prelude.{◌≡◌, ℕ, false, List, drop, if◌then◌else◌, take, Option, None, Some}
 use Rattle.std.specs.Option.{option_map_or}
-use Rattle.std.proofs.Common.{refl, ap, ◌∙◌, ⊎_elim}
-use Rattle.std.proofs.lemmas.Bool.{cases_Bool}
+use Rattle.std.proofs.Common.{refl, ap, ◌∙◌}
 use Rattle.mg_model.specs.declared.accounts.AccRow.{AccRow}
 use Rattle.mg_model.specs.Abbreviations.{account_row_bytes, object_row_bytes, thread_row_bytes}
 use Rattle.mg_model.specs.Bytes.{are_zeros}
@@ -12,7 +13,7 @@ use Rattle.mg_model.specs.Replay.{block_of}
 use Rattle.mg_model.specs.Settings.{Settings}
 use Rattle.mg_model.specs.Spelling.{account_read, globals_read, object_read, thread_read}
 use Rattle.mg_model.specs.State.{Counters, ObjectRow, ThreadRow}
-use Rattle.mg_model.specs.Volume.{Damaged, Is, Rows, VolumeRead, accounts_fit, fitting, has_no_gap, live_rows, objects_fit, rows_of, state_spelled, table_fits, threads_fit, whole_table}
+use Rattle.mg_model.specs.Volume.{Damaged, Rows, VolumeRead, fitting, has_no_gap, live_rows, rows_of, state_spelled, whole_table}
 use Rattle.mg_model.specs.VolumeLemmas.{rows_from, rows_with}
 use Rattle.mg_check.specs.RowsTold.{HasNoState, NoCounters}
 use Rattle.mg_check.specs.TableTold.{HasRest}
@@ -48,25 +49,13 @@ module _ (settings : Settings) (image : List (List ℕ)) where
   reading found = option_map_or (λ rows. fitting rows (state_spelled image settings rows)) found Damaged
 
   gap_unfit : (rows : Rows) → has_no_gap 0 rows.accounts ≡ false → reading (Some rows) ≡ Damaged
-  gap_unfit rows gap =
-      let state = state_spelled image settings rows in
-      ap (λ b.
-      if (b && accounts_fit state.settings.credits state.counters.period state.accounts
-      && objects_fit state.settings.frames (length state.accounts) state.objects
-      && threads_fit state.counters.births state.threads
-      && table_fits state.objects rows.table) then Is state else Damaged) gap
+  gap_unfit rows gap = grind (arith)
 
   unfit : (n : ℕ) (c : Option Counters) (t : Option (List (ℕ × ThreadRow))) (o : Option (List (ℕ × ObjectRow))) (whole : List ℕ) (rows : List (ℕ × AccRow)) → has_no_gap 0 rows ≡ false → reading (rows_from n c (Some rows) t o whole) ≡ Damaged
   unfit n None t o whole rows gap = refl
   unfit n (Some c) None o whole rows gap = refl
   unfit n (Some c) (Some t) None whole rows gap = refl
-  unfit n (Some c) (Some t) (Some o) whole rows gap = ⊎_elim zeros others (cases_Bool (are_zeros (drop n whole)))
-    where
-      zeros : are_zeros (drop n whole) ≡ true → reading (if are_zeros (drop n whole) then Some (rows_with c rows t o (take n whole)) else None) ≡ Damaged
-      zeros is = ap (λ b. reading (if b then Some (rows_with c rows t o (take n whole)) else None)) is ∙ gap_unfit (rows_with c rows t o (take n whole)) gap
-
-      others : are_zeros (drop n whole) ≡ false → reading (if are_zeros (drop n whole) then Some (rows_with c rows t o (take n whole)) else None) ≡ Damaged
-      others is = ap (λ b. reading (if b then Some (rows_with c rows t o (take n whole)) else None)) is
+  unfit n (Some c) (Some t) (Some o) whole rows gap = grind (arith, nat_tests, rows_with, gap_unfit)
 
 module _ (settings : Settings) (image : List (List ℕ)) where
   abbrev frames : ℕ

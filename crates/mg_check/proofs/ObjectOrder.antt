@@ -1,4 +1,5 @@
 -- The objects that rows spell, in the order of their bases, and the places of these rows in another order.
+use Rattle.std.proofs.Common.{rules}
 use Rattle.std.specs.Prelude.{◌≡◌, ℕ, ◌+◌, ◌≤◌, ◌&&◌, ◌||◌, nat_le, nat_lt, Bool, true, false, List, [], ◌∷◌, All, if◌then◌else◌, length, map, sum_by}
 use Rattle.std.specs.List.{list_all, list_any}
 use Rattle.std.specs.List.Sorted.{IsPermutation}
@@ -45,20 +46,11 @@ ordered_with bound new (object ∷ objects) low ordered =
     ⊎_elim (first parts.1) (λ f. later parts.0 (λ high. ordered_with (page_of object.row) new objects high parts.1) f) (cases_Bool (nat_lt new.row.base object.row.base))
   where
     first : ordered_from (page_of object.row) (map object_place objects) ≡ true → nat_lt new.row.base object.row.base ≡ true → ordered_from bound (map object_place (with_object new (object ∷ objects))) ≡ true
-    first rest t =
-        let less = ltb-true new.row.base object.row.base t in
-        let high : page_of new.row ≤ page_of object.row = omega arith in
-        subst (λ (b : Bool). ordered_from bound (map object_place (if b then new ∷ object ∷ objects else object ∷ with_object new objects)) ≡ true) (sym t)
-        (and_from (nat_le bound (page_of new.row)) (nat_le (page_of new.row) (page_of object.row) && ordered_from (page_of object.row) (map object_place objects)) (le-leb bound (page_of new.row) low)
-        (and_from (nat_le (page_of new.row) (page_of object.row)) (ordered_from (page_of object.row) (map object_place objects)) (le-leb (page_of new.row) (page_of object.row) high) rest))
+    first rest t = grind (arith, ltb-true, and_from, le-leb)
 
     later : nat_le bound (page_of object.row) ≡ true → (page_of object.row ≤ page_of new.row → ordered_from (page_of object.row) (map object_place (with_object new objects)) ≡ true)
         → nat_lt new.row.base object.row.base ≡ false → ordered_from bound (map object_place (with_object new (object ∷ objects))) ≡ true
-    later here rest f =
-        let no_less = ltb-false new.row.base object.row.base f in
-        let high : page_of object.row ≤ page_of new.row = omega arith in
-        subst (λ (b : Bool). ordered_from bound (map object_place (if b then new ∷ object ∷ objects else object ∷ with_object new objects)) ≡ true) (sym f)
-        (and_from (nat_le bound (page_of object.row)) (ordered_from (page_of object.row) (map object_place (with_object new objects))) here (rest high))
+    later here rest f = grind (arith, ltb-false, and_from)
 
 -- whether objects are apart is a test of their places
 apart_behind : (object : Object) (objects : List Object) → are_apart (object ∷ objects) ≡ apart_from (page_behind object.row) (map object_place objects)
@@ -87,8 +79,7 @@ all-moved p xs ys moved =
 places_some : (rows : List (ℕ × ObjectRow)) → AreInRange rows → All IsSome (places_of rows)
 places_some [] ranges = All-nil IsSome
 places_some (row ∷ rows) ranges =
-    let range = All-head (λ (o : ℕ × ObjectRow). IsObjectRow o.1) row rows ranges in
-    All-cons IsSome (place_of row.1) (places_of rows) (let some = range.place.some in omega arith) (places_some rows (All-tail (λ (o : ℕ × ObjectRow). IsObjectRow o.1) row rows ranges))
+    grind (arith, All-head, All-cons, All-tail, places_some rows (All-tail (λ (o : ℕ × ObjectRow). IsObjectRow o.1) row rows ranges))
 
 pub spans-are : (rows : List (ℕ × ObjectRow)) (found sorted : List (ℕ × ℕ)) → AreInRange rows → found ≡ places_of rows → IsPermutation found sorted → ordered_from 0 sorted ≡ true → AreSpans sorted rows
 spans-are rows found sorted ranges are moved ordered =
@@ -134,8 +125,4 @@ module _ (image : List (List ℕ)) (frames : ℕ) (table : List ℕ) where
         ∙ sym (list_any-IsPermutation (is_in page) spans (map object_place (objects_spelled image frames table rows)) places_moved)
 
     pub spelled-apart : ordered_from 0 spans ≡ true → All IsSome spans → are_apart (objects_spelled image frames table rows) ≡ apart_from 0 spans
-    spelled-apart in_order some =
-        let objects = objects_spelled image frames table rows in
-        apart_places objects
-        ∙ apart-same (map object_place objects) spans (ordered rows) in_order (All-permutation IsSome spans (map object_place objects) places_moved some) some
-        (λ n. sum_by-IsPermutation (λ (span : ℕ × ℕ). if is_in n span then 1 else 0) spans (map object_place objects) places_moved)
+    spelled-apart in_order some = search (rules, apart_places, apart-same, ordered, All-permutation, places_moved, sum_by-IsPermutation)

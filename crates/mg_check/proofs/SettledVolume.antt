@@ -1,4 +1,5 @@
 -- From what is said of the rows to what is said of the image.
+use Rattle.std.proofs.Common.{arith}
 use Rattle.std.specs.Prelude.{◌≡◌, ℕ, ◌<◌, ◌≤◌, ◌==◌, nat_le, Bool, true, List, IsSome, if◌then◌else◌, length, Option, None, Some}
 use Rattle.std.specs.Option.{option_map_or}
 use Rattle.std.proofs.Common.{refl, sym, ap, ◌∙◌}
@@ -27,11 +28,7 @@ module _ (settings : Settings) (image : List (List ℕ)) where
 
   settled_at : (replayed : Option (List (List ℕ))) → total_blocks settings.frames ≤ length image → replay image (total_blocks settings.frames) ≡ replayed
       → settled_volume image settings ≡ option_map_or (λ r. replayed_volume settings r) replayed Damaged
-  settled_at replayed long is =
-      ap (λ t. settled t (replay image (total_blocks settings.frames))) (le-leb (total_blocks settings.frames) (length image) long) ∙ ap (settled true) is
-
-  pub settled-none : total_blocks settings.frames ≤ length image → replay image (total_blocks settings.frames) ≡ None → settled_volume image settings ≡ Damaged
-  settled-none long is = settled_at None long is
+  settled_at replayed long is = grind (arith, le-leb)
 
   pub settled-damaged : (r : List (List ℕ)) → total_blocks settings.frames ≤ length image → replay image (total_blocks settings.frames) ≡ Some r → replayed_volume settings r ≡ Damaged → settled_volume image settings ≡ Damaged
   settled-damaged r long is broken = settled_at (Some r) long is ∙ broken

@@ -1,7 +1,7 @@
 -- The tests of the rows decide whether these keep the rules between each other.
+use Rattle.std.proofs.Common.{arith}
 use Rattle.std.specs.Prelude.{◌≡◌, ℕ, ◌+◌, ◌==◌, ◌&&◌, nat_le, Bool, true, false, List, [], ◌∷◌, Option, if◌then◌else◌, length, sum_by, Some}
 use Rattle.std.specs.List.{list_all, list_any}
-use Rattle.std.specs.Option.{option_map_or}
 use Rattle.std.proofs.Common.{refl, sym, ap, ◌∙◌}
 use Rattle.std.proofs.lemmas.Bool.{and_from, eq-eqb}
 use Rattle.std.proofs.lemmas.List.Folds.{list_all-map}
@@ -19,7 +19,6 @@ use Rattle.mg_check.specs.Tables.{is_paid, pages_in}
 use Rattle.mg_disk.specs.Disk.{Image}
 use Rattle.mg_model.specs.declared.accounts.AccRow.{AccRow}
 use Rattle.mg_model.specs.Abbreviations.{account_row_bytes, accounts_spelled, object_row_bytes, thread_row_bytes, threads_spelled}
-use Rattle.mg_model.specs.Bank.{used}
 use Rattle.mg_model.specs.Layout.{globals_block}
 use Rattle.mg_model.specs.Limits.{account_limit, thread_limit, object_limit}
 use Rattle.mg_model.specs.Replay.{block_of}
@@ -27,7 +26,7 @@ use Rattle.mg_model.specs.Settings.{Settings}
 use Rattle.mg_model.specs.Spelling.{account_read, globals_read, object_read, thread_read}
 use Rattle.mg_model.specs.State.{Object, ObjectRow, Thread, ThreadRow}
 use Rattle.mg_model.specs.Tests.{all_distinct}
-use Rattle.mg_model.specs.Volume.{Damaged, Is, accounts_fit, begins_with_first, bound_pages, fitting, has_no_gap, is_page_of, objects_fit, objects_spelled, replayed_volume, rows_of, state_fits, state_spelled, table_fits, threads_fit, whole_table}
+use Rattle.mg_model.specs.Volume.{Damaged, Is, accounts_fit, begins_with_first, bound_pages, fitting, has_no_gap, is_page_of, objects_fit, objects_spelled, replayed_volume, rows_of, state_fits, table_fits, threads_fit, whole_table}
 use Rattle.mg_model.specs.VolumeLemmas.{rows-read, rows_with}
 
 all_same : {X : Type 0} (p q : X → Bool) → ((x : X) → p x ≡ q x) → (xs : List X) → list_all p xs ≡ list_all q xs
@@ -47,11 +46,7 @@ no-gap i (row ∷ rows) = and_from (i == i) (has_no_gap (i + 1) (placed_from (i 
 module _ (image : Image) (frames : ℕ) (table : List ℕ) (spans : List (ℕ × ℕ)) (rows : List (ℕ × ObjectRow)) (are : AreSpans spans rows) where
   pub objects-fit : (accounts : ℕ) → objects_fit frames accounts (objects_spelled image frames table rows)
       ≡ (apart_from 0 spans && list_all (λ (row : ℕ × ObjectRow). nat_le row.1.account accounts) rows && nat_le (sum_by (λ (row : ℕ × ObjectRow). row.1.pages) rows) frames)
-  objects-fit accounts =
-      let objects = objects_spelled image frames table rows in
-      ap (λ t. t && list_all (λ (object : Object). nat_le object.row.account accounts) objects && nat_le (used objects) frames) (spelled-apart image frames table rows spans are.are are.ordered are.each)
-      ∙ ap (λ t. apart_from 0 spans && t && nat_le (used objects) frames) (spelled-paid image frames table accounts rows)
-      ∙ ap (λ n. apart_from 0 spans && list_all (λ (row : ℕ × ObjectRow). nat_le row.1.account accounts) rows && nat_le n frames) (spelled-used image frames table rows)
+  objects-fit accounts = grind (arith, spelled-apart, spelled-paid, spelled-used)
 
   pub table-fits : table_fits (objects_spelled image frames table rows) table ≡ (list_all (λ page. list_any (is_in page) spans) (bound_pages table) && all_distinct (bound_pages table))
   table-fits =
@@ -72,10 +67,7 @@ thread_of row = record { number = row.0 + 1; row = row.1 }
 
 pub threads-fit : (births : ℕ) (rows : List (ℕ × ThreadRow))
     → threads_fit births (threads_spelled rows) ≡ (begins_with_first (threads_spelled rows) && all_distinct (births_of rows) && list_all (λ (t : ℕ × ThreadRow). nat_le t.1.birth births) rows)
-threads-fit births rows =
-    let threads = threads_spelled rows in
-    ap (λ ns. begins_with_first threads && all_distinct ns && list_all (λ (thread : Thread). nat_le thread.row.birth births) threads) (map-map (λ (thread : Thread). thread.row.birth) thread_of rows)
-    ∙ ap (λ t. begins_with_first threads && all_distinct (births_of rows) && t) (list_all-map (λ (thread : Thread). nat_le thread.row.birth births) thread_of rows)
+threads-fit births rows = grind (arith, map-map, list_all-map)
 
 -- all rows
 module _ (rows : VolumeRows) where
@@ -90,17 +82,7 @@ module _ (rows : VolumeRows) where
       && table_fits (objects_at image) rows.table.items
 
   fit_is : (image : Image) → state_fits (rows_in rows) (state_in rows image) ≡ all_fit image
-  fit_is image =
-      ap (λ t.
-      t && accounts_fit rows.params.credits rows.globals.period (accounts_spelled (placed_from 0 rows.accounts.items))
-      && objects_fit rows.params.frames (length (accounts_spelled (placed_from 0 rows.accounts.items))) (objects_at image)
-      && threads_fit rows.globals.births (threads_spelled rows.threads.items)
-      && table_fits (objects_at image) rows.table.items) (no-gap 0 rows.accounts.items)
-      ∙ ap (λ (accounts : List AccRow).
-      accounts_fit rows.params.credits rows.globals.period accounts
-      && objects_fit rows.params.frames (length accounts) (objects_at image)
-      && threads_fit rows.globals.births (threads_spelled rows.threads.items)
-      && table_fits (objects_at image) rows.table.items) (accounts-placed 0 rows.accounts.items)
+  fit_is image = grind (arith, no-gap, accounts-placed)
 
   -- what the tests of them say, when the parts are taken out
   pub accounts-test : (test : Bool) (credits : ℕ) (accounts : List AccRow) → test ≡ accounts_fit credits rows.globals.period accounts → credits ≡ rows.params.credits → accounts ≡ rows.accounts.items
@@ -109,11 +91,7 @@ module _ (rows : VolumeRows) where
 
   pub objects-test : (test : Bool) (frames n : ℕ) (objects : List (ℕ × ObjectRow)) → ((image : Image) (table : List ℕ) → objects_fit frames n (objects_spelled image frames table objects) ≡ test) → frames ≡ rows.params.frames → n ≡ length rows.accounts.items
       → objects ≡ (objects_of rows) → (image : Image) → objects_fit rows.params.frames (length rows.accounts.items) (objects_at image) ≡ test
-  objects-test test frames n objects is same count here image =
-      sym (ap (λ k. objects_fit k n (objects_spelled image k rows.table.items objects)) same
-      ∙ ap (λ k. objects_fit rows.params.frames k (objects_spelled image rows.params.frames rows.table.items objects)) count
-      ∙ ap (λ os. objects_fit rows.params.frames (length rows.accounts.items) (objects_spelled image rows.params.frames rows.table.items os)) here)
-      ∙ is image rows.table.items
+  objects-test test frames n objects is same count here image = grind (arith)
 
   pub threads-test : (test : Bool) (births : ℕ) (threads : List (ℕ × ThreadRow)) → test ≡ threads_fit births (threads_spelled threads) → births ≡ rows.globals.births → threads ≡ rows.threads.items
       → threads_fit rows.globals.births (threads_spelled rows.threads.items) ≡ test
@@ -137,13 +115,7 @@ module _ (rows : VolumeRows) where
 
   module _ (accounts : accounts_fit rows.params.credits rows.globals.period rows.accounts.items ≡ true) (objects : (image : Image) → objects_fit rows.params.frames (length rows.accounts.items) (objects_at image) ≡ true) where
     good_objects : (image : Image) → state_fits (rows_in rows) (state_in rows image) ≡ (threads_fit rows.globals.births (threads_spelled rows.threads.items) && table_fits (objects_at image) rows.table.items)
-    good_objects image =
-        fit_is image
-        ∙ ap (λ t. t && objects_fit rows.params.frames (length rows.accounts.items) (objects_at image) && threads_fit rows.globals.births (threads_spelled rows.threads.items) && table_fits (objects_at image) rows.table.items) accounts
-        ∙ ap (λ t. t && threads_fit rows.globals.births (threads_spelled rows.threads.items) && table_fits (objects_at image) rows.table.items) (objects image)
-
-    pub bad-threads : threads_fit rows.globals.births (threads_spelled rows.threads.items) ≡ false → Decides false rows
-    bad-threads bad = record { is = λ image. good_objects image ∙ ap (λ t. t && table_fits (objects_at image) rows.table.items) bad }
+    good_objects image = grind (arith, fit_is)
 
     pub decided : threads_fit rows.globals.births (threads_spelled rows.threads.items) ≡ true → (spans : List (ℕ × ℕ)) → AreSpans spans (objects_of rows) → (fit : Bool)
         → fit ≡ (list_all (λ page. list_any (is_in page) spans) (bound_pages rows.table.items) && all_distinct (bound_pages rows.table.items)) → Decides fit rows
@@ -161,9 +133,7 @@ module _ (rows : VolumeRows) where
     rows_are = ap (λ (s : Settings). rows_of image s.frames) (sym same) ∙ told.are
 
     reads_as : replayed_volume settings image ≡ fitting (rows_in rows) (state_in rows image)
-    reads_as =
-        ap (λ found. option_map_or (λ held. fitting held (state_spelled image settings held)) found Damaged) rows_are
-        ∙ ap (λ s. fitting (rows_in rows) (state_spelled image s (rows_in rows))) (sym same)
+    reads_as = grind (arith, rows_are)
 
     pub told-rows : Decides true rows → TellsRows settings rows image
     told-rows fit = record { are = rows_are; is = reads_as ∙ ap (λ b. if b then Is (state_in rows image) else Damaged) (fit.is image) }

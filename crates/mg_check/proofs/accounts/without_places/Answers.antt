@@ -5,10 +5,7 @@ use Rattle.mg_check.proofs.Gaps.{account-next, gap-there}
 use Rattle.mg_check.proofs.accounts.without_places.Goals as goal
 
 pub returns-then-place-len-clause-damaged : goal.returns-then-place-len-clause-damaged
-returns-then-place-len-clause-damaged c is =
-    let accounts = c.loop-place.accounts.items in
-    let count : length accounts ≡ c.len.result = search rules in
-    gap-there c.args.rows.now accounts c.loop-place.place-index (0, record { password = 0; balance = 0; owed = 0 }) c.loop-place-test.true c.loop-place.invariant.same (λ same. c.if-place-len.true (same ∙ count))
+returns-then-place-len-clause-damaged c is = search (rules, gap-there)
 
 pub loop-place-preserved : goal.loop-place-preserved
 loop-place-preserved c =

@@ -1,10 +1,8 @@
-use Rattle.std.proofs.Common.{◌≡◌, Err, ap, sym, ◌∙◌, arith}
-use Rattle.mg_journal.specs.Looked.{Fits}
+use Rattle.std.proofs.Common.{◌≡◌, ap, sym, ◌∙◌, arith}
 use Rattle.mg_model.specs.Layout.{total_blocks}
 use Rattle.mg_model.specs.Replay.{replay}
 use Rattle.mg_check.specs.ReadRuns.{still_read, told_contents}
 use Rattle.mg_check.specs.Reads.{OnlyRead}
-use Rattle.mg_journal.specs.declared.faults.ViewFault.TheVariants as fault
 use Rattle.mg_check.proofs.SettledVolume.{settled-damaged, settled-short, settled-tells, some_in}
 use Rattle.mg_check.proofs.opening.read_through_view.Goals as goal
 
@@ -15,10 +13,7 @@ returns-then-blocks-total-clause-damaged g c is image told =
     settled-short c.args.params.now image (omega arith)
 
 pub read_rows-requires-clause-can : goal.read_rows-requires-clause-can
-read_rows-requires-clause-can g c =
-    let view = c.in_ok-view.view in
-    let reads : OnlyRead g.D.Disk c.args.disk.now c.look.new.disk = record { writes = c.look.ensures.writes; count = c.look.ensures.calls.count; blocks = c.look.ensures.calls.blocks } in
-    still_read g.D.Disk view.total (Fits view) c.args.disk.now c.look.new.disk (record { room = let e = c.in_ok-view.ensures.total in omega arith; fits = c.in_ok-view.ensures.fits }) reads
+read_rows-requires-clause-can g c = grind (arith, still_read)
 
 pub returns-in-Ok-clause-told : goal.returns-in-Ok-clause-told
 returns-in-Ok-clause-told g c image told =
@@ -32,13 +27,4 @@ returns-in-Ok-clause-told g c image told =
     settled-tells p image c.in-Ok.rows r.0 (omega arith) (ap (replay image) (sym needed) ∙ r.1) (c.in-Ok.ensures.told r.0 same)
 
 pub returns-in-Err-clause-damaged : goal.returns-in-Err-clause-damaged
-returns-in-Err-clause-damaged g c is image told =
-    let e : c.in-Err.fault ≡ fault.Damaged = cc in
-    let p = c.args.params.now in
-    let view = c.in_ok-view.view in
-    let counted = g.met.D.Disk.seen_count c.args.disk.now image told in
-    let needed : c.of-total.result.total ≡ total_blocks p.frames = c.of-total.ensures.total ∙ ap total_blocks c.frames.ensures.value in
-    let r = some_in (replay image c.of-total.result.total) (c.in_ok-view.ensures.replayed image told) in
-    let reads : OnlyRead g.D.Disk c.args.disk.now c.look.new.disk = record { writes = c.look.ensures.writes; count = c.look.ensures.calls.count; blocks = c.look.ensures.calls.blocks } in
-    let same = told_contents g.D.Disk (λ i. replay i view.total) c.args.disk.now c.look.new.disk image r.0 reads told (ap (replay image) c.in_ok-view.ensures.total ∙ r.1) in
-    settled-damaged p image r.0 (omega arith) (ap (replay image) (sym needed) ∙ r.1) ((c.read_rows.ensures.damaged (c.in-Err.is ∙ ap Err e) r.0 same).none)
+returns-in-Err-clause-damaged g c is image told = grind (arith, some_in, told_contents, settled-damaged)

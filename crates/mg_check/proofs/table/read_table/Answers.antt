@@ -1,12 +1,10 @@
-use Rattle.std.proofs.Common.{◌≡◌, Some, ◌*◌, ◌==◌, Err, ap, sym, ◌∙◌, arith}
-use Rattle.std.proofs.lemmas.Result.{err_from_is_err_and}
+use Rattle.std.proofs.Common.{◌≡◌, Some, ◌*◌, ◌==◌, ap, sym, ◌∙◌, arith}
 use Rattle.mg_disk.specs.Disk.{Image}
 use Rattle.mg_model.specs.Layout.{table_blocks}
 use Rattle.mg_check.specs.Reads.{contents}
 use Rattle.mg_check.specs.TableTold.{entry_in, table_entry}
-use Rattle.mg_journal.specs.declared.faults.ViewFault.TheVariants as fault
 use Rattle.mg_check.proofs.Entries.{table-rest, table-told}
-use Rattle.mg_check.proofs.RunsAtHand.{here}
+use Rattle.mg_check.proofs.RunsAtHand.{handed-on, here}
 use Rattle.mg_check.specs.ReadRuns.{only_then, same_contents, still_read}
 use Rattle.mg_check.proofs.table.read_table.Goals as goal
 
@@ -18,11 +16,7 @@ turn_to-requires-clause-there g c r told = c.loop-f.invariant.there r (sym (same
 
 pub returns-in_err-take-clause-damaged : goal.returns-in_err-take-clause-damaged
 returns-in_err-take-clause-damaged g c is r told =
-    let p = err_from_is_err_and c.from_residual-in_err-take.result c.from_residual-in_err-take.ensures.1 in
-    let was = c.in_err-take.was in
-    let first = p.1 in
-    let same = p.2 in
-    let damaged : c.take.result ≡ Err fault.Damaged = cc in
+    let damaged = handed-on c.take.result c.from_residual-in_err-take.result _ _ c.in_err-take.was c.from_residual-in_err-take.ensures.1 is in
     let there = here c.turn_to.new.self.first c.turn_to.new.self.count c.turn_to.new.self.blocks r _ c.block.result.now (c.in-Ok.ensures.there r (same_contents g.D.Disk (g.C.Contents.of c.args.view.now) c.args.disk.now c.loop-f.disk c.loop-f.invariant.reads ∙ told)) c.in-Ok.ensures.low c.in-Ok.ensures.high c.block.ensures.block in
     table-rest r c.args.frames (512 * table_blocks c.args.frames) (omega arith) c.loop-f.f (c.take.ensures.behind damaged) (omega arith)
     (ap (λ block. entry_in block c.loop-f.f == 0) (sym there) ∙ c.take.ensures.damaged damaged)

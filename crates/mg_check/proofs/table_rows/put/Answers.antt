@@ -1,3 +1,4 @@
+use Rattle.std.proofs.Common.{rules}
 use Rattle.std.proofs.Common.{◌+◌, ap, sym, ◌∙◌, Some, arith}
 use Rattle.std.proofs.lemmas.Result.{on_ok_weaker}
 use Rattle.mg_rows.specs.Answers.{as_read}
@@ -34,12 +35,10 @@ returns-in_ok-fill_to-in-Row-clause-kept g c =
     c.add.ensures.more
 
 pub returns-in_ok-fill_to-in-Row-clause-long : goal.returns-in_ok-fill_to-in-Row-clause-long
-returns-in_ok-fill_to-in-Row-clause-long g c =
-    on_ok_weaker c.add.result (λ more. long-more c.args.i (Some c.in-Row.row) c.fill_to.new.rows.items c.add.new.list.items c.in_ok-fill_to-in-Row.ensures.long more) c.add.ensures.more
+returns-in_ok-fill_to-in-Row-clause-long g c = search (rules, on_ok_weaker, long-more)
 
 pub returns-in-Free-clause-told : goal.returns-in-Free-clause-told
-returns-in-Free-clause-told g c = λ read here live.
-    live_free read c.args.i (live_from 0 c.args.rows.now.items) live (here ∙ sym c.read-found.ensures.spelled ∙ ap as_read c.in-Some.is ∙ ap (λ f. as_read (Some f)) c.in-Free.is)
+returns-in-Free-clause-told g c = grind (arith, live_free)
 
 pub returns-in-Free-clause-placed : goal.returns-in-Free-clause-placed
 returns-in-Free-clause-placed g c = λ are. placed_wider c.args.i (c.args.i + 1) (live_from 0 c.args.rows.now.items) (omega arith) are

@@ -1,13 +1,11 @@
-use Rattle.std.proofs.Common.{◌≡◌, ℕ, Err, Some, ap, length, subst, sym, ◌∙◌, arith}
-use Rattle.std.proofs.lemmas.Result.{err_from_is_err_and}
+use Rattle.std.proofs.Common.{◌≡◌, ℕ, Some, ap, subst, sym, ◌∙◌, arith}
 use Rattle.mg_disk.specs.Disk.{Image}
 use Rattle.mg_model.specs.Replay.{block_of}
 use Rattle.mg_check.specs.Reads.{contents}
-use Rattle.mg_check.specs.RowsRead.{ArePlaced, live_from}
-use Rattle.mg_check.specs.TableRows.{AreLive, EachKeeps}
-use Rattle.mg_journal.specs.declared.faults.ViewFault.TheVariants as fault
+use Rattle.mg_check.specs.RowsRead.{live_from}
+use Rattle.mg_check.specs.TableRows.{AreLive}
 use Rattle.mg_check.proofs.LiveRows.{live_none, not_spelled}
-use Rattle.mg_check.proofs.RunsAtHand.{here, none_yet}
+use Rattle.mg_check.proofs.RunsAtHand.{handed-on, here, none_yet}
 use Rattle.mg_check.proofs.Placed.{kept_none, placed_all, placed_none}
 use Rattle.mg_check.specs.ReadRuns.{only_none, only_then, same_contents, still_read}
 use Rattle.mg_check.proofs.table_rows.read_places.Goals as goal
@@ -20,11 +18,7 @@ turn_to-requires-clause-there g c r told = c.loop-i.invariant.there r (sym (same
 
 pub returns-in_err-put-clause-damaged : goal.returns-in_err-put-clause-damaged
 returns-in_err-put-clause-damaged g c is r told =
-    let p = err_from_is_err_and c.from_residual-in_err-put.result c.from_residual-in_err-put.ensures.1 in
-    let was = c.in_err-put.was in
-    let first = p.1 in
-    let same = p.2 in
-    let damaged : c.put.result ≡ Err fault.Damaged = cc in
+    let damaged = handed-on c.put.result c.from_residual-in_err-put.result _ _ c.in_err-put.was c.from_residual-in_err-put.ensures.1 is in
     let i = c.loop-i.i in
     let there = here c.turn_to.new.self.first c.turn_to.new.self.count c.turn_to.new.self.blocks r _ c.block.result.now (c.in-Ok.ensures.there r (same_contents g.D.Disk (g.C.Contents.of c.args.view.now) c.args.disk.now c.loop-i.disk c.loop-i.invariant.reads ∙ told)) c.in-Ok.ensures.low c.in-Ok.ensures.high c.block.ensures.block ∙ ap (block_of r) c.block_at-block.ensures.place in
     not_spelled (λ k. g.R.TableRow.spelled (block_of r (g.R.TableRow.block_at k)) k) g.R.TableRow.ROWS i
@@ -49,19 +43,7 @@ loop-i-preserved g c =
     }
 
 pub loop-i-init : goal.loop-i-init
-loop-i-init g c =
-    let none = ap (live_from 0) (sym c.in_ok-rows.ensures.none) in
-    record {
-      reads = only_none g.D.Disk c.args.disk.now (g.met.D.Disk.now_has_been c.args.disk.now);
-      there = λ r told. none_yet c.new-run.result.first c.new-run.result.count c.new-run.result.blocks r c.new-run.ensures.none;
-      few = omega (arith, c.new-run.ensures.none);
-      told = λ r told.
-          subst (AreLive (λ k. g.R.TableRow.spelled (block_of r (g.R.TableRow.block_at k)) k) 0) none (live_none (λ k. g.R.TableRow.spelled (block_of r (g.R.TableRow.block_at k)) k));
-      placed = subst (ArePlaced 0) none placed_none;
-      kept = subst (EachKeeps g.R.TableRow.IsKept) none (kept_none g.R.TableRow.IsKept);
-      long = let none = ap length c.in_ok-rows.ensures.none in omega arith;
-      room = let rows = c.ROWS.ensures in let room = c.in_ok-rows.ensures.has_capacity in omega arith;
-    }
+loop-i-init g c = grind (arith, only_none, none_yet, live_none, placed_none, kept_none)
 
 pub returns-clause-told : goal.returns-clause-told
 returns-clause-told g c r told =
@@ -70,9 +52,7 @@ returns-clause-told g c r told =
     subst P all (c.loop-i.invariant.told r told)
 
 pub returns-clause-placed : goal.returns-clause-placed
-returns-clause-placed g c =
-    let all : c.loop-i.i ≡ g.R.TableRow.ROWS = let past = c.loop-i-test.false in let end = c.loop-i.auto.i-end in omega arith in
-    placed_all c.loop-i.i g.R.TableRow.ROWS (live_from 0 c.loop-i.rows.items) all c.loop-i.invariant.placed
+returns-clause-placed g c = grind (arith, placed_all)
 
 pub returns-in-Err-clause-reads : goal.returns-in-Err-clause-reads
 returns-in-Err-clause-reads g c = only_then g.D.Disk c.args.disk.now c.loop-i.disk c.turn_to.new.disk c.loop-i.invariant.reads c.turn_to.ensures.reads

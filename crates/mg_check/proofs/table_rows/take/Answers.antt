@@ -1,3 +1,4 @@
+use Rattle.std.proofs.Common.{arith}
 use Rattle.std.proofs.Common.{ap, sym, ◌∙◌, Some}
 use Rattle.std.proofs.lemmas.Result.{on_ok_weaker}
 use Rattle.mg_rows.specs.Answers.{as_read}
@@ -6,10 +7,7 @@ use Rattle.mg_check.proofs.Placed.{kept_more, placed_more}
 use Rattle.mg_check.proofs.table_rows.take.Goals as goal
 
 pub returns-in-Row-clause-told : goal.returns-in-Row-clause-told
-returns-in-Row-clause-told g c =
-    on_ok_weaker c.add.result
-    (λ more read here live. live_more read c.args.i c.in-Row.row c.args.rows.now.items c.add.new.list.items live (here ∙ sym c.read-found.ensures.spelled ∙ ap as_read c.in-Some.is ∙ ap (λ f. as_read (Some f)) c.in-Row.is) more)
-    c.add.ensures.more
+returns-in-Row-clause-told g c = grind (arith, on_ok_weaker, live_more)
 
 pub returns-in-Row-clause-placed : goal.returns-in-Row-clause-placed
 returns-in-Row-clause-placed g c = on_ok_weaker c.add.result (λ more are. placed_more c.args.i c.in-Row.row c.args.rows.now.items c.add.new.list.items more are) c.add.ensures.more

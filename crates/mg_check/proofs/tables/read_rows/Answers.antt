@@ -1,12 +1,9 @@
-use Rattle.std.proofs.Common.{subst}
-use Rattle.mg_check.specs.Rules.{Decides}
+use Rattle.std.proofs.Common.{rules}
 use Rattle.mg_check.proofs.StateFits.{damaged-rows, told-rows}
 use Rattle.mg_check.proofs.tables.read_rows.Goals as goal
 
 pub returns-in-Ok-true-clause-told : goal.returns-in-Ok-true-clause-told
-returns-in-Ok-true-clause-told g c r told =
-    told-rows c.in_ok-rows.rows c.args.params.now c.in_ok-rows.ensures.params r (c.in_ok-rows.ensures.told r told) (subst (λ b. Decides b c.in_ok-rows.rows) c.in-Ok-true.field-0-test c.in-Ok-true.ensures)
+returns-in-Ok-true-clause-told g c r told = search (rules, told-rows)
 
 pub returns-in-Ok-false-clause-damaged : goal.returns-in-Ok-false-clause-damaged
-returns-in-Ok-false-clause-damaged g c is r told =
-    damaged-rows c.in_ok-rows.rows c.args.params.now c.in_ok-rows.ensures.params r (c.in_ok-rows.ensures.told r told) (subst (λ b. Decides b c.in_ok-rows.rows) c.in-Ok-false.field-0-test c.in-Ok-false.ensures)
+returns-in-Ok-false-clause-damaged g c is r told = search (rules, damaged-rows)

@@ -1,3 +1,4 @@
+use Rattle.std.proofs.Common.{rules}
 use Rattle.std.proofs.Common.{◌≡◌, ◌&&◌, length, sym, subst, ap, ◌∙◌}
 use Rattle.std.specs.List.{list_all, list_any}
 use Rattle.std.proofs.lemmas.Result.{IfOk-weaker}
@@ -10,9 +11,7 @@ use Rattle.mg_check.proofs.StateFits.{accounts-test, bad-accounts, bad-objects, 
 use Rattle.mg_check.proofs.volume_rows.VolumeRows.fit.Goals as goal
 
 pub returns-then-not-accounts_fit : goal.returns-then-not-accounts_fit
-returns-then-not-accounts_fit c =
-    let rows = c.args.self.now in
-    bad-accounts rows (accounts-test rows c.accounts_fit.result c.credits.result c.deref.result.now c.accounts_fit.ensures c.credits.ensures.value c.deref.ensures.value ∙ c.if-not-accounts_fit.true)
+returns-then-not-accounts_fit c = search (rules, bad-accounts, accounts-test)
 
 pub returns-then-not-objects_fit : goal.returns-then-not-objects_fit
 returns-then-not-objects_fit c =
