@@ -1,12 +1,13 @@
 -- Images that are no volume, and what they spell.
-use Rattle.std.specs.Prelude.{◌≡◌, ◌⊎◌, Bool, ℕ, zero, suc, ◌+◌, ◌<◌, ◌≤◌, ◌&&◌, nat_le, true, false, List, if◌then◌else◌, length, Some, None}
+use Rattle.std.proofs.Common.{rules}
+use Rattle.std.proofs.lemmas.Bool.Decides.{nat_tests}
+use Rattle.std.specs.Prelude.{◌≡◌, ◌⊎◌, Bool, ℕ, zero, suc, ◌+◌, ◌<◌, ◌≤◌, nat_le, true, false, List, if◌then◌else◌, length, Some, None}
 use Rattle.std.specs.Option.{option_map_or}
-use Rattle.std.specs.Cmp.Lexicographic.{same_text}
-use Rattle.std.proofs.Common.{refl, sym, ap, ◌∙◌, ⊎_elim, arith}
+use Rattle.std.proofs.Common.{refl, ap, ◌∙◌, arith}
 use Rattle.std.proofs.lemmas.Bool.{and_left, and_right, cases_eq, false_from_ne_true, lt-leb}
 use Rattle.mg_model.specs.Bytes.{bytes_at, number_at}
 use Rattle.mg_model.specs.Layout.{body_limit, magic, segment_count, super_block, total_blocks, version}
-use Rattle.mg_model.specs.Replay.{block_of, body_count, homes_fit, is_open, replay, segment_fits, segments_fit, writes_of, writes_since, written}
+use Rattle.mg_model.specs.Replay.{block_of, body_count, is_open, replay, segment_fits, segments_fit, writes_since, written}
 use Rattle.mg_model.specs.Settings.{Settings}
 use Rattle.mg_model.specs.Spelling.{are_settings, super_bytes, super_fields, super_read, Spells}
 use Rattle.mg_model.specs.SuperblockLemmas.{super_read-bad, super_read-old}
@@ -18,9 +19,7 @@ pub old_version : (image : List (List ℕ)) → IsOpened image → same_bytes ma
 old_version image opened begins older = volume-opened image opened ∙ ap (volume_behind image) (super_read-old (block_of image super_block) begins older)
 
 later_super : (bytes : List ℕ) → version < number_at bytes 8 → same_bytes (super_bytes (super_fields bytes)) bytes ≡ false
-later_super bytes later =
-    false_from_ne_true (same_bytes (super_bytes (super_fields bytes)) bytes)
-    (λ t. let word : version ≡ number_at bytes 8 = ap (λ (b : List ℕ). number_at b 8) (same_text (super_bytes (super_fields bytes)) bytes (sym t)) in omega arith)
+later_super bytes later = search (rules, false_from_ne_true)
 
 pub later_version : (image : List (List ℕ)) → IsOpened image → same_bytes magic (bytes_at (block_of image super_block) 0 8) ≡ true → version < number_at (block_of image super_block) 8 → volume image ≡ Damaged
 later_version image opened begins later =
@@ -30,18 +29,14 @@ later_version image opened begins later =
 
 -- an open segment with a count above its limit of bodies
 full_segment : (total : ℕ) (image : List (List ℕ)) (s : ℕ) → is_open image s ≡ true → body_limit < body_count image s → segment_fits total image s ≡ false
-full_segment total image s opened over =
-    ap (λ t. if t then (nat_le (body_count image s) body_limit && homes_fit total (writes_of image s)) else true) opened
-    ∙ and_left (nat_le (body_count image s) body_limit) (homes_fit total (writes_of image s)) (lt-leb (body_count image s) body_limit over)
+full_segment total image s opened over = grind (arith, and_left, lt-leb)
 
 unfit_among : (total : ℕ) (image : List (List ℕ)) (s from n : ℕ) → from ≤ s → s < from + n → segment_fits total image s ≡ false → segments_fit total image from n ≡ false
 unfit_among total image s from zero low high unfit = absurd (omega arith)
 unfit_among total image s from (suc n) low high unfit = step (cases_eq s from) (λ above. unfit_among total image s (from + 1) n above (omega arith) unfit)
   where
     step : (s ≡ from) ⊎ (s ≡ from → ⊥) → (from + 1 ≤ s → segments_fit total image (from + 1) n ≡ false) → segments_fit total image from (suc n) ≡ false
-    step here_or_not later =
-        ⊎_elim (λ is. and_left (segment_fits total image from) (segments_fit total image (from + 1) n) (ap (segment_fits total image) (sym is) ∙ unfit))
-        (λ other. and_right (segment_fits total image from) (segments_fit total image (from + 1) n) (later (omega arith))) here_or_not
+    step here_or_not later = grind (arith, nat_tests, and_left, and_right)
 
 pub overfull : (image : List (List ℕ)) (settings : Settings) (s : ℕ) → IsOpened image → super_read (block_of image super_block) ≡ Spells settings → s < segment_count → is_open image s ≡ true → body_limit < body_count image s
     → volume image ≡ Damaged

@@ -1,11 +1,10 @@
 -- The steps of making a volume, from the gate closed to the gate open.
-use Rattle.std.specs.Prelude.{◌≡◌, ◌≢◌, ℕ, ◌+◌, ◌<◌, ◌≤◌, IsTrue, List, [], ◌∷◌, drop, if◌then◌else◌, Bool, length, option_map, replicate, slice_index, slice_set, Option, Some, None}
-use Rattle.std.proofs.Common.{refl, inl, inr, sym, ap, subst, ◌∙◌, ⊎_elim, arith}
-use Rattle.std.proofs.lemmas.Bool.{cases_eq, cases_lt}
+use Rattle.std.specs.Prelude.{◌≡◌, ◌≢◌, ℕ, ◌+◌, ◌≤◌, IsTrue, List, [], ◌∷◌, drop, length, option_map, replicate, slice_set, Option, Some, None}
+use Rattle.std.proofs.Common.{refl, sym, ap, subst, ◌∙◌, arith}
 use Rattle.std.proofs.lemmas.Bool.Decides.{nat_tests}
 use Rattle.std.proofs.lemmas.List.{get_or-set_other, get_or-set_same, length-set}
 use Rattle.mg_disk.specs.Disk.{Image, SameBut, only_place}
-use Rattle.mg_disk.specs.Runs.{leaves_then, leaves_wider}
+use Rattle.mg_disk.specs.Runs.{leaves_wider}
 use Rattle.mg_disk.specs.Stops.{Leaves}
 use Rattle.mg_disk.specs.declared.disk.Disk.{Ghosts}
 use Rattle.mg_model.specs.Fresh.{fresh}
@@ -37,30 +36,12 @@ pub opened_is : (image : Image) → 1 ≤ length image → block_of (opened imag
 opened_is image some = get_or-set_same image gate_block (gate_open ∷ drop 1 (block_of image gate_block)) [] (omega arith)
 
 pub close_may : (settings : Settings) (image c : Image) → SameBut (only_place gate_block) image c → MayFormat image settings c
-close_may settings image c same = ⊎_elim opens closed (cases_eq (gate_byte c) gate_open)
-  where
-    closed : (gate_byte c ≡ gate_open → ⊥) → MayFormat image settings c
-    closed not = inl (not_volume c (volume-closed c not))
-
-    opens : gate_byte c ≡ gate_open → MayFormat image settings c
-    opens gate = ⊎_elim short long (cases_lt (length c) 2)
-      where
-        short : length c < 2 → MayFormat image settings c
-        short s = inl (not_volume c (volume-short c s))
-
-        long : 2 ≤ length c → MayFormat image settings c
-        long l =
-            let count = same.count in
-            let count_opened = length-set image gate_block (gate_open ∷ drop 1 (block_of image gate_block)) in
-            inr (inl (volume-same_behind c (opened image) (record { long = l; gate = gate })
-            (record { long = omega arith; gate = ap (λ (block : List ℕ). slice_index block 0) (opened_is image (omega arith)) })
-            (same.count ∙ sym count_opened)
-            (λ k low. same.others k (λ e. omega arith) ∙ sym (get_or-set_other image gate_block k (gate_open ∷ drop 1 (block_of image gate_block)) [] (λ e. omega arith)))))
+close_may settings image c same =
+    grind (arith, nat_tests, not_volume, volume-closed, volume-short, length-set, volume-same_behind, opened_is, get_or-set_other)
 
 -- The blocks after it are written: the image is no volume while the gate stays closed.
 pub behind_may : (s c : Image) → gate_byte s ≢ gate_open → SameBut (λ i. 1 ≤ i) s c → IsNoState (volume c)
-behind_may s c closed same =
-    not_volume c (volume-closed c (λ e. closed (ap (λ (block : List ℕ). slice_index block 0) (sym (same.others gate_block (λ low. omega arith))) ∙ e)))
+behind_may s c closed same = grind (arith, not_volume, volume-closed)
 
 -- the image with the gate closed, and then with every block after it
 abbrev pub with_closed : Image → Image
@@ -70,9 +51,7 @@ abbrev pub with_rest : Settings → Image → Image
 with_rest settings image = fresh_until settings (first_frame settings.frames) (with_closed image)
 
 pub closed_gate : (image : Image) → 1 ≤ length image → gate_byte (with_closed image) ≢ gate_open
-closed_gate image some e =
-    let zero : gate_byte (with_closed image) ≡ 0 = ap (λ (block : List ℕ). slice_index block 0) (get_or-set_same image gate_block (replicate 4096 0) [] (omega arith)) in
-    omega arith
+closed_gate image some e = grind (arith, get_or-set_same)
 
 length-with_rest : (settings : Settings) (image : Image) → length (with_rest settings image) ≡ length image
 length-with_rest settings image = length-until settings (first_frame settings.frames) (with_closed image) ∙ length-set image gate_block (replicate 4096 0)
@@ -94,24 +73,10 @@ module _ (settings : Settings) (keeps : IsSettings settings) (image : Image) (ro
   }
 
   pub open_may : (c : Image) → SameBut (only_place gate_block) (with_rest settings image) c → MayFormat image settings c
-  open_may c same = ⊎_elim opens closed (cases_eq (gate_byte c) gate_open)
-    where
-      closed : (gate_byte c ≡ gate_open → ⊥) → MayFormat image settings c
-      closed not = inl (not_volume c (volume-closed c not))
-
-      opens : gate_byte c ≡ gate_open → MayFormat image settings c
-      opens gate = inr (inr (fresh_volume settings c keeps (is_fresh c same gate)))
+  open_may c same = grind (arith, nat_tests, not_volume, volume-closed, fresh_volume, is_fresh)
 
   pub made_fresh : (c : Image) → c ≡ slice_set (with_rest settings image) gate_block gate_bytes → volume c ≡ Is (fresh settings)
-  made_fresh c is =
-      let P : Image → Type 0 = λ c. volume c ≡ Is (fresh settings) in
-      let count = length-set (with_rest settings image) gate_block gate_bytes in
-      let long = length-with_rest settings image in
-      subst P (sym is)
-      (fresh_volume settings (slice_set (with_rest settings image) gate_block gate_bytes) keeps
-      (is_fresh (slice_set (with_rest settings image) gate_block gate_bytes)
-      (record { count = count; others = λ k out. get_or-set_other (with_rest settings image) gate_block k gate_bytes [] out })
-      (ap (λ (block : List ℕ). slice_index block 0) (get_or-set_same (with_rest settings image) gate_block gate_bytes [] (omega arith)))))
+  made_fresh c is = grind (arith, length-set, length-with_rest, fresh_volume, is_fresh, get_or-set_other, get_or-set_same)
 
 -- what reads give at the end, from what they gave at first
 pub all_made : (settings : Settings) → IsSettings settings → (first closed behind last : Option Image) (gate : List ℕ) → gate ≡ gate_bytes
@@ -138,10 +103,8 @@ module _ {D : Type 0} (facts : Ghosts D) (settings : Settings) (image : Image) w
   first_phase old new leaves = leaves_wider facts old new (SameBut (only_place gate_block) image) (MayFormat image settings) leaves (λ c same. close_may settings image c same)
 
   pub second_phase : (old mid new : D) → 1 ≤ length image → Leaves facts old mid (MayFormat image settings) → Leaves facts mid new (SameBut (λ i. 1 ≤ i) (with_closed image)) → Leaves facts old new (MayFormat image settings)
-  second_phase old mid new some a b =
-      leaves_then facts old mid new (SameBut (λ i. 1 ≤ i) (with_closed image)) (MayFormat image settings) a b (λ c same. inl (behind_may (with_closed image) c (closed_gate image some) same))
+  second_phase old mid new some a b = grind (arith, behind_may, closed_gate)
 
   pub third_phase : IsSettings settings → (old mid new : D) → total_blocks settings.frames ≤ length image → Leaves facts old mid (MayFormat image settings) → Leaves facts mid new (SameBut (only_place gate_block) (with_rest settings image))
       → Leaves facts old new (MayFormat image settings)
-  third_phase keeps old mid new room a b =
-      leaves_then facts old mid new (SameBut (only_place gate_block) (with_rest settings image)) (MayFormat image settings) a b (λ c same. open_may settings keeps image room c same)
+  third_phase keeps old mid new room a b = grind (arith, open_may)

@@ -40,21 +40,10 @@ module _ (settings : Settings) (state : State) where
   -- a block after the first of the frame table
   behind_table : (i : ℕ) → table_block ≢ i → table_block ≤ i → block_bytes settings state i ≡ (if i == first_frame settings.frames then frame_bytes state else replicate 4096 0)
   unfolding block_bytes
-  behind_table i other behind =
-      let a = ne_eqb i gate_block (λ e. omega arith) in
-      let b = ne_eqb i super_block (λ e. omega arith) in
-      let c = ne_eqb i globals_block (λ e. omega arith) in
-      let d = ne_eqb i first_account_block (λ e. omega arith) in
-      let f = ne_eqb i first_thread_block (λ e. omega arith) in
-      let g = ne_eqb i first_object_block (λ e. omega arith) in
-      let h = ne_eqb i table_block (λ e. omega arith) in
-      rw (a, b, c, d, f, g, h)
+  behind_table i other behind = grind (arith, ne_eqb)
 
   pub at_frame : 1 ≤ settings.frames → block_bytes settings state (first_frame settings.frames) ≡ frame_bytes state
-  at_frame some =
-      let e = eq-eqb (first_frame settings.frames) (first_frame settings.frames) refl in
-      let P = behind_table (first_frame settings.frames) (λ e. omega arith) (omega arith) in
-      rw e at P
+  at_frame some = grind (arith, eq-eqb, behind_table)
 
   -- any other block
   pub record IsOther (i : ℕ) : Type 0 where

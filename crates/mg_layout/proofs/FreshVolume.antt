@@ -1,5 +1,6 @@
 -- A fresh image has the fresh state as its volume.
-use Rattle.std.specs.Prelude.{◌≡◌, ℕ, zero, suc, ◌+◌, ◌-◌, ◌*◌, ◌/◌, ◌%◌, ◌^◌, ◌<◌, ◌≤◌, ◌==◌, ◌&&◌, ◌||◌, nat_le, nat_lt, true, false, cond, not, IsTrue, All, List, [], ◌∷◌, ◌++◌, drop, filter, if◌then◌else◌, length, position, replicate, slice_index, take, Some, None}
+use Rattle.std.proofs.Common.{rules}
+use Rattle.std.specs.Prelude.{◌≡◌, ℕ, zero, suc, ◌+◌, ◌-◌, ◌*◌, ◌/◌, ◌%◌, ◌^◌, ◌<◌, ◌≤◌, ◌==◌, true, false, cond, not, IsTrue, All, List, [], ◌∷◌, ◌++◌, drop, filter, length, position, replicate, take, Some, None}
 use Rattle.std.specs.Option.{option_map_or}
 use Rattle.std.proofs.Common.{refl, sym, ap, ◌∙◌, ⊎_elim, arith, add-zero, zero-add}
 use Rattle.std.proofs.lemmas.Bool.{and_from, cases_lt, eq-eqb, le-leb, lt-ltb, or_left, or_right}
@@ -14,31 +15,26 @@ use Rattle.mg_model.specs.BytesLemmas.{length-words_bytes, padded_to-full}
 use Rattle.mg_model.specs.Draw.{password_drawn}
 use Rattle.mg_model.specs.DrawnLemmas.{drawn-IsWord}
 use Rattle.mg_model.specs.Fresh.{first_thread, fresh, root_base, root_object, root_words}
-use Rattle.mg_model.specs.Layout.{first_account_block, first_frame, first_object_block, first_thread_block, gate_open, globals_block, segment_count, segment_gate, super_block, table_block, table_blocks}
+use Rattle.mg_model.specs.Layout.{first_account_block, first_frame, first_object_block, first_thread_block, globals_block, segment_count, segment_gate, super_block, table_block, table_blocks}
 use Rattle.mg_model.specs.Limits.{first_page, account_limit, thread_limit, object_limit}
 use Rattle.mg_model.specs.Ranges.{IsWord}
 use Rattle.mg_model.specs.Replay.{block_of, is_open}
 use Rattle.mg_model.specs.RowLemmas.{account-live, account_fields-written, are_zeros-drop, are_zeros-replicate, block_words-words, globals-read, live_rows-first, object-live, read-free, table_entries-zeros, thread-live, words_bytes-zeros, zeros-behind, zeros-in}
 use Rattle.mg_model.specs.Settings.{Settings}
-use Rattle.mg_model.specs.Spelling.{account_bytes, account_fields, account_read, globals_bytes, globals_fields, globals_read, object_bytes, object_fields, object_read, super_read, Spells, thread_bytes, thread_fields, thread_read}
+use Rattle.mg_model.specs.Spelling.{account_bytes, account_fields, account_read, globals_bytes, globals_fields, globals_read, object_bytes, object_read, super_read, Spells, thread_bytes, thread_fields, thread_read}
 use Rattle.mg_model.specs.SuperblockLemmas.{super_read-written}
-use Rattle.mg_model.specs.Volume.{Damaged, Is, fitting, live_rows, page_words, replayed_volume, rows_of, state_fits, state_spelled, table_entries, volume, volume_behind, whole_table}
+use Rattle.mg_model.specs.Volume.{Is, live_rows, page_words, replayed_volume, rows_of, state_fits, state_spelled, table_entries, volume, whole_table}
 use Rattle.mg_model.specs.VolumeLemmas.{rows-read, rows_with, settled-closed, state_with, volume-opened}
 use Rattle.mg_model.specs.WellFormed.{IsSettings}
 use Rattle.mg_layout.proofs.FreshBlocks.{IsOther, at_accounts, at_frame, at_globals, at_objects, at_other, at_super, at_table, at_threads}
-use Rattle.mg_layout.specs.FreshImage.{IsFreshImage, accounts_bytes, frame_bytes, fresh_bytes, is_written, objects_bytes, table_bytes}
+use Rattle.mg_layout.specs.FreshImage.{IsFreshImage, frame_bytes, fresh_bytes, is_written, table_bytes}
 
 -- blocks that are written
 pub written-gate : (frames s : ℕ) → s < segment_count → IsTrue (is_written frames (segment_gate s))
-written-gate frames s few =
-    let gate = segment_gate s in
-    let part : gate % 162 ≡ 2 = omega arith in
-    or_left (nat_le gate 1 || (gate % 162 == 2 && nat_lt gate 1298)) (nat_le 1298 gate && nat_le gate (first_frame frames))
-    (or_right (nat_le gate 1) (gate % 162 == 2 && nat_lt gate 1298) (and_from (gate % 162 == 2) (nat_lt gate 1298) (eq-eqb (gate % 162) 2 part) (lt-ltb gate 1298 (omega arith))))
+written-gate frames s few = grind (arith, or_left, or_right, and_from, eq-eqb, lt-ltb)
 
 pub written-rows : (frames i : ℕ) → globals_block ≤ i → i ≤ first_frame frames → IsTrue (is_written frames i)
-written-rows frames i low high =
-    or_right (nat_le i 1 || (i % 162 == 2 && nat_lt i 1298)) (nat_le 1298 i && nat_le i (first_frame frames)) (and_from (nat_le 1298 i) (nat_le i (first_frame frames)) (le-leb 1298 i low) (le-leb i (first_frame frames) high))
+written-rows frames i low high = grind (arith, or_right, and_from, le-leb)
 
 free_frames : (k : ℕ) → filter (λ page. not (page == 0)) (replicate k 0) ≡ []
 free_frames zero = refl
@@ -57,18 +53,7 @@ module _ (settings : Settings) (image : List (List ℕ)) (keeps : IsSettings set
 
   -- the segments are closed
   closed : (s : ℕ) → s < segment_count → is_open image s ≡ false
-  closed s few =
-      let other : IsOther settings (fresh settings) (segment_gate s) = record {
-        gate = λ e. omega arith;
-        super = λ e. omega arith;
-        globals = λ e. omega arith;
-        accounts = λ e. omega arith;
-        threads = λ e. omega arith;
-        objects = λ e. omega arith;
-        table = λ e. omega arith;
-        frame = λ e. omega arith;
-      } in
-      ap (λ (block : List ℕ). slice_index block 0 == gate_open) (is.blocks (segment_gate s) (omega arith) (written-gate settings.frames s few) ∙ at_other settings (fresh settings) (segment_gate s) other)
+  closed s few = grind (arith, IsOther, written-gate, at_other)
 
   -- the rows
   counters_read : globals_read (block_of image globals_block) ≡ Some (fresh settings).counters
@@ -81,10 +66,7 @@ module _ (settings : Settings) (image : List (List ℕ)) (keeps : IsSettings set
 
   -- account n is at row n - 1; of row 0 on, 64 rows a block
   accounts_block : block_of image first_account_block ≡ account_bytes treasury ++ replicate 4032 0
-  accounts_block = row_block first_account_block (omega arith) (omega arith) ∙ at_accounts settings (fresh settings) ∙ accounts_are
-    where
-      accounts_are : accounts_bytes (fresh settings) ≡ account_bytes treasury ++ replicate 4032 0
-      accounts_are = refl
+  accounts_block = grind (arith, row_block, at_accounts)
 
   accounts_read : live_rows (λ i. account_read (account_row_bytes image i)) 0 account_limit ≡ Some ((0, treasury) ∷ [])
   accounts_read = live_rows-first (λ i. account_read (account_row_bytes image i)) account_limit 1023 treasury refl first rest
@@ -136,25 +118,11 @@ module _ (settings : Settings) (image : List (List ℕ)) (keeps : IsSettings set
           (sym bytes)
 
       rest : (j : ℕ) → 1 ≤ j → j < thread_limit → thread_read (thread_row_bytes image j) ≡ Some None
-      rest j low high =
-          read-free (thread_row_bytes image j) _
-          (ap are_zeros (zero_block (first_thread_block + j) (omega arith) (omega arith) (record {
-            gate = λ e. omega arith;
-            super = λ e. omega arith;
-            globals = λ e. omega arith;
-            accounts = λ e. omega arith;
-            threads = λ e. omega arith;
-            objects = λ e. omega arith;
-            table = λ e. omega arith;
-            frame = λ e. omega arith;
-          })) ∙ are_zeros-replicate 4096)
+      rest j low high = grind (arith, read-free, zero_block, are_zeros-replicate)
 
   -- the root object, four rows a block
   objects_block : block_of image first_object_block ≡ object_bytes (root_object (password_drawn settings.seed 0)).row ++ replicate 3072 0
-  objects_block = row_block first_object_block (omega arith) (omega arith) ∙ at_objects settings (fresh settings) ∙ objects_are
-    where
-      objects_are : objects_bytes (fresh settings) ≡ object_bytes (root_object (password_drawn settings.seed 0)).row ++ replicate 3072 0
-      objects_are = refl
+  objects_block = grind (arith, row_block, at_objects)
 
   objects_read : live_rows (λ i. object_read (object_row_bytes image i)) 0 object_limit ≡ Some ((0, (root_object (password_drawn settings.seed 0)).row) ∷ [])
   objects_read = live_rows-first (λ i. object_read (object_row_bytes image i)) object_limit 4095 (root_object (password_drawn settings.seed 0)).row refl first rest
@@ -163,11 +131,7 @@ module _ (settings : Settings) (image : List (List ℕ)) (keeps : IsSettings set
       bytes = ap (take 1024) objects_block
 
       first : object_read (object_row_bytes image 0) ≡ Some (Some (root_object (password_drawn settings.seed 0)).row)
-      first =
-          object-live (object_row_bytes image 0) (root_object (password_drawn settings.seed 0)).row (ap are_zeros bytes)
-          (ap object_fields bytes ∙ ap (λ p. (root_object p).row) (from_le_bytes-to_le_bytes_8 (password_drawn settings.seed 0) (drawn-IsWord settings.seed 0)))
-          refl
-          (sym bytes)
+      first = search (rules, object-live, bytes, from_le_bytes-to_le_bytes_8, drawn-IsWord)
 
       rest : (j : ℕ) → 1 ≤ j → j < object_limit → object_read (object_row_bytes image j) ≡ Some None
       rest j low high = read-free (object_row_bytes image j) _ (⊎_elim near far (cases_lt j 4))
@@ -227,12 +191,7 @@ module _ (settings : Settings) (image : List (List ℕ)) (keeps : IsSettings set
       ap (λ c. take c (first_page ∷ replicate n 0)) count ∙ ap (λ rest. first_page ∷ rest) (take-replicate k n 0 (omega arith))
 
   table_rest_zeros : are_zeros (drop settings.frames (first_page ∷ replicate (511 + 512 * (table_blocks settings.frames - 1)) 0)) ≡ true
-  table_rest_zeros =
-      let some = few_frames.0 in
-      let k = settings.frames - 1 in
-      let n = 511 + 512 * (table_blocks settings.frames - 1) in
-      let count : settings.frames ≡ suc k = omega arith in
-      ap (λ c. are_zeros (drop c (first_page ∷ replicate n 0))) count ∙ are_zeros-drop k (replicate n 0) (are_zeros-replicate n)
+  table_rest_zeros = grind (arith, few_frames, are_zeros-drop, are_zeros-replicate)
 
   -- the root's words
   root_frame : block_words (block_of image (first_frame settings.frames)) ≡ root_words (password_drawn settings.seed 0)
@@ -274,34 +233,17 @@ module _ (settings : Settings) (image : List (List ℕ)) (keeps : IsSettings set
 
   state_is : state_spelled image settings (rows_with (fresh settings).counters ((0, treasury) ∷ []) ((0, (first_thread (password_drawn settings.seed 0)).row) ∷ []) ((0, (root_object (password_drawn settings.seed 0)).row) ∷ []) (first_page ∷ replicate (settings.frames - 1) 0))
       ≡ fresh settings
-  state_is =
-      ap (λ words. state_with settings (rows_with (fresh settings).counters ((0, treasury) ∷ []) ((0, (first_thread (password_drawn settings.seed 0)).row) ∷ []) ((0, (root_object (password_drawn settings.seed 0)).row) ∷ []) (first_page ∷ replicate (settings.frames - 1) 0))
-      (record { row = (root_object (password_drawn settings.seed 0)).row; words = words } ∷ []))
-      (append-nil (page_words image settings.frames (first_page ∷ replicate (settings.frames - 1) 0) first_page) ∙ root_page_words)
+  state_is = grind (arith, state_with, rows_with, append-nil, root_page_words)
 
   state_fits_rows : state_fits (rows_with (fresh settings).counters ((0, treasury) ∷ []) ((0, (first_thread (password_drawn settings.seed 0)).row) ∷ []) ((0, (root_object (password_drawn settings.seed 0)).row) ∷ []) (first_page ∷ replicate (settings.frames - 1) 0)) (fresh settings)
       ≡ true
-  state_fits_rows =
-      let some = few_frames.0 in
-      let sum : (0 + settings.credits == settings.credits) ≡ true = eq-eqb (0 + settings.credits) settings.credits (zero-add settings.credits) in
-      let room : nat_le 1 settings.frames ≡ true = le-leb 1 settings.frames (omega arith) in
-      let free = free_frames (settings.frames - 1) in
-      rw (sum, room, free)
+  state_fits_rows = grind (arith, few_frames, eq-eqb, zero-add, le-leb, free_frames)
 
   replayed_is : replayed_volume settings image ≡ Is (fresh settings)
-  replayed_is =
-      let rows = rows_with (fresh settings).counters ((0, treasury) ∷ []) ((0, (first_thread (password_drawn settings.seed 0)).row) ∷ []) ((0, (root_object (password_drawn settings.seed 0)).row) ∷ []) (first_page ∷ replicate (settings.frames - 1) 0) in
-      ap (λ r. option_map_or (λ rows. fitting rows (state_spelled image settings rows)) r Damaged) rows_are
-      ∙ ap (fitting rows) state_is
-      ∙ ap (λ t. if t then Is (fresh settings) else Damaged) state_fits_rows
+  replayed_is = grind (arith, rows_with, rows_are, state_is, state_fits_rows)
 
   super_is : super_read (block_of image super_block) ≡ Spells settings
   super_is = ap super_read (is.blocks super_block (omega arith) refl ∙ at_super settings (fresh settings)) ∙ super_read-written settings keeps
 
   pub fresh_volume : volume image ≡ Is (fresh settings)
-  fresh_volume =
-      let long = is.long in
-      volume-opened image (record { long = omega arith; gate = is.opened })
-      ∙ ap (volume_behind image) super_is
-      ∙ settled-closed settings image is.long closed
-      ∙ replayed_is
+  fresh_volume = grind (arith, volume-opened, super_is, settled-closed, closed, replayed_is)

@@ -1,3 +1,4 @@
+use Rattle.std.proofs.lemmas.Bool.Decides.{nat_tests}
 use Rattle.std.proofs.Common.{◌≡◌, ◌≤◌, ℕ, List, true, false, Some, None, if◌then◌else◌, sym, ap, subst, ◌∙◌, ⊎_elim, arith}
 use Rattle.std.proofs.lemmas.Bool.{and_left, and_right, cases_Bool, not-true, not-false}
 use Rattle.mg_model.specs.Bytes.{bytes_at, number_at}
@@ -16,13 +17,7 @@ record IsRecent (bytes : List ℕ) : Type 0 where
 
 module _ (bytes : List ℕ) (is : IsRecent bytes) where
   none : None ≡ (if are_settings (super_fields bytes) then Some (super_fields bytes) else None) → super_read bytes ≡ BadSuper
-  none read = ⊎_elim kept broken (cases_Bool (are_settings (super_fields bytes)))
-    where
-      kept : are_settings (super_fields bytes) ≡ true → super_read bytes ≡ BadSuper
-      kept t = let e : None ≡ Some (super_fields bytes) = read ∙ ap (λ b. if b then Some (super_fields bytes) else None) t in (cc)
-
-      broken : are_settings (super_fields bytes) ≡ false → super_read bytes ≡ BadSuper
-      broken f = super_read-bad bytes is.begins is.recent (and_left (are_settings (super_fields bytes)) (same_bytes (super_bytes (super_fields bytes)) bytes) f)
+  none read = grind (arith, nat_tests, super_read-bad, and_left)
 
   module _ (p : Settings) (read : Some p ≡ (if are_settings (super_fields bytes) then Some (super_fields bytes) else None)) where
     record AreFields : Type 0 where

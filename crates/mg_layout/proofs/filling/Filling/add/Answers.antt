@@ -26,8 +26,4 @@ filled-more size items bytes count is room =
     }
 
 pub invariant_of-self : goal.invariant_of-self
-invariant_of-self g c =
-    let few = c.requires in
-    let view = c.self.view_is in
-    let short = length-filled 0 g.row.N c.self.inside.bytes c.self.inside.count c.self.invariant in
-    rw (c.put_part.ensures) (filled-more g.row.N c.self.inside.bytes c.args.bytes.now c.self.inside.count c.self.invariant (Prim.grind arith))
+invariant_of-self g c = grind (arith, length-filled, filled-more)

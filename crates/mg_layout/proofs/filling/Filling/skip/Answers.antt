@@ -1,3 +1,4 @@
+use Rattle.std.proofs.Common.{rules}
 use Rattle.std.proofs.Common.{◌≡◌, ◌≤◌, ◌+◌, ◌-◌, ◌++◌, ℕ, List, drop, take, length, replicate, sym, ap, ◌∙◌, arith}
 use Rattle.std.proofs.lemmas.List.{drop-drop, drop-replicate, take-replicate}
 use Rattle.std.proofs.Math.Seq.{take-append-add}
@@ -27,22 +28,10 @@ module _ (size : ℕ) (items : List ℕ) (count n : ℕ) (is : IsFilled 0 size i
       }
 
 pub invariant_of-self : goal.invariant_of-self
-invariant_of-self g c =
-    let few = c.requires in
-    let view = c.self.view_is in
-    filled g.row.N c.self.inside.bytes c.self.inside.count c.args.count c.self.invariant (Prim.grind arith)
+invariant_of-self g c = search (rules, filled)
 
 pub returns-clause-value : goal.returns-clause-value
-returns-clause-value g c =
-    let few = c.requires in
-    let view = c.self.view_is in
-    more g.row.N c.self.inside.bytes c.self.inside.count c.args.count c.self.invariant (Prim.grind arith) ∙ ap (λ v. v ++ replicate c.args.count 0) view
+returns-clause-value g c = grind (arith, more)
 
 pub returns-clause-long : goal.returns-clause-long
-returns-clause-long g c =
-    let few = c.requires in
-    let view = c.self.view_is in
-    let short = length-filled 0 g.row.N c.self.inside.bytes c.self.inside.count c.self.invariant in
-    let is = filled g.row.N c.self.inside.bytes c.self.inside.count c.args.count c.self.invariant (Prim.grind arith) in
-    let short_2 = length-filled 0 g.row.N c.self.inside.bytes (c.self.inside.count + c.args.count) is in
-    Prim.grind arith
+returns-clause-long g c = search (rules, length-filled, filled)
