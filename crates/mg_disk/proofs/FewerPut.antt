@@ -10,9 +10,7 @@ use Rattle.mg_disk.specs.declared.disk.Disk.{Ghosts}
 
 -- how many of some calls pass
 pub all_pass : (left calls passing : ℕ) → passing ≡ min left calls → calls ≤ left → calls ≤ passing
-all_pass left calls passing is enough =
-    let low : calls ≤ min left calls = le-min enough (omega arith) in
-    omega arith
+all_pass left calls passing is enough = grind (arith, le-min)
 
 pub few_pass : (left calls passing : ℕ) → passing ≡ min left calls → left < calls → passing ≡ left
 few_pass left calls passing is few = is ∙ min-eq_left (omega arith)
@@ -30,9 +28,7 @@ module _ (n : ℕ) (before part out : Image) (few : n ≤ length before) (long :
 
 module _ (first n : ℕ) (blocks : Image) where
   among : (k : ℕ) → InRange first (length (take n blocks)) k → InRange first (length blocks) k
-  among k at =
-      let few : length (take n blocks) ≤ length blocks = omega (arith, length-take n blocks, min-le_right n (length blocks)) in
-      record { from = at.from; before = let before = at.before in omega arith }
+  among k at = grind (arith, length-take, min-le_right)
 
   wider : (a b : Image) → SameBut (InRange first (length (take n blocks))) a b → SameBut (InRange first (length blocks)) a b
   wider a b same = record { count = same.count; others = λ k out. same.others k (λ at. out (among k at)) }

@@ -1,5 +1,6 @@
 -- A run of calls of a `MemDisk`, call by call.
-use Rattle.std.specs.Prelude.{◌≡◌, ◌+◌, ◌<◌, ◌≤◌, ℕ, [], Contains, Ok, Err, IsErr, Some, length, slice_set, true}
+use Rattle.std.proofs.lemmas.Bool.Decides.{nat_tests}
+use Rattle.std.specs.Prelude.{◌≡◌, ◌+◌, ◌<◌, ◌≤◌, ℕ, Contains, Ok, Err, IsErr, Some, length, slice_set, true}
 use Rattle.std.specs.Vec.{vec_len}
 use Rattle.std.proofs.Common.{ap, arith, inl, inr, refl, subst, sym, ◌∙◌, ⊎_elim}
 use Rattle.std.proofs.lemmas.Bool.{cases_lt}
@@ -17,14 +18,10 @@ use Rattle.mg_disk.specs.declared.memory.MemDisk.{MemDisk}
 
 -- one call of a kind more
 pub one_more_read : (a b : Counts) (n : ℕ) → b ≡ more_reads a n → one_read b ≡ more_reads a (n + 1)
-one_more_read a b n is =
-    let next : a.reads + n + 1 ≡ a.reads + (n + 1) = omega arith in
-    ap one_read is ∙ ap (λ (r : ℕ). record a { reads = r }) next
+one_more_read a b n is = grind (arith)
 
 pub one_more_write : (a b : Counts) (n : ℕ) → b ≡ more_writes a n → one_write b ≡ more_writes a (n + 1)
-one_more_write a b n is =
-    let next : a.writes + n + 1 ≡ a.writes + (n + 1) = omega arith in
-    ap one_write is ∙ ap (λ (w : ℕ). record a { writes = w }) next
+one_more_write a b n is = grind (arith)
 
 -- what a `MemDisk` shows, as the trait's members
 abbrev pub told_by : Ghosts MemDisk
@@ -119,14 +116,4 @@ module _ (old mid new : MemDisk) (first k : ℕ) (from : Image) (so_far : ArePut
 
   pub cut_at : {T E : Type 0} (one : Counts) (e : E) → first + k < length (content_of mid) → Numbered {T = T} {E = E} mid new one (Err e)
       → (calls_made mid < room_of mid → content_of new ≡ slice_set (content_of mid) (first + k) gates_block) → IsCutAt old new first from k
-  cut_at one e inside call gates = cut_by at_k at_gates past
-    where
-      past : room_of mid ≤ calls_made mid → content_of new ≡ content_of mid
-      past out = ap (λ (disk : MemDisk). content_of disk) (call.past out)
-
-      at_gates : calls_made mid < room_of mid → block_at (content_of new) (first + k) ≡ gates_block
-      at_gates room = ap (λ image. block_at image (first + k)) (gates room) ∙ get_or-set_same (content_of mid) (first + k) gates_block [] inside
-
-      at_k : SameBut (only_place (first + k)) (content_of mid) (content_of new)
-      at_k = ⊎_elim (λ room. subst (SameBut (only_place (first + k)) (content_of mid)) (sym (gates room)) (same_set (content_of mid) (first + k) gates_block))
-          (λ out. same_as (only_place (first + k)) (content_of mid) (content_of new) (past out)) (cases_lt (calls_made mid) (room_of mid))
+  cut_at one e inside call gates = grind (arith, nat_tests, cut_by, get_or-set_same, same_set, same_as)

@@ -1,14 +1,15 @@
 -- One call more of a run of calls, one block for each call.
+use Rattle.std.proofs.lemmas.Bool.Decides.{nat_tests}
 use Rattle.std.specs.Prelude.{◌≡◌, ◌+◌, ◌<◌, ◌≤◌, ℕ, zero, suc, List, [], ◌∷◌, get_or, length, option_map, slice_set, Option, Some, None, Ok, Err}
 use Rattle.std.specs.Option.{ForSome}
-use Rattle.std.proofs.Common.{ap, arith, refl, subst, sym, ◌∙◌, ⊎_elim}
+use Rattle.std.proofs.Common.{arith, refl, subst, sym, ◌∙◌, ⊎_elim}
 use Rattle.std.proofs.lemmas.Bool.{cases_lt}
 use Rattle.std.proofs.lemmas.List.{get_or-set_other, get_or-set_same, length-set}
 use Rattle.mg_disk.proofs.BlockByBlock.{ArePutSoFar, AreReadSoFar}
 use Rattle.mg_disk.specs.Calls.{IsRead, IsReadRun, IsWrite, IsWriteRun}
 use Rattle.mg_disk.specs.Disk.{Image, InRange, SeenBut, TornAt, block_at, no_image, only_place}
 use Rattle.mg_disk.specs.PlaceLemmas.{HasFirst, same_after, same_set}
-use Rattle.mg_disk.specs.Runs.{time_then, time_wider}
+use Rattle.mg_disk.specs.Runs.{time_then}
 use Rattle.mg_disk.specs.Stops.{TimeGoes}
 use Rattle.mg_disk.specs.declared.disk.Disk.{Ghosts}
 use Rattle.mg_faults.specs.Faults.{count_then, then_rose}
@@ -31,17 +32,7 @@ some_inj x y is = cc
 
 module _ (first n i : ℕ) (from : Image) (block : List ℕ) (at : i ≡ first + n) (is_it : block ≡ block_at from n) where
   set_has : (y : Image) → i < length y → HasFirst first from n y → HasFirst first from (n + 1) (slice_set y i block)
-  set_has y long so_far k low = ⊎_elim before here (cases_lt k n)
-    where
-      before : k < n → block_at (slice_set y i block) (first + k) ≡ block_at from k
-      before less = get_or-set_other y i (first + k) block [] (λ e. omega arith) ∙ so_far k less
-
-      here : n ≤ k → block_at (slice_set y i block) (first + k) ≡ block_at from k
-      here more =
-          let last : n ≡ k = omega arith in
-          let Q : ℕ → Type 0 = λ j. block_at (slice_set y i block) j ≡ block_at from n in
-          let P : ℕ → Type 0 = λ j. block_at (slice_set y i block) (first + j) ≡ block_at from j in
-          subst P last (subst Q at (get_or-set_same y i block [] long ∙ is_it))
+  set_has y long so_far k low = grind (arith, nat_tests, get_or-set_other, get_or-set_same)
 
   put_seen : (a b : Option Image) → ForSome a (λ image. i < length image) → ForSome a (HasFirst first from n) → b ≡ option_map (λ image. slice_set image i block) a → ForSome b (HasFirst first from (n + 1))
   put_seen (Some y) b long so_far put z told = subst (HasFirst first from (n + 1)) (some_inj (slice_set y i block) z (sym put ∙ told)) (set_has y (long y refl) (so_far y refl))
@@ -62,11 +53,7 @@ module _ {D : Type 0} (facts : Ghosts D) (first n : ℕ) (old mid new : D) where
     }
       where
         here : (image : Image) → facts.seen old ≡ Some image → (k : ℕ) → k < n + 1 → n ≤ k → block_at image (first + k) ≡ block_at (slice_set out n block) k
-        here image told k low more =
-            let last : n ≡ k = omega arith in
-            let P : ℕ → Type 0 = λ j. block_at image (first + j) ≡ block_at (slice_set out n block) j in
-            let long = so_far.length_is in
-            subst P last (ap (block_at image) (sym at) ∙ sym (call.block image (so_far.seen ∙ told)) ∙ sym (get_or-set_same out n block [] (omega arith)))
+        here image told k low more = grind (arith, get_or-set_same)
 
     pub read_failed : {S T E F : Type 0} (e : E) (f : F) → IsRead {T = T} {E = E} facts mid new i block (Err e) → IsReadRun {T = S} {E = F} facts old new first room (slice_set out n block) (Err f)
     read_failed e f call = record {
@@ -92,16 +79,10 @@ module _ {D : Type 0} (facts : Ghosts D) (first n : ℕ) (old mid new : D) where
       the_last k is = record { from = omega arith; before = omega arith }
 
       torn : (c : Image) → TornAt (only_place i) (facts.left_since mid (facts.moment mid)) c → TornAt (InRange first m) (facts.left_since old (facts.moment old)) c
-      torn c t =
-          ⊎_elim (λ was. (t.0, was, same_after (only_place i) (only_place i) (InRange first m) t.0 t.0 c the_last the_last (record { count = refl; others = λ k out. refl }) t.2))
-          (λ fresh. (fresh.0, fresh.1, same_after (InRange first n) (only_place i) (InRange first m) fresh.0 t.0 c among the_last fresh.2 t.2)) (so_far.stops.now t.0 t.1)
+      torn c t = grind (arith, nat_tests, same_after, the_last, among)
 
       goes : TimeGoes facts mid new (TornAt (only_place i) (facts.left_since mid (facts.moment mid))) → TimeGoes facts old new (TornAt (InRange first m) (facts.left_since old (facts.moment old)))
-      goes call =
-          time_then facts old mid new (TornAt (only_place i) (facts.left_since mid (facts.moment mid))) (TornAt (InRange first m) (facts.left_since old (facts.moment old)))
-          (time_wider facts old mid (TornAt (InRange first n) (facts.left_since old (facts.moment old))) (TornAt (InRange first m) (facts.left_since old (facts.moment old))) so_far.stops
-          (λ c t. (t.0, t.1, same_after (InRange first n) (InRange first n) (InRange first m) t.0 t.0 c among among (record { count = refl; others = λ k out. refl }) t.2)))
-          call torn
+      goes call = grind (arith, same_after, among, torn)
 
     pub put_more : {T E : Type 0} (x : T) → block ≡ block_at from n → ForSome (facts.seen mid) (λ image. i < length image) → IsWrite {T = T} {E = E} facts mid new i block (Ok x) → ArePutSoFar facts first from (n + 1) old new
     put_more x is_it long call = record {

@@ -1,3 +1,4 @@
+use Rattle.std.proofs.Common.{rules}
 use Rattle.std.proofs.Common.{◌+◌, sym, ap, ◌∙◌, subst, drop, arith, add-one, Contains, slice_index_or, ◌∷◌, []}
 use Rattle.std.proofs.Math.Seq.{drop-cons}
 use Rattle.std.proofs.lemmas.List.{get_or_default, drop_all}
@@ -37,6 +38,4 @@ loop-i-preserved c =
     )
 
 pub returns-clause-same : goal.returns-clause-same
-returns-clause-same c =
-    sym (nothing_differs c.loop-i.to.items c.args.from.now.items
-    (subst (λ ps. SameBut (Contains ps) c.loop-i.to.items c.args.from.now.items) (drop_all c.loop-i.i-index c.args.places.now c.loop-i-test.false) c.loop-i.invariant.2))
+returns-clause-same c = search (rules, nothing_differs, drop_all)

@@ -1,3 +1,4 @@
+use Rattle.std.proofs.Common.{rules}
 use Rattle.std.proofs.Common.{◌∙◌, ◌<◌, ℕ, List, [], sym, ap, subst, Contains}
 use Rattle.mg_disk.specs.Disk.{AreBytes}
 use Rattle.mg_disk.specs.Held.{run, start}
@@ -12,9 +13,7 @@ copy_at-requires-clause-in_range c =
     subst P (sym c.deref.ensures.value) c.args.self.now.placed
 
 pub invariant_of-self-clause-placed : goal.invariant_of-self-clause-placed
-invariant_of-self-clause-placed c =
-    let P : List ℕ → Type 0 = λ places. (k : ℕ) → Contains places k → k < c.args.self.now.content.len in
-    subst P (sym c.clear.ensures.items) (λ k l. absurd (none_in_none k l))
+invariant_of-self-clause-placed c = search (rules, none_in_none)
 
 pub invariant_of-self-clause-pending : goal.invariant_of-self-clause-pending
 invariant_of-self-clause-pending c = same_as _ _ _ (sym c.copy_at.ensures.same)
