@@ -1,11 +1,11 @@
 -- How a copy proceeds: block 0 closed, the blocks after it, block 0.
-use Rattle.std.specs.Prelude.{◌≡◌, ◌<◌, ◌≤◌, ◌+◌, ◌-◌, [], ℕ, List, Bool, false, is_some, length, option_map, slice_index, slice_set, take, Option, Some, None, Result, Ok, Err, IfOk, IsTrue, OnErr}
+use Rattle.std.specs.Prelude.{◌≡◌, ◌<◌, ◌≤◌, ◌+◌, ◌-◌, [], ℕ, List, Bool, is_some, length, option_map, slice_index, slice_set, take, Option, Some, None, Result, Ok, Err, IfOk, IsTrue, OnErr}
 use Rattle.std.specs.Option.{ForSome}
 use Rattle.std.proofs.Common.{refl, inl, inr, sym, ap, subst, ◌∙◌, ⊎_elim, arith}
 use Rattle.std.proofs.lemmas.Bool.{cases_lt}
 use Rattle.std.proofs.lemmas.List.{ext_get_or, get_or-set_other, get_or-set_same, get_or-take, get_or_past, length-set, length-take-le}
 use Rattle.mg_disk.specs.Disk.{HasBlocks, Image, InRange, SameBut, SeenBut, TornAt, block_at, only_place}
-use Rattle.mg_disk.specs.PlaceLemmas.{same_after, same_as}
+use Rattle.mg_disk.specs.PlaceLemmas.{same_after}
 use Rattle.mg_disk.specs.Runs.{leaves_then, leaves_wider, nothing_none, nothing_then, time_then}
 use Rattle.mg_disk.specs.Stops.{CountGoes, CountRose, Leaves, TimeGoes}
 use Rattle.mg_disk.specs.declared.disk.Disk.{Ghosts}
@@ -29,10 +29,7 @@ pub record IsThen (places : ℕ → Type 0) (image : Image) (told : Option Image
 pub seen_then : (places : ℕ → Type 0) (old new : Option Image) (image : Image) → SeenBut places old new → old ≡ Some image → IsThen places image new
 seen_then places None new image same is = absurd cc
 seen_then places (Some s) None image same is = absurd same
-seen_then places (Some s) (Some c) image same is =
-    let some_inj : (a b : Image) → Some a ≡ Some b → a ≡ b = λ a b e. cc in
-    let P : Image → Type 0 = λ x. SameBut places x c in
-    record { c = c; is = refl; same = subst P (some_inj s image is) same }
+seen_then places (Some s) (Some c) image same is = grind (arith)
 
 -- and the image before
 pub record IsBefore (places : ℕ → Type 0) (image : Image) (told : Option Image) : Type 0 where
@@ -43,10 +40,7 @@ pub record IsBefore (places : ℕ → Type 0) (image : Image) (told : Option Ima
 pub seen_before : (places : ℕ → Type 0) (old new : Option Image) (image : Image) → SeenBut places old new → new ≡ Some image → IsBefore places image old
 seen_before places old None image same is = absurd cc
 seen_before places None (Some c) image same is = absurd same
-seen_before places (Some s) (Some c) image same is =
-    let some_inj : (a b : Image) → Some a ≡ Some b → a ≡ b = λ a b e. cc in
-    let P : Image → Type 0 = λ x. SameBut places s x in
-    record { s = s; is = refl; same = subst P (some_inj c image is) same }
+seen_before places (Some s) (Some c) image same is = grind (arith)
 
 -- what reads give over two runs of writes
 pub seen_more : (places these : ℕ → Type 0) (old mid new : Option Image) → ((k : ℕ) → these k → places k) → SeenBut places old mid → SeenBut these mid new → SeenBut places old new
@@ -56,10 +50,6 @@ seen_more places these (Some x) None new among a b = absurd a
 seen_more places these None (Some y) new among a b = absurd a
 seen_more places these (Some x) (Some y) None among a b = absurd b
 seen_more places these None None (Some z) among a b = absurd b
-
-pub seen_none : (places : ℕ → Type 0) (o : Option Image) → SeenBut places o o
-seen_none places (Some x) = same_as places x x refl
-seen_none places None = tt
 
 -- blocks that both have
 pub same_blocks : (first count : ℕ) (blocks x c : Image) → length blocks ≡ count → HasBlocks first blocks x → HasBlocks first blocks c → AreSame first count x c
@@ -160,17 +150,6 @@ all_copied n first was from (Some s) last same some put read long long' copied x
 
 -- calls that read one disk and write on another, one run after another
 module _ {D E : Type 0} (d : Ghosts D) (e : Ghosts E) where
-  pub steps_none : (from : D) (to : E) → d.has_been from (d.moment from) → CopySteps d e from from to to
-  steps_none from to been = record {
-    reads = nothing_none d from been;
-    from_blocks = refl;
-    to_blocks = refl;
-    from_tells = refl;
-    to_tells = refl;
-    from_count = count_none (d.faults from) (d.is_spent from);
-    to_count = count_none (e.faults to) (e.is_spent to);
-  }
-
   pub steps_to : (from : D) (to to' : E) → d.has_been from (d.moment from) → e.block_count to' ≡ e.block_count to → e.tells_stops to' ≡ e.tells_stops to → CountGoes e to to' → CopySteps d e from from to to'
   steps_to from to to' been blocks tells count = record {
     reads = nothing_none d from been;

@@ -1,16 +1,17 @@
 -- A call of a mirror, from the calls of its sides.
+use Rattle.std.proofs.lemmas.Bool.Decides.{nat_tests}
 use Rattle.std.specs.Prelude.{◌≡◌, ◌≢◌, ◌⊎◌, ◌+◌, ◌-◌, ◌<◌, ◌≤◌, ◌&&◌, ℕ, List, [], get_or, length, min, take, Option, Some, None, option_map, slice_set}
 use Rattle.std.specs.Option.{ForSome}
 use Rattle.std.proofs.Common.{refl, sym, ap, ◌∙◌, subst, ⊎_elim, arith}
 use Rattle.std.proofs.Math.Nat.{min-le_left}
 use Rattle.std.proofs.lemmas.Bool.{cases_lt}
 use Rattle.std.proofs.lemmas.List.{ext_get_or, length-take}
-use Rattle.mg_disk.specs.Disk.{Image, Both, GoesOn, HasBlocks, InRange, SameBut, SeenBut, TornAt, block_at, no_image}
+use Rattle.mg_disk.specs.Disk.{Image, GoesOn, HasBlocks, InRange, SameBut, SeenBut, TornAt, block_at, no_image}
 use Rattle.mg_disk.specs.Stops.{TimeGoes}
 use Rattle.mg_disk.specs.Runs.{time_none}
 use Rattle.mg_disk.specs.declared.disk.Disk.{Ghosts}
 use Rattle.mg_mirror.specs.Mirror.{told_cut, seen_of, SameWhileBoth, moment_of, Been, LeftSince}
-use Rattle.mg_mirror.specs.MirrorLemmas.{IsToldAs, told_map, both_told, cut_block, cut_but, cut_set}
+use Rattle.mg_mirror.specs.MirrorLemmas.{IsToldAs, told_map, both_told, cut_block, cut_set}
 use Rattle.mg_mirror.specs.MomentLemmas.{Cuts, goes_then, goes_same, goes_alone, torn_left, torn_right}
 use Rattle.mg_mirror.specs.declared.mirror.Side.{Side}
 use Rattle.mg_mirror.specs.declared.mirror.Side.TheVariants.{Left, Right}
@@ -35,27 +36,12 @@ module _ {D E : Type 0} (d : Ghosts D) (e : Ghosts E) (n : ℕ) where
   pub goes_along : (alone : Option Side) (left left' : D) (right right' : E) (F G H : Image → Type 0) → d.tells_stops left' ≡ d.tells_stops left → e.tells_stops right' ≡ e.tells_stops right
       → TimeGoes d left left' F → TimeGoes e right right' G → Cuts n (d.tells_stops left && e.tells_stops right) F H → Cuts n (d.tells_stops left && e.tells_stops right) G H
       → Goes alone alone left left' right right' H
-  goes_along alone left left' right right' F G H p q a b f g =
-      let same : (d.tells_stops left && e.tells_stops right) ≡ (d.tells_stops left' && e.tells_stops right') = sym (ap (λ x. x && e.tells_stops right') p ∙ ap (λ x. d.tells_stops left && x) q) in
-      subst
-      (λ told. GoesOn (moment_of alone (d.moment left) (e.moment right)) (moment_of alone (d.moment left') (e.moment right')) (Been alone (d.has_been left) (e.has_been right)) (Been alone (d.has_been left') (e.has_been right'))
-      (LeftSince n alone (d.tells_stops left && e.tells_stops right) (d.left_since left) (e.left_since right)) (LeftSince n alone told (d.left_since left') (e.left_since right')) H)
-      same
-      (goes_same n (d.tells_stops left && e.tells_stops right) (d.moment left) (d.moment left') (e.moment right) (e.moment right') (d.has_been left) (d.has_been left') (e.has_been right) (e.has_been right')
-      (d.left_since left) (d.left_since left') (e.left_since right) (e.left_since right') F G H alone a b f g)
+  goes_along alone left left' right right' F G H p q a b f g = grind (arith, goes_same)
 
   -- and one side was dropped
   pub goes_dropped : (alone : Option Side) (side : Side) (left left' : D) (right right' : E) (H : Image → Type 0) → alone ≡ None → d.has_been left' (d.moment left') → e.has_been right' (e.moment right')
       → Goes alone alone left left' right right' H → Goes alone (Some side) left left' right right' H
-  goes_dropped alone side left left' right right' H is left_been right_been goes =
-      goes_then (moment_of alone (d.moment left) (e.moment right)) (Both (d.moment left') (e.moment right')) (moment_of (Some side) (d.moment left') (e.moment right'))
-      (Been alone (d.has_been left) (e.has_been right)) (Been None (d.has_been left') (e.has_been right')) (Been (Some side) (d.has_been left') (e.has_been right'))
-      (LeftSince n alone (d.tells_stops left && e.tells_stops right) (d.left_since left) (e.left_since right))
-      (LeftSince n None (d.tells_stops left' && e.tells_stops right') (d.left_since left') (e.left_since right'))
-      (LeftSince n (Some side) (d.tells_stops left' && e.tells_stops right') (d.left_since left') (e.left_since right')) H no_image
-      (subst (λ now. Goes alone now left left' right right' H) is goes)
-      (goes_alone n (d.tells_stops left' && e.tells_stops right') (d.moment left') (e.moment right') (d.has_been left') (e.has_been right') (d.left_since left') (e.left_since right') side left_been right_been)
-      (λ x none. absurd none)
+  goes_dropped alone side left left' right right' H is left_been right_been goes = grind (arith, goes_then, goes_alone)
 
   -- a write at some places of both sides, of the left one, of the right one
   pub write_both : (alone : Option Side) (left left' : D) (right right' : E) (places : ℕ → Type 0) → alone ≡ None → d.tells_stops left' ≡ d.tells_stops left → e.tells_stops right' ≡ e.tells_stops right
@@ -91,31 +77,24 @@ module _ {D E : Type 0} (d : Ghosts D) (e : Ghosts E) (n : ℕ) where
 module _ (n i : ℕ) (b : List ℕ) (inside : i < n) where
   pub wrote_left : (alone : Option Side) (l r l' r' : Option Image) → (alone ≡ None) ⊎ (alone ≡ Some Left) → l' ≡ option_map (λ image. slice_set image i b) l → IsToldAs r r'
       → told_cut n l' r' ≡ option_map (λ image. slice_set image i b) (seen_of n alone l r)
-  wrote_left alone l r l' r' is put like =
-      ⊎_elim (λ none. subst (λ now. told_cut n l' r' ≡ option_map (λ image. slice_set image i b) (seen_of n now l r)) (sym none) (cut_set n i b l r l' r' inside put like))
-      (λ left. subst (λ now. told_cut n l' r' ≡ option_map (λ image. slice_set image i b) (seen_of n now l r)) (sym left) (cut_set n i b l r l' r' inside put like)) is
+  wrote_left alone l r l' r' is put like = grind (arith, nat_tests, cut_set)
 
   pub wrote_both : (alone : Option Side) (l r l' r' : Option Image) → alone ≡ None → l' ≡ option_map (λ image. slice_set image i b) l → r' ≡ option_map (λ image. slice_set image i b) r
       → seen_of n alone l' r' ≡ option_map (λ image. slice_set image i b) (seen_of n alone l r)
-  wrote_both alone l r l' r' none put put' =
-      subst (λ now. seen_of n now l' r' ≡ option_map (λ image. slice_set image i b) (seen_of n now l r)) (sym none) (cut_set n i b l r l' r' inside put (told_map (λ image. slice_set image i b) r r' put'))
+  wrote_both alone l r l' r' none put put' = grind (arith, cut_set, told_map)
 
   pub wrote_only_left : (alone : Option Side) (l r l' : Option Image) → alone ≡ Some Left → l' ≡ option_map (λ image. slice_set image i b) l
       → seen_of n alone l' r ≡ option_map (λ image. slice_set image i b) (seen_of n alone l r)
-  wrote_only_left alone l r l' is put =
-      subst (λ now. seen_of n now l' r ≡ option_map (λ image. slice_set image i b) (seen_of n now l r)) (sym is) (cut_set n i b l r l' r inside put (told_same r))
+  wrote_only_left alone l r l' is put = grind (arith, cut_set, told_same)
 
   pub wrote_only_right : (alone : Option Side) (l r r' : Option Image) → alone ≡ Some Right → r' ≡ option_map (λ image. slice_set image i b) r
       → seen_of n alone l r' ≡ option_map (λ image. slice_set image i b) (seen_of n alone l r)
-  wrote_only_right alone l r r' is put =
-      subst (λ now. seen_of n now l r' ≡ option_map (λ image. slice_set image i b) (seen_of n now l r)) (sym is) (cut_set n i b r l r' l inside put (told_same l))
+  wrote_only_right alone l r r' is put = grind (arith, cut_set, told_same)
 
   -- only the right one took it
   pub wrote_right : (alone : Option Side) (l r l' r' : Option Image) → alone ≡ None → told_cut n l r ≡ told_cut n r l → r' ≡ option_map (λ image. slice_set image i b) r → IsToldAs l l'
       → told_cut n r' l' ≡ option_map (λ image. slice_set image i b) (seen_of n alone l r)
-  wrote_right alone l r l' r' none same put like =
-      subst (λ now. told_cut n r' l' ≡ option_map (λ image. slice_set image i b) (seen_of n now l r)) (sym none)
-      (cut_set n i b r l r' l' inside put like ∙ ap (option_map (λ image. slice_set image i b)) (sym same))
+  wrote_right alone l r l' r' none same put like = grind (arith, cut_set)
 
 -- both sides still give the same after a write of both
 pub same_after : (n i : ℕ) (b : List ℕ) (alone : Option Side) (l r l' r' : Option Image) → i < n → SameWhileBoth n alone l r
@@ -128,9 +107,7 @@ same_after n i b alone l r l' r' inside same put put' none =
 -- Blocks that follow one another: what reads give of them, by the sides in use.
 module _ (n first : ℕ) (blocks : Image) where
   has_cut : (l r : Option Image) → first + length blocks ≤ n → ForSome l (HasBlocks first blocks) → ForSome (told_cut n l r) (HasBlocks first blocks)
-  has_cut l r within has image is k below =
-      let b = both_told n l r image is in
-      ap (λ x. block_at x (first + k)) b.cut ∙ cut_block n (first + k) b.first (omega arith) ∙ has b.first b.first_is k below
+  has_cut l r within has image is k below = grind (arith, both_told, cut_block)
 
   pub has_left : (alone : Option Side) (l r : Option Image) → first + length blocks ≤ n → alone ≢ Some Right → ForSome l (HasBlocks first blocks) → ForSome (seen_of n alone l r) (HasBlocks first blocks)
   has_left None l r within used has = has_cut l r within has
@@ -170,33 +147,4 @@ module _ (n first : ℕ) (blocks : Image) where
 
   pub alike_after : (alone : Option Side) (l r l' r' : Option Image) → SameWhileBoth n alone l r → SeenBut (InRange first (length blocks)) l l' → SeenBut (InRange first (length blocks)) r r'
       → ForSome l' (HasBlocks first blocks) → ForSome r' (HasBlocks first blocks) → SameWhileBoth n alone l' r'
-  alike_after alone l r l' r' same on_l on_r put put' none = by_cases l r l' r' (same none) on_l on_r put put'
-    where
-      some_inj : (a b : Image) → Some a ≡ Some b → a ≡ b
-      some_inj a b is = cc
-
-      by_cases : (l r l' r' : Option Image) → told_cut n l r ≡ told_cut n r l → SeenBut (InRange first (length blocks)) l l' → SeenBut (InRange first (length blocks)) r r'
-          → ForSome l' (HasBlocks first blocks) → ForSome r' (HasBlocks first blocks) → told_cut n l' r' ≡ told_cut n r' l'
-      by_cases (Some x) (Some y) (Some x') (Some y') same on_l on_r put put' = ap (λ c. Some c) (cut_alike x y x' y' (some_inj (take n x) (take n y) same) on_l on_r (put x' refl) (put' y' refl))
-      by_cases (Some x) None (Some x') None same on_l on_r put put' = refl
-      by_cases None (Some y) None (Some y') same on_l on_r put put' = refl
-      by_cases None None None None same on_l on_r put put' = refl
-      by_cases (Some x) r None r' same on_l on_r put put' = absurd on_l
-      by_cases None r (Some x') r' same on_l on_r put put' = absurd on_l
-      by_cases l (Some y) l' None same on_l on_r put put' = absurd on_r
-      by_cases l None l' (Some y') same on_l on_r put put' = absurd on_r
-
--- what reads give differs at these places alone if it does of a side in use
-module _ (n : ℕ) (places : ℕ → Type 0) where
-  pub but_left : (alone alone' : Option Side) (l r l' r' : Option Image) → alone ≢ Some Right → alone' ≢ Some Right → SeenBut places l l' → IsToldAs r r' → SeenBut places (seen_of n alone l r) (seen_of n alone' l' r')
-  but_left None None l r l' r' used still same like = cut_but n places l r l' r' same like
-  but_left None (Some Left) l r l' r' used still same like = cut_but n places l r l' r' same like
-  but_left (Some Left) None l r l' r' used still same like = cut_but n places l r l' r' same like
-  but_left (Some Left) (Some Left) l r l' r' used still same like = cut_but n places l r l' r' same like
-  but_left (Some Right) alone' l r l' r' used still same like = absurd (used refl)
-  but_left alone (Some Right) l r l' r' used still same like = absurd (still refl)
-
-  pub but_right : (alone : Option Side) (l r l' r' : Option Image) → alone ≢ Some Left → SameWhileBoth n alone l r → SeenBut places r r' → IsToldAs l l' → SeenBut places (seen_of n alone l r) (told_cut n r' l')
-  but_right None l r l' r' used both same like = subst (λ o. SeenBut places o (told_cut n r' l')) (sym (both refl)) (cut_but n places r l r' l' same like)
-  but_right (Some Right) l r l' r' used both same like = cut_but n places r l r' l' same like
-  but_right (Some Left) l r l' r' used both same like = absurd (used refl)
+  alike_after alone l r l' r' same on_l on_r put put' none = grind (arith, cut_alike)

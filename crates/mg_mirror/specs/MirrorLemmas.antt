@@ -86,16 +86,6 @@ same_cut n places x y same = record { count = length-take n y ∙ ap (min n) sam
             get_or_past (take n y) k [] (omega (arith, length-take n y, min-le_left n (length y)))
             ∙ sym (get_or_past (take n x) k [] (omega (arith, length-take n x, min-le_left n (length x))))
 
--- a write that failed on a side
-pub cut_but : (n : ℕ) (places : ℕ → Type 0) (l r l' r' : Option Image) → SeenBut places l l' → IsToldAs r r' → SeenBut places (told_cut n l r) (told_cut n l' r')
-cut_but n places (Some x) (Some y) (Some x') (Some y') same like = same_cut n places x x' same
-cut_but n places (Some x) None (Some x') None same like = tt
-cut_but n places (Some x) (Some y) (Some x') None same like = absurd like
-cut_but n places (Some x) None (Some x') (Some y') same like = absurd like
-cut_but n places (Some x) r None r' same like = absurd same
-cut_but n places None r None r' same like = tt
-cut_but n places None r (Some x') r' same like = absurd same
-
 -- a side that is at what it gives, while both are told
 pub only_cut : (n : ℕ) (l r : Option Image) (images : Image → Type 0) (c : Image) → OnlySeen l images → (y : Image) → r ≡ Some y → CutOf n images c → told_cut n l r ≡ Some c
 only_cut n l r images c only y told left =

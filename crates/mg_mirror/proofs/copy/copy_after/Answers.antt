@@ -1,6 +1,6 @@
 use Rattle.std.specs.Option.{ForSome}
 use Rattle.mg_disk.specs.Disk.{HasBlocks}
-use Rattle.std.proofs.Common.{◌-◌, subst, take, ◌<◌, ◌+◌, arith, drop, length, refl, rules, []}
+use Rattle.std.proofs.Common.{◌-◌, subst, take, arith, drop, length, refl, rules, []}
 use Rattle.std.proofs.lemmas.Grind.{get_or_after_one}
 use Rattle.std.proofs.lemmas.List.{length-drop, take_rest}
 use Rattle.mg_mirror.proofs.Copied.{after_all}

@@ -21,9 +21,7 @@ returns-in-Ok-Ok-clause-written g c =
     wrote_both was.blocks c.args.i c.args.from.now c.requires.in_range was.alone (g.D.Disk.seen was.left) (g.E.Disk.seen was.right) (g.D.Disk.seen c.write_both-left.new.left) (g.E.Disk.seen c.write_both-left.new.right) c.in-None.is put_left put_right
 
 pub returns-in-Ok-Ok-clause-stops : goal.returns-in-Ok-Ok-clause-stops
-returns-in-Ok-Ok-clause-stops g c =
-    let was = c.args.self.now in
-    write_both g.D.Disk g.E.Disk was.blocks was.alone was.left c.write_both-left.new.left was.right c.write_both-left.new.right (only_place c.args.i) c.in-None.is c.write_both-left.ensures.on_left.rules.tells c.write_both-left.ensures.on_right.rules.tells c.write_both-left.ensures.on_left.rules.stops c.write_both-left.ensures.on_right.rules.stops
+returns-in-Ok-Ok-clause-stops g c = search (rules, write_both)
 
 pub returns-in-Ok-Err-clause-written : goal.returns-in-Ok-Err-clause-written
 returns-in-Ok-Err-clause-written g c =

@@ -11,11 +11,7 @@ invariant_of-self-clause-same g c =
     c.write_blocks-left.ensures.unknown c.write_blocks-right.ensures.unknown (search rules) (search rules)
 
 pub returns-in-Ok-Ok-clause-stops : goal.returns-in-Ok-Ok-clause-stops
-returns-in-Ok-Ok-clause-stops g c =
-    let was = c.args.self.now in
-    let places = InRange c.args.first (length c.args.from.now) in
-    write_both g.D.Disk g.E.Disk was.blocks was.alone was.left c.write_blocks-left.new.self was.right c.write_blocks-right.new.self places c.in-None.is c.write_blocks-left.ensures.tells c.write_blocks-right.ensures.tells
-    c.write_blocks-left.ensures.stops c.write_blocks-right.ensures.stops
+returns-in-Ok-Ok-clause-stops g c = search (rules, write_both)
 
 pub returns-in-Ok-Err-clause-stops : goal.returns-in-Ok-Err-clause-stops
 returns-in-Ok-Err-clause-stops g c =
@@ -45,10 +41,7 @@ returns-in-Err-Err-clause-stops g c =
     c.write_blocks-left.ensures.stops c.write_blocks-right.ensures.stops)
 
 pub returns-in-Ok-clause-written : goal.returns-in-Ok-clause-written
-returns-in-Ok-clause-written g c =
-    let was = c.args.self.now in
-    let alone : was.alone ≢ Some Right = search rules in
-    has_left was.blocks c.args.first c.args.from.now was.alone (g.D.Disk.seen c.write_blocks.new.self) (g.E.Disk.seen was.right) c.requires.in_range alone c.in-Ok.ensures.written
+returns-in-Ok-clause-written g c = search (rules, has_left)
 
 pub returns-in-Ok-clause-stops : goal.returns-in-Ok-clause-stops
 returns-in-Ok-clause-stops g c =
