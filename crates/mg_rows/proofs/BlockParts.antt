@@ -1,10 +1,10 @@
 -- What is written into a part of a block is there, and the parts beside it are as they were.
-use Rattle.std.specs.Prelude.{◌≡◌, ◌⊎◌, ◌+◌, ◌≤◌, ℕ, List, ◌++◌, drop, length, take}
+use Rattle.std.specs.Prelude.{◌≡◌, ◌⊎◌, ◌+◌, ◌≤◌, ℕ, List, drop, length, take}
 use Rattle.std.proofs.Common.{sym, ap, ◌∙◌, ⊎_elim, arith}
 use Rattle.std.proofs.lemmas.List.{drop-take, drop_at, length-take, take_at}
 use Rattle.std.proofs.lemmas.Slice.{drop-put_mid, take-put_mid_below}
 use Rattle.mg_model.specs.Bytes.{bytes_at}
-use borrow.Rule.Slice.PartMut.{post_of, put_mid}
+use borrow.Rule.Slice.PartMut.{put_mid}
 
 pub beside : (old bytes : List ℕ) (at k n b : ℕ) → k ≡ n → length bytes ≡ n → at + n ≤ length old → (b + n ≤ at) ⊎ (at + n ≤ b) → bytes_at (put_mid at k old bytes) b n ≡ bytes_at old b n
 beside old bytes at k n b size long room apart = ⊎_elim before behind apart
@@ -19,6 +19,4 @@ beside old bytes at k n b size long room apart = ⊎_elim before behind apart
     behind high = ap (take n) (drop-put_mid at k old bytes b (omega arith) (omega arith) (omega arith))
 
 pub there : (old bytes : List ℕ) (at k n : ℕ) → length bytes ≡ n → at ≤ length old → bytes_at (put_mid at k old bytes) at n ≡ bytes
-there old bytes at k n long room =
-    let front : length (take at old) ≡ at = (let l = length-take at old in omega arith) in
-    ap (take n) (drop_at (take at old) (bytes ++ post_of at k old) at front) ∙ take_at bytes (post_of at k old) n long
+there old bytes at k n long room = grind (arith, length-take, drop_at, take_at)

@@ -1,5 +1,5 @@
 -- An object's fields are read back from its bytes.
-use Rattle.std.proofs.Common.{◌≡◌, true, ℕ, ◌+◌, ◌-◌, ◌*◌, ◌≤◌, ◌==◌, [], ◌∷◌, ◌++◌, List, All, Option, Some, None, if◌then◌else◌, is_some, length, map, replicate, drop, get_or, min, slice_index, refl, sym, ap, ◌∙◌, arith, append_assoc}
+use Rattle.std.proofs.Common.{◌≡◌, true, ℕ, ◌+◌, ◌-◌, ◌*◌, ◌≤◌, [], ◌∷◌, ◌++◌, List, All, Option, Some, None, if◌then◌else◌, is_some, length, map, replicate, drop, get_or, min, slice_index, refl, sym, ap, ◌∙◌, arith, append_assoc}
 use Rattle.std.specs.Option.{ForSome, option_map_or}
 use Rattle.std.proofs.lemmas.List.{drop-drop, drop_at, get_or-drop, length-map}
 use Rattle.std.proofs.lemmas.List.Elements.{All-cons, All-map, All-nil, All-weaker}
@@ -19,10 +19,7 @@ use Rattle.mg_rows.proofs.ObjectRows.{length-words}
 
 -- numbers that are filled up are read from the place where they begin
 numbers-padded : (before behind ns : List ℕ) (at n : ℕ) → length before ≡ at → All IsWord ns → numbers_at (before ++ (padded_to n (words_bytes ns) ++ behind)) (at + 0) (length ns) ≡ ns
-numbers-padded before behind ns at n long fit =
-    numbers_at-behind before (padded_to n (words_bytes ns) ++ behind) at 0 (length ns) long
-    ∙ ap (λ (v : List ℕ). numbers_at v 0 (length ns)) (append_assoc (words_bytes ns) (replicate (n - length (words_bytes ns)) 0) behind)
-    ∙ numbers_at-first ns (replicate (n - length (words_bytes ns)) 0 ++ behind) fit
+numbers-padded before behind ns at n long fit = grind (arith, numbers_at-behind, append_assoc, numbers_at-first)
 
 abbrev pw_of : ℕ → ℕ → ℕ → Pw
 pw_of password rights until = record { password = password; rights = rights; until = until }
@@ -42,13 +39,7 @@ object_of base pages account passwords entries ext = record { base = base; pages
 object-same : (base pages account : ℕ) (passwords : List Pw) (entries : List ℕ) (ext : Option Slot) (row : ObjectRow)
     → base ≡ row.base → pages ≡ row.pages → account ≡ row.account → passwords ≡ row.passwords → entries ≡ row.entries → ext ≡ row.extension
     → object_of base pages account passwords entries ext ≡ row
-object-same base pages account passwords entries ext row e1 e2 e3 e4 e5 e6 =
-    ap (λ v. object_of v pages account passwords entries ext) e1
-    ∙ ap (λ v. object_of row.base v account passwords entries ext) e2
-    ∙ ap (λ v. object_of row.base row.pages v passwords entries ext) e3
-    ∙ ap (λ v. object_of row.base row.pages row.account v entries ext) e4
-    ∙ ap (λ v. object_of row.base row.pages row.account row.passwords v ext) e5
-    ∙ ap (λ v. object_of row.base row.pages row.account row.passwords row.entries v) e6
+object-same base pages account passwords entries ext row e1 e2 e3 e4 e5 e6 = grind arith
 
 -- the columns of the password rows give the rows
 pub rows-read : (bytes rest : List ℕ) (k : ℕ) (rows : List Pw)
@@ -105,13 +96,8 @@ untils-part a b c d ns rest long_a long_b long_c long_d fit =
 
 extension-back : (bytes : List ℕ) (ext : Option Slot) → number_at bytes 48 ≡ (if is_some ext then 1 else 0)
     → number_at bytes 56 ≡ option_map_or (λ (slot : Slot). slot.base) ext 0 → number_at bytes 64 ≡ option_map_or (λ (slot : Slot). slot.password) ext 0 → extension_at bytes ≡ ext
-extension-back bytes None flag base password =
-    let slot : Slot = record { base = number_at bytes 56; password = number_at bytes 64 } in
-    ap (λ n. if n == 1 then Some slot else None) flag
-extension-back bytes (Some slot) flag base password =
-    let read : Slot = record { base = number_at bytes 56; password = number_at bytes 64 } in
-    let same : read ≡ slot = slot-same (number_at bytes 56) (number_at bytes 64) slot base password in
-    ap (λ n. if n == 1 then Some read else None) flag ∙ ap Some same
+extension-back bytes None flag base password = grind arith
+extension-back bytes (Some slot) flag base password = grind (arith, slot-same)
 
 record AreHead (bytes : List ℕ) (row : ObjectRow) : Type 0 where
   base : number_at bytes 8 ≡ row.base
@@ -155,36 +141,13 @@ place-word : (base pages : ℕ) → IsPlace base pages → IsWord base
 place-word base pages is = omega arith
 
 nine : (a b c d e f g h i : ℕ) → IsWord a → IsWord b → IsWord c → IsWord d → IsWord e → IsWord f → IsWord g → IsWord h → IsWord i → All IsWord (a ∷ b ∷ c ∷ d ∷ e ∷ f ∷ g ∷ h ∷ i ∷ [])
-nine a b c d e f g h i ka kb kc kd ke kf kg kh ki =
-    All-cons IsWord a (b ∷ c ∷ d ∷ e ∷ f ∷ g ∷ h ∷ i ∷ []) ka (
-    All-cons IsWord b (c ∷ d ∷ e ∷ f ∷ g ∷ h ∷ i ∷ []) kb (
-    All-cons IsWord c (d ∷ e ∷ f ∷ g ∷ h ∷ i ∷ []) kc (
-    All-cons IsWord d (e ∷ f ∷ g ∷ h ∷ i ∷ []) kd (
-    All-cons IsWord e (f ∷ g ∷ h ∷ i ∷ []) ke (
-    All-cons IsWord f (g ∷ h ∷ i ∷ []) kf (
-    All-cons IsWord g (h ∷ i ∷ []) kg (
-    All-cons IsWord h (i ∷ []) kh (
-    All-cons IsWord i [] ki (All-nil IsWord)))))))))
+nine a b c d e f g h i ka kb kc kd ke kf kg kh ki = grind (arith, All-cons, All-nil)
 
 head-words : (row : ObjectRow) → IsObjectRow row → All IsWord (head_words row)
-head-words row is =
-    let ext = extension-words row.extension is.extension in
-    let few_pages = is.place.few in
-    let one : IsWord 1 = omega arith in
-    let pages : IsWord row.pages = omega arith in
-    let account : IsWord row.account = omega arith in
-    let passwords : IsWord (length row.passwords) = omega arith in
-    let entries : IsWord (length row.entries) = omega arith in
-    nine 1 row.base row.pages row.account (length row.passwords) (length row.entries) (if is_some row.extension then 1 else 0)
-    (option_map_or (λ (slot : Slot). slot.base) row.extension 0) (option_map_or (λ (slot : Slot). slot.password) row.extension 0)
-    one (place-word row.base row.pages is.place) pages account passwords entries ext.flag ext.base ext.password
+head-words row is = grind (arith, extension-words, nine, place-word)
 
 head-read : (row : ObjectRow) (rest : List ℕ) → IsObjectRow row → AreHead (padded_to 80 (object_head row) ++ rest) row
-head-read row rest is =
-    let bytes = padded_to 80 (object_head row) ++ rest in
-    let read : numbers_at bytes 0 9 ≡ head_words row = numbers-padded [] rest (head_words row) 0 80 refl (head-words row is) in
-    let at : (i : ℕ) → get_or (numbers_at bytes 0 9) i 0 ≡ get_or (head_words row) i 0 = λ i. ap (λ (v : List ℕ). get_or v i 0) read in
-    record { base = at 1; pages = at 2; account = at 3; passwords = at 4; entries = at 5; flag = at 6; ext_base = at 7; ext_password = at 8 }
+head-read row rest is = grind (arith, numbers-padded, head-words)
 
 long-words : {X : Type 0} (f : X → ℕ) (xs : List X) (n most : ℕ) → length xs ≤ n → 8 * n ≤ most → length (padded_to most (words_bytes (map f xs))) ≡ most
 long-words f xs n most few room = length-padded_to most (words_bytes (map f xs)) (let e = length-words f xs in omega arith)

@@ -1,5 +1,5 @@
 -- What a row keeps, as the test that computes.
-use Rattle.std.proofs.Common.{◌≡◌, ◌≢◌, nat_le, ⊎_elim, ◌==◌, ◌&&◌, ℕ, suc, Bool, true, false, not, [], ◌∷◌, List, All, AllPairs, length, get_or, Option, Some, None, IsTrue, refl, ap, arith}
+use Rattle.std.proofs.Common.{◌≡◌, ◌≢◌, ⊎_elim, ◌==◌, ℕ, suc, true, false, not, [], ◌∷◌, List, All, AllPairs, get_or, Option, Some, None, IsTrue, refl, ap, arith}
 use Rattle.std.specs.List.{list_all, list_any}
 use Rattle.std.specs.Option.{ForSome, option_map_or}
 use Rattle.std.proofs.lemmas.Bool.{and_from, cases_Bool, eqb-true, le-leb}
@@ -22,7 +22,7 @@ password-keeps row is = let rights = is.rights in let some = rights.some in let 
 pub passwords-keep : (rows : List Pw) → All IsPassword rows → list_all is_password rows ≡ true
 passwords-keep [] all = refl
 passwords-keep (row ∷ rows) all =
-    and_from (is_password row) (list_all is_password rows) (password-keeps row (All-head IsPassword row rows all)) (passwords-keep rows (All-tail IsPassword row rows all))
+    grind (arith, (passwords-keep rows (All-tail IsPassword row rows all)), and_from, password-keeps, All-head, All-tail)
 
 entry-keeps : (base pages address : ℕ) → IsEntryOf base pages address → IsTrue (is_entry_of base pages address)
 entry-keeps base pages address is = grind (arith, nat_tests)
@@ -30,8 +30,7 @@ entry-keeps base pages address is = grind (arith, nat_tests)
 pub entries-keep : (base pages : ℕ) (entries : List ℕ) → All (IsEntryOf base pages) entries → list_all (is_entry_of base pages) entries ≡ true
 entries-keep base pages [] all = refl
 entries-keep base pages (a ∷ entries) all =
-    and_from (is_entry_of base pages a) (list_all (is_entry_of base pages) entries) (entry-keeps base pages a (All-head (IsEntryOf base pages) a entries all))
-    (entries-keep base pages entries (All-tail (IsEntryOf base pages) a entries all))
+    grind (arith, (entries-keep base pages entries (All-tail (IsEntryOf base pages) a entries all)), and_from, entry-keeps, All-head, All-tail)
 
 other : (x y : ℕ) → x ≢ y → (x == y) ≡ false
 other x y differ = ⊎_elim (λ (t : (x == y) ≡ true). absurd (differ (eqb-true x y t))) (λ (f : (x == y) ≡ false). f) (cases_Bool (x == y))
@@ -49,11 +48,4 @@ extension-keeps (Some slot) is = let here = is slot refl in ap not (other slot.b
 
 -- a row that keeps what `Ranges` says passes the test
 pub object-keeps : (row : ObjectRow) → IsObjectRow row → is_object_row row ≡ true
-object-keeps row is =
-    let few : ℕ → Bool = λ n. nat_le n 1024 in
-    let account : (nat_le 1 row.account && nat_le row.account 1024) ≡ true = and_from (nat_le 1 row.account) (nat_le row.account 1024) (le-leb 1 row.account is.account_some) (le-leb row.account 1024 is.account_few) in
-    let passwords : (nat_le (length row.passwords) 32 && list_all is_password row.passwords) ≡ true =
-    and_from (nat_le (length row.passwords) 32) (list_all is_password row.passwords) (le-leb (length row.passwords) 32 is.few_passwords) (passwords-keep row.passwords is.passwords) in
-    let each : (nat_le (length row.entries) 16 && list_all (is_entry_of row.base row.pages) row.entries) ≡ true =
-    and_from (nat_le (length row.entries) 16) (list_all (is_entry_of row.base row.pages) row.entries) (le-leb (length row.entries) 16 is.few_entries) (entries-keep row.base row.pages row.entries is.entries) in
-    and_from _ _ (and_from _ _ (and_from _ _ (and_from _ _ (place-keeps row.base row.pages is.place) account) passwords) (and_from _ _ each (distinct-keep row.entries is.distinct))) (extension-keeps row.extension is.extension)
+object-keeps row is = grind (arith, and_from, le-leb, passwords-keep, entries-keep, place-keeps, distinct-keep, extension-keeps)

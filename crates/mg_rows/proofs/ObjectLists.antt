@@ -64,10 +64,7 @@ all-more test xs x all here = list_all-append test xs (x ∷ []) ∙ and_from (l
 
 -- a list in which an item is twice
 here : (y : ℕ) (xs : List ℕ) (x : ℕ) (ys : List ℕ) → (y == x) ≡ true → all_distinct (y ∷ (xs ++ x ∷ ys)) ≡ false
-here y xs x ys e =
-    let found : list_any (λ z. y == z) (xs ++ x ∷ ys) ≡ true =
-    list_any-append (λ z. y == z) xs (x ∷ ys) ∙ or_right (list_any (λ z. y == z) xs) (y == x || list_any (λ z. y == z) ys) (or_left (y == x) (list_any (λ z. y == z) ys) e) in
-    and_left (not (list_any (λ z. y == z) (xs ++ x ∷ ys))) (all_distinct (xs ++ x ∷ ys)) (not_from_true (list_any (λ z. y == z) (xs ++ x ∷ ys)) found)
+here y xs x ys e = grind (arith, list_any-append, or_right, or_left, and_left, not_from_true)
 
 twice : (xs : List ℕ) (x : ℕ) (ys : List ℕ) → list_any (λ y. y == x) xs ≡ true → all_distinct (xs ++ x ∷ ys) ≡ false
 twice [] x ys is = absurd (cc)
@@ -102,11 +99,7 @@ module _ {R : Type 0} (bytes : List ℕ) (row : R) (count : ℕ) (is : count ≡
       (ap (list_all is_password) (passwords-around bytes all k within) ∙ all-fails is_password (passwords_at bytes 0 k) (password_at bytes k) (passwords_at bytes (k + 1) (all - (k + 1))) fails))
 
   pub good_passwords : (k : ℕ) → count ≤ 32 → k ≡ count → list_all is_password (passwords_at bytes 0 k) ≡ true → (passwords_at bytes 0 k ≡ passwords_in bytes) × (are_passwords (passwords_in bytes) ≡ true)
-  good_passwords k few end all =
-      let whole : k ≡ min (number_at bytes 32) 33 = omega arith in
-      let same : passwords_at bytes 0 k ≡ passwords_in bytes = ap (passwords_at bytes 0) whole in
-      let long : length (passwords_in bytes) ≡ min (number_at bytes 32) 33 = length-passwords_at bytes 0 (min (number_at bytes 32) 33) in
-      (same, and_from (nat_le (length (passwords_in bytes)) 32) (list_all is_password (passwords_in bytes)) (le-leb (length (passwords_in bytes)) 32 (omega arith)) (ap (list_all is_password) (sym same) ∙ all))
+  good_passwords k few end all = grind (arith, length-passwords_at, and_from, le-leb)
 
 -- what follows from an answer with a test
 pub none_tells : {X : Type 0} (test : Bool) (x : X) → None ≡ some_if test x → test ≡ false
@@ -120,17 +113,11 @@ some_tells true x y is = (refl, cc)
 -- a row that takes one more
 pub password-added : (new filled row : ObjectRow) (ps next : List Pw) (pw given : Pw) → filled ≡ record row { passwords = ps }
     → new ≡ record filled { passwords = filled.passwords ++ given ∷ [] } → given ≡ pw → next ≡ ps ++ pw ∷ [] → new ≡ record row { passwords = next }
-password-added new filled row ps next pw given was is same more =
-    is
-    ∙ ap (λ (f : ObjectRow). record f { passwords = f.passwords ++ given ∷ [] }) was
-    ∙ ap (λ (v : List Pw). record row { passwords = v }) (ap (λ (x : Pw). ps ++ x ∷ []) same ∙ sym more)
+password-added new filled row ps next pw given was is same more = grind arith
 
 pub entry-added : (new filled row : ObjectRow) (es next : List ℕ) (a given : ℕ) → filled ≡ record row { entries = es }
     → new ≡ record filled { entries = filled.entries ++ given ∷ [] } → given ≡ a → next ≡ es ++ a ∷ [] → new ≡ record row { entries = next }
-entry-added new filled row es next a given was is same more =
-    is
-    ∙ ap (λ (f : ObjectRow). record f { entries = f.entries ++ given ∷ [] }) was
-    ∙ ap (λ (v : List ℕ). record row { entries = v }) (ap (λ x. es ++ x ∷ []) same ∙ sym more)
+entry-added new filled row es next a given was is same more = grind arith
 
 -- the test of one entry more, on the entries so far
 abbrev pub is_next : ObjectRow → List ℕ → ℕ → Bool
@@ -138,8 +125,7 @@ is_next row es a = is_entry_of row.base row.pages a && not (list_any (λ entry. 
 
 pub next-test : (filled row : ObjectRow) (es : List ℕ) (a given : ℕ) (answer : Bool) → filled ≡ record row { entries = es } → given ≡ a
     → answer ≡ (is_entry_of filled.base filled.pages given && not (is_entry filled given)) → answer ≡ is_next row es a
-next-test filled row es a given answer was same is =
-    is ∙ ap (λ (f : ObjectRow). is_entry_of f.base f.pages given && not (is_entry f given)) was ∙ ap (is_next row es) same
+next-test filled row es a given answer was same is = grind arith
 
 -- the answer for the entries
 module _ {R : Type 0} (bytes : List ℕ) (result : R) (row : ObjectRow) (count : ℕ) (is : count ≡ number_at bytes 40) where
@@ -177,12 +163,4 @@ module _ {R : Type 0} (bytes : List ℕ) (result : R) (row : ObjectRow) (count :
 
   pub good_entries : (k : ℕ) → count ≤ 16 → k ≡ count → each (numbers_at bytes 368 k) ≡ true → all_distinct (numbers_at bytes 368 k) ≡ true
       → (numbers_at bytes 368 k ≡ entries_in bytes) × (are_entries row.base row.pages (entries_in bytes) ≡ true)
-  good_entries k few end all distinct =
-      let whole : k ≡ min (number_at bytes 40) 17 = omega arith in
-      let same : numbers_at bytes 368 k ≡ entries_in bytes = ap (numbers_at bytes 368) whole in
-      let long : length (entries_in bytes) ≡ min (number_at bytes 40) 17 = length-numbers_at bytes 368 (min (number_at bytes 40) 17) in (
-        same,
-        and_from (nat_le (length (entries_in bytes)) 16 && each (entries_in bytes)) (all_distinct (entries_in bytes))
-            (and_from (nat_le (length (entries_in bytes)) 16) (each (entries_in bytes)) (le-leb (length (entries_in bytes)) 16 (omega arith)) (ap each (sym same) ∙ all))
-            (ap all_distinct (sym same) ∙ distinct),
-      )
+  good_entries k few end all distinct = grind (arith, length-numbers_at, and_from, le-leb)

@@ -1,5 +1,6 @@
 -- An object's row as bytes, and what is read from them.
-use Rattle.std.proofs.Common.{◌≡◌, ◌*◌, ◌-◌, ◌++◌, [], ◌∷◌, ℕ, List, length, map, replicate, sym, ap, ◌∙◌, append_assoc}
+use Rattle.std.proofs.Common.{arith}
+use Rattle.std.proofs.Common.{◌≡◌, ◌*◌, ◌-◌, ◌++◌, [], ◌∷◌, ℕ, List, length, map, replicate, ap, ◌∙◌, append_assoc}
 use Rattle.std.proofs.lemmas.List.{length-map}
 use Rattle.mg_model.specs.declared.slots.Pw.{Pw}
 use Rattle.mg_model.specs.Bytes.{padded_to, words_bytes}
@@ -12,33 +13,18 @@ pub head-spelled : (row : ObjectRow) (new mid old ext entries : List ℕ) (passw
     → mid ≡ old ++ words_bytes (1 ∷ base ∷ pages ∷ account ∷ length passwords ∷ length entries ∷ []) → new ≡ mid ++ words_bytes ext
     → base ≡ row.base → pages ≡ row.pages → account ≡ row.account → passwords ≡ row.passwords → entries ≡ row.entries → ext ≡ extension_words row.extension
     → new ++ replicate 8 0 ≡ padded_to 80 (object_head row)
-head-spelled row new mid old ext entries passwords base pages account e_old e_mid e_new b p a pws es x =
-    let words = 1 ∷ base ∷ pages ∷ account ∷ length passwords ∷ length entries ∷ [] in
-    let same : words ≡ 1 ∷ row.base ∷ row.pages ∷ row.account ∷ length row.passwords ∷ length row.entries ∷ [] = cc in
-    ap (λ v. v ++ replicate 8 0) (e_new
-    ∙ ap (λ m. m ++ words_bytes ext) (e_mid ∙ ap (λ o. o ++ words_bytes words) e_old ∙ ap words_bytes same)
-    ∙ ap (λ v. words_bytes (1 ∷ row.base ∷ row.pages ∷ row.account ∷ length row.passwords ∷ length row.entries ∷ []) ++ words_bytes v) x)
+head-spelled row new mid old ext entries passwords base pages account e_old e_mid e_new b p a pws es x = grind arith
 
 -- what is added, and the zeros that fill it up
 pub padded : (new mid old part : List ℕ) (n used : ℕ) → mid ≡ old ++ part → length part ≡ used → new ≡ mid ++ replicate (n - used) 0 → new ≡ old ++ padded_to n part
-padded new mid old part n used e_mid long e_new =
-    e_new ∙ ap (λ m. m ++ replicate (n - used) 0) e_mid ∙ append_assoc old part (replicate (n - used) 0) ∙ ap (λ k. old ++ (part ++ replicate (n - k) 0)) (sym long)
+padded new mid old part n used e_mid long e_new = grind (arith, append_assoc)
 
 pub length-words : {X : Type 0} (f : X → ℕ) (xs : List X) → length (words_bytes (map f xs)) ≡ 8 * length xs
 length-words f xs = length-words_bytes (map f xs) ∙ ap (λ n. 8 * n) (length-map xs f)
 
 -- parts that are added one by one
 five_parts : (s1 s2 s3 s4 s5 a b c d e z : List ℕ) → s1 ≡ a → s2 ≡ s1 ++ b → s3 ≡ s2 ++ c → s4 ≡ s3 ++ d → s5 ≡ s4 ++ e → s5 ++ z ≡ a ++ (b ++ (c ++ (d ++ (e ++ z))))
-five_parts s1 s2 s3 s4 s5 a b c d e z e1 e2 e3 e4 e5 =
-    ap (λ v. v ++ z) e5
-    ∙ append_assoc s4 e z
-    ∙ ap (λ v. v ++ (e ++ z)) e4
-    ∙ append_assoc s3 d (e ++ z)
-    ∙ ap (λ v. v ++ (d ++ (e ++ z))) e3
-    ∙ append_assoc s2 c (d ++ (e ++ z))
-    ∙ ap (λ v. v ++ (c ++ (d ++ (e ++ z)))) e2
-    ∙ append_assoc s1 b (c ++ (d ++ (e ++ z)))
-    ∙ ap (λ v. v ++ (b ++ (c ++ (d ++ (e ++ z))))) e1
+five_parts s1 s2 s3 s4 s5 a b c d e z e1 e2 e3 e4 e5 = grind (arith, append_assoc)
 
 pub object-spelled : (row : ObjectRow) (s1 s2 s3 s4 s5 es : List ℕ) (ps rs us : List Pw) → ps ≡ row.passwords → rs ≡ row.passwords → es ≡ row.entries → us ≡ row.passwords
     → s1 ≡ padded_to 80 (object_head row)

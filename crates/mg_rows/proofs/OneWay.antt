@@ -1,8 +1,8 @@
 -- A row that is read from bytes is in its ranges, and writing it gives those bytes.
-use Rattle.std.specs.Prelude.{◌≡◌, ◌+◌, ◌*◌, ◌<◌, ◌==◌, ◌&&◌, ℕ, zero, suc, Bool, true, not, All, List, [], ◌∷◌, drop, get_or, length, min, slice_index, Option, Some, None}
+use Rattle.std.specs.Prelude.{◌≡◌, ◌+◌, ◌*◌, ◌<◌, ◌==◌, ◌&&◌, ℕ, zero, suc, Bool, true, not, All, List, [], ◌∷◌, drop, get_or, min, slice_index, Option, Some, None}
 use Rattle.std.specs.List.{list_all}
 use Rattle.std.specs.Option.{ForSome, option_map_or}
-use Rattle.std.proofs.Common.{refl, sym, ap, subst, ◌∙◌, ⊎_elim, arith}
+use Rattle.std.proofs.Common.{refl, sym, ap, subst, ◌∙◌, arith}
 use Rattle.std.proofs.lemmas.Bool.{and_parts, cases_lt, cond_both, eqb-true, leb-true, ltb-true, not-true, eqb-false}
 use Rattle.std.proofs.lemmas.Bool.Decides.{nat_tests}
 use Rattle.std.proofs.lemmas.List.{get_or-drop, get_or-take, get_or_past}
@@ -12,7 +12,7 @@ use Rattle.mg_model.specs.declared.accounts.AccRow.{AccRow}
 use Rattle.mg_model.specs.declared.slots.Pw.{Pw}
 use Rattle.mg_model.specs.declared.slots.Slot.{Slot}
 use Rattle.mg_model.specs.Abbreviations.{extension_at, is_call_frame}
-use Rattle.mg_model.specs.Bytes.{are_zeros, bytes_at, number_at, numbers_at}
+use Rattle.mg_model.specs.Bytes.{bytes_at, number_at, numbers_at}
 use Rattle.mg_model.specs.PasswordRows.{IsPassword}
 use Rattle.mg_model.specs.Ranges.{IsCallFrame, IsCounters, IsExtension, IsObjectRow, IsSlot, IsThreadRow, IsWord}
 use Rattle.mg_model.specs.Spelling.{Read, account_bytes, account_fields, account_read, frame_at, frames_at, free_or, globals_bytes, globals_fields, globals_read, live_if, object_bytes, object_fields, object_read, passwords_at, slots_at, thread_bytes, thread_fields, thread_read}
@@ -36,11 +36,6 @@ same-bytes (x ∷ xs) (y ∷ ys) h =
     let rest : xs ≡ ys = same-bytes xs ys parts.1 in
     cc
 
-live-some : {R : Type 0} (o : Read R) (row : R) → live o ≡ Some row → o ≡ Some (Some row)
-live-some None row is = absurd (cc)
-live-some (Some None) row is = absurd (cc)
-live-some (Some (Some r)) row is = ap (λ v. Some v) is
-
 -- what is known of a row that was read
 record Told {R : Type 0} (fields : List ℕ → R) (rule : R → Bool) (write : R → List ℕ) (bytes : List ℕ) (row : R) : Type 0 where
   same : fields bytes ≡ row
@@ -48,26 +43,15 @@ record Told {R : Type 0} (fields : List ℕ → R) (rule : R → Bool) (write : 
   written : write row ≡ bytes
 
 test-told : {R : Type 0} (fields : List ℕ → R) (rule : R → Bool) (write : R → List ℕ) (bytes : List ℕ) (row : R) → (rule (fields bytes) && same_bytes (write (fields bytes)) bytes) ≡ true → fields bytes ≡ row → Told fields rule write bytes row
-test-told fields rule write bytes row passes same =
-    let parts = and_parts (rule (fields bytes)) (same_bytes (write (fields bytes)) bytes) passes in
-    record { same = same; keeps = parts.0; written = ap write (sym same) ∙ same-bytes (write (fields bytes)) bytes parts.1 }
+test-told fields rule write bytes row passes same = grind (arith, and_parts, same-bytes)
 
 told : {R : Type 0} (fields : List ℕ → R) (rule : R → Bool) (write : R → List ℕ) (bytes : List ℕ) (row : R)
     → live (free_or bytes (live_if (rule (fields bytes)) (write (fields bytes)) bytes (fields bytes))) ≡ Some row → Told fields rule write bytes row
-told {R} fields rule write bytes row is =
-    let T = Told fields rule write bytes row in
-    cond_both (are_zeros bytes) (Some None) (live_if (rule (fields bytes)) (write (fields bytes)) bytes (fields bytes)) (λ (o : Read R). live o ≡ Some row → T)
-    (λ _ e. absurd (cc))
-    (λ _ e. cond_both (rule (fields bytes) && same_bytes (write (fields bytes)) bytes) (Some (Some (fields bytes))) None (λ (o : Read R). live o ≡ Some row → T)
-    (λ passes e. test-told fields rule write bytes row passes (same_Some _ _ e))
-    (λ _ e. absurd (cc))
-    e)
-    is
+told {R} fields rule write bytes row is = grind (arith, cond_both, test-told, same_Some)
 
 -- numbers of 64 bits
 byte-below : (bytes : List ℕ) (k : ℕ) → All IsByte bytes → get_or bytes k 0 < 256
-byte-below bytes k all =
-    ⊎_elim (λ within. all k 0 within) (λ past. subst IsByte (sym (get_or_past bytes k 0 past)) (omega arith)) (cases_lt k (length bytes))
+byte-below bytes k all = grind (arith, get_or_past, cases_lt)
 
 number-word : (bytes : List ℕ) (at : ℕ) → All IsByte bytes → IsWord (number_at bytes at)
 number-word bytes at all =
@@ -166,20 +150,10 @@ objects-one_way = record {
 -- threads
 slots-range : (bytes : List ℕ) (at n : ℕ) → All IsByte bytes → All IsSlot (slots_at bytes at n)
 slots-range bytes at zero all = All-nil IsSlot
-slots-range bytes at (suc n) all =
-    All-cons IsSlot (record { base = number_at bytes at; password = number_at bytes (at + 8) }) (slots_at bytes (at + 16) n)
-    (record { base = number-word bytes at all; password = number-word bytes (at + 8) all })
-    (slots-range bytes (at + 16) n all)
+slots-range bytes at (suc n) all = grind (arith, (slots-range bytes (at + 16) n all), All-cons, number-word)
 
 frame-range : (bytes : List ℕ) (at : ℕ) → All IsByte bytes → is_call_frame (frame_at bytes at) ≡ true → IsCallFrame (frame_at bytes at)
-frame-range bytes at all t =
-    let parts = and_parts _ _ t in
-    record {
-      back = number-word bytes at all;
-      aligned = eqb-true _ _ parts.0;
-      few = leb-true _ _ parts.1;
-      slots = slots-range bytes (at + 16) (min (number_at bytes (at + 8)) 9) all;
-    }
+frame-range bytes at all t = grind (arith, and_parts, number-word, eqb-true, leb-true, slots-range)
 
 frames-range : (bytes : List ℕ) (at n : ℕ) → All IsByte bytes → list_all is_call_frame (frames_at bytes at n) ≡ true → All IsCallFrame (frames_at bytes at n)
 frames-range bytes at zero all t = All-nil IsCallFrame

@@ -1,5 +1,5 @@
 -- A list that is filled up twice.
-use Rattle.std.specs.Prelude.{◌≡◌, ◌≤◌, ◌+◌, ◌-◌, ℕ, List, ◌++◌, length, replicate}
+use Rattle.std.specs.Prelude.{◌≡◌, ◌≤◌, ◌+◌, ℕ, List, ◌++◌, length, replicate}
 use Rattle.std.proofs.Common.{ap, ◌∙◌, arith, append_assoc}
 use Rattle.std.proofs.lemmas.List.{replicate-append-replicate}
 use Rattle.mg_model.specs.Bytes.{padded_to}
@@ -9,7 +9,4 @@ zeros-joined : (bytes : List ℕ) (a b k : ℕ) → a + b ≡ k → bytes ++ (re
 zeros-joined bytes a b k is = ap (λ v. bytes ++ v) (replicate-append-replicate a b 0) ∙ ap (λ n. bytes ++ replicate n 0) is
 
 pub padded_twice : (n m : ℕ) (bytes : List ℕ) → length bytes ≤ n → n ≤ m → padded_to m (padded_to n bytes) ≡ padded_to m bytes
-padded_twice n m bytes few below =
-    ap (λ k. padded_to n bytes ++ replicate (m - k) 0) (length-padded_to n bytes few)
-    ∙ append_assoc bytes (replicate (n - length bytes) 0) (replicate (m - n) 0)
-    ∙ zeros-joined bytes (n - length bytes) (m - n) (m - length bytes) (omega arith)
+padded_twice n m bytes few below = grind (arith, length-padded_to, append_assoc, zeros-joined)

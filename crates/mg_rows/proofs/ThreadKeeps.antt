@@ -1,4 +1,5 @@
 -- What a thread's row keeps, as the test that computes.
+use Rattle.std.proofs.Common.{arith}
 use Rattle.std.proofs.Common.{◌≡◌, nat_le, nat_lt, ◌==◌, ◌%◌, true, [], ◌∷◌, List, All, length, refl}
 use Rattle.std.specs.List.{list_all}
 use Rattle.std.proofs.lemmas.Bool.{and_from, eq-eqb, le-leb, lt-ltb}
@@ -14,7 +15,7 @@ frame-keeps frame is = and_from (frame.back % 8 == 0) (nat_le (length frame.slot
 frames-keep : (frames : List CallFrame) → All IsCallFrame frames → list_all is_call_frame frames ≡ true
 frames-keep [] all = refl
 frames-keep (frame ∷ frames) all =
-    and_from (is_call_frame frame) (list_all is_call_frame frames) (frame-keeps frame (All-head IsCallFrame frame frames all)) (frames-keep frames (All-tail IsCallFrame frame frames all))
+    grind (arith, (frames-keep frames (All-tail IsCallFrame frame frames all)), and_from, frame-keeps, All-head, All-tail)
 
 -- a row that keeps what `Ranges` says passes the test
 pub thread-keeps : (row : ThreadRow) → IsThreadRow row → is_thread_row row ≡ true

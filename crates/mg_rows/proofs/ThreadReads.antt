@@ -1,5 +1,5 @@
 -- What a reader of a thread finds, part by part.
-use Rattle.std.proofs.Common.{◌≡◌, ◌≢◌, ◌≤◌, ◌<◌, ◌+◌, ◌*◌, ◌%◌, ◌==◌, ◌&&◌, ◌++◌, [], ◌∷◌, ℕ, zero, suc, min, nat_le, nat_lt, get_or, Bool, true, false, List, length, drop, if◌then◌else◌, replicate, Option, Some, None, refl, sym, ap, subst, ◌∙◌, arith, append_assoc, add-one}
+use Rattle.std.proofs.Common.{◌≡◌, ◌≢◌, ◌≤◌, ◌<◌, ◌+◌, ◌*◌, ◌%◌, ◌==◌, ◌&&◌, ◌++◌, [], ◌∷◌, ℕ, zero, suc, min, nat_le, get_or, Bool, true, false, List, length, drop, if◌then◌else◌, replicate, Option, Some, None, refl, sym, ap, subst, ◌∙◌, arith, append_assoc, add-one}
 use Rattle.std.specs.List.{list_all}
 use Rattle.std.proofs.Math.ListN.{set}
 use Rattle.std.proofs.Math.Seq.{drop-cons, set-append_seam}
@@ -42,9 +42,7 @@ module _ {R : Type 0} (fields : List ℕ → R) (rule : R → Bool) (write : R �
   read = free_or bytes (live_if (rule (fields bytes)) (write (fields bytes)) bytes (fields bytes))
 
   reads : (answer : Bool) → (rule (fields bytes) && same_bytes (write (fields bytes)) bytes) ≡ answer → read ≡ (if answer then Some (Some (fields bytes)) else None)
-  reads answer is =
-      ap (λ t. if t then Some None else live_if (rule (fields bytes)) (write (fields bytes)) bytes (fields bytes)) some
-      ∙ ap (λ t. if t then Some (Some (fields bytes)) else None) is
+  reads answer is = grind arith
 
   pub row-none : None ≡ (if rule (fields bytes) then Some (fields bytes) else None) → None ≡ read
   row-none found = sym (reads false (and_left (rule (fields bytes)) (same_bytes (write (fields bytes)) bytes) (none-is (rule (fields bytes)) (fields bytes) found)))
@@ -54,9 +52,7 @@ module _ {R : Type 0} (fields : List ℕ → R) (rule : R → Bool) (write : R �
     are = some-are (rule (fields bytes)) row (fields bytes) found
 
     pub row-some : same_bytes (write row) bytes ≡ true → Some (Some row) ≡ read
-    row-some same =
-        ap (λ v. Some (Some v)) are.same
-        ∙ sym (reads true (and_from (rule (fields bytes)) (same_bytes (write (fields bytes)) bytes) are.kept (subst (λ (r : R). same_bytes (write r) bytes ≡ true) are.same same)))
+    row-some same = grind (arith, are, reads, and_from)
 
     pub row-other : same_bytes (write row) bytes ≡ false → None ≡ read
     row-other differ = sym (reads false (and_right (rule (fields bytes)) (same_bytes (write (fields bytes)) bytes) (subst (λ (r : R). same_bytes (write r) bytes ≡ false) are.same differ)))
@@ -115,19 +111,11 @@ module _ (bytes : List ℕ) where
 
   -- the rule of a frame
   pub frame-kept : (at : ℕ) → number_at bytes at % 8 ≡ 0 → number_at bytes (at + 8) ≤ 8 → is_call_frame (frame_at bytes at) ≡ true
-  frame-kept at aligned few =
-      let n = min (number_at bytes (at + 8)) 9 in
-      let long : length (slots_at bytes (at + 16) n) ≡ n = length-slots_at (at + 16) n in
-      and_from (number_at bytes at % 8 == 0) (nat_le (length (slots_at bytes (at + 16) n)) 8) (eq-eqb (number_at bytes at % 8) 0 aligned) (le-leb (length (slots_at bytes (at + 16) n)) 8 (omega arith))
+  frame-kept at aligned few = grind (arith, length-slots_at, and_from, eq-eqb, le-leb)
 
   pub frame-same : (frame : CallFrame) (at back count : ℕ) → back ≡ number_at bytes at → count ≡ number_at bytes (at + 8) → count ≤ 8 → frame ≡ record { back = back; slots = slots_at bytes (at + 16) count }
       → frame ≡ frame_at bytes at
-  frame-same frame at back count e_back e_count few is =
-      let least : count ≡ min count 9 = omega arith in
-      is
-      ∙ ap (λ (v : ℕ). record { back = v; slots = slots_at bytes (at + 16) count }) e_back
-      ∙ ap (λ (n : ℕ). record { back = number_at bytes at; slots = slots_at bytes (at + 16) n }) least
-      ∙ ap (λ (n : ℕ). record { back = number_at bytes at; slots = slots_at bytes (at + 16) (min n 9) }) e_count
+  frame-same frame at back count e_back e_count few is = grind arith
 
   -- the rule of frames
   pub frames-broken : (at n j o : ℕ) → j < n → o ≡ at + 144 * j → is_call_frame (frame_at bytes o) ≡ false → list_all is_call_frame (frames_at bytes at n) ≡ false
@@ -135,14 +123,10 @@ module _ (bytes : List ℕ) where
   frames-broken at (suc n) zero o within is broken =
       let e : o ≡ at = omega arith in
       and_left (is_call_frame (frame_at bytes at)) (list_all is_call_frame (frames_at bytes (at + 144) n)) (ap (λ v. is_call_frame (frame_at bytes v)) (sym e) ∙ broken)
-  frames-broken at (suc n) (suc j) o within is broken =
-      and_right (is_call_frame (frame_at bytes at)) (list_all is_call_frame (frames_at bytes (at + 144) n)) (frames-broken (at + 144) n j o (omega arith) (omega arith) broken)
+  frames-broken at (suc n) (suc j) o within is broken = grind (arith, (frames-broken (at + 144) n j o (omega arith) (omega arith) broken), and_right)
 
   pub frames-kept : (n o : ℕ) → o ≡ 128 + 144 * n → list_all is_call_frame (frames_at bytes 128 n) ≡ true → is_call_frame (frame_at bytes o) ≡ true → list_all is_call_frame (frames_at bytes 128 (n + 1)) ≡ true
-  frames-kept n o is kept here =
-      ap (list_all is_call_frame) (frames_at-more 128 n o is)
-      ∙ list_all-append is_call_frame (frames_at bytes 128 n) (frame_at bytes o ∷ [])
-      ∙ and_from (list_all is_call_frame (frames_at bytes 128 n)) (is_call_frame (frame_at bytes o) && true) kept (and_from (is_call_frame (frame_at bytes o)) true here refl)
+  frames-kept n o is kept here = grind (arith, frames_at-more, list_all-append, and_from)
 
   -- the rule of a thread, if the count is in its range
   rules-join : (x f l z : Bool) → (x && true && (f && l) && z) ≡ (x && f && z && (f && l))
@@ -155,43 +139,23 @@ module _ (bytes : List ℕ) where
 
   rules-meet : (n : ℕ) → 1 ≤ n → n ≤ 16 → is_thread_row (with_frames bytes n) ≡ (begins bytes && list_all is_call_frame (frames_at bytes 128 n))
   rules-meet zero some few = absurd (omega arith)
-  rules-meet (suc n) some few =
-      let x = nat_lt (number_at bytes 16) (number_at bytes 8) && number_at bytes 24 % 8 == 0 in
-      let f = is_call_frame (frame_at bytes 128) in
-      let l = list_all is_call_frame (frames_at bytes 272 n) in
-      let z = number_at bytes 128 == 0 in
-      let long : length (frames_at bytes 128 (suc n)) ≡ suc n = length-frames_at 128 (suc n) in
-      let count : (nat_le 1 (length (frames_at bytes 128 (suc n))) && nat_le (length (frames_at bytes 128 (suc n))) 16) ≡ true =
-      and_from _ _ (le-leb 1 (length (frames_at bytes 128 (suc n))) (omega arith)) (le-leb (length (frames_at bytes 128 (suc n))) 16 (omega arith)) in
-      ap (λ t. x && t && (f && l) && z) count ∙ rules-join x f l z
+  rules-meet (suc n) some few = grind (arith, length-frames_at, and_from, le-leb, rules-join)
 
   pub fields-few : (n : ℕ) → n ≡ number_at bytes 40 → n ≤ 16 → thread_fields bytes ≡ with_frames bytes n
-  fields-few n is few =
-      let least : min n 17 ≡ n = omega arith in
-      ap (λ k. with_frames bytes (min k 17)) (sym is) ∙ ap (with_frames bytes) least
+  fields-few n is few = grind arith
 
   pub rule-of : (n : ℕ) → n ≡ number_at bytes 40 → 1 ≤ n → n ≤ 16 → is_thread_row (thread_fields bytes) ≡ (begins bytes && list_all is_call_frame (frames_at bytes 128 n))
   rule-of n is some few = ap is_thread_row (fields-few n is few) ∙ rules-meet n some few
 
   -- a count out of its range
   pub count-broken : (n : ℕ) → n ≡ number_at bytes 40 → (nat_le 1 (min n 17) && nat_le (min n 17) 16) ≡ false → is_thread_row (thread_fields bytes) ≡ false
-  count-broken n is broken =
-      let k = min (number_at bytes 40) 17 in
-      let here : (nat_le 1 (length (frames_at bytes 128 k)) && nat_le (length (frames_at bytes 128 k)) 16) ≡ false =
-      ap (λ m. nat_le 1 m && nat_le m 16) (length-frames_at 128 k ∙ ap (λ m. min m 17) (sym is)) ∙ broken in
-      and_left _ _ (and_left _ _ (and_right _ _ here))
+  count-broken n is broken = grind (arith, length-frames_at, and_left, and_right)
 
   -- a slot more in a frame, a register more in a row
   pub frame-more : (old mid new : CallFrame) (at n o base password : ℕ) → o ≡ at + 16 * n → base ≡ number_at bytes o → password ≡ number_at bytes (o + 8)
       → mid ≡ record { back = old.back; slots = slots_at bytes at n } → new ≡ record { back = mid.back; slots = mid.slots ++ record { base = base; password = password } ∷ [] }
       → new ≡ record { back = old.back; slots = slots_at bytes at (n + 1) }
-  frame-more old mid new at n o base password is e_base e_password e_mid e_new =
-      let more = slots_at-more at n o is in
-      e_new
-      ∙ ap (λ (m : CallFrame). record { back = m.back; slots = m.slots ++ record { base = base; password = password } ∷ [] }) e_mid
-      ∙ ap (λ (b : ℕ). record { back = old.back; slots = slots_at bytes at n ++ record { base = b; password = password } ∷ [] }) e_base
-      ∙ ap (λ (p : ℕ). record { back = old.back; slots = slots_at bytes at n ++ record { base = number_at bytes o; password = p } ∷ [] }) e_password
-      ∙ ap (λ (v : List Slot). record { back = old.back; slots = v }) (sym more)
+  frame-more old mid new at n o base password is e_base e_password e_mid e_new = grind (arith, slots_at-more)
 
   abbrev with_registers : ThreadRow → List ℕ → ThreadRow
   with_registers row registers = record row { regs = registers }
@@ -199,85 +163,39 @@ module _ (bytes : List ℕ) where
   pub row-more : (old mid new : ThreadRow) (i v : ℕ) → i < length old.regs → v ≡ number_at bytes (64 + 8 * i)
       → mid ≡ with_registers old (numbers_at bytes 64 i ++ drop i old.regs) → new ≡ with_registers mid (set mid.regs i v)
       → new ≡ with_registers old (numbers_at bytes 64 (i + 1) ++ drop (i + 1) old.regs)
-  row-more old mid new i v within is e_mid e_new =
-      e_new
-      ∙ ap (λ (m : ThreadRow). with_registers m (set m.regs i v)) e_mid
-      ∙ ap (with_registers old) (register-more old.regs i v within is)
+  row-more old mid new i v within is e_mid e_new = grind (arith, set, register-more)
 
   pub row-registers : (old new : ThreadRow) (n : ℕ) → n ≡ 8 → length old.regs ≡ 8 → new ≡ with_registers old (numbers_at bytes 64 n ++ drop n old.regs) → new ≡ with_registers old (numbers_at bytes 64 8)
-  row-registers old new n is eight e_new =
-      let all : length old.regs ≤ n = omega arith in
-      e_new
-      ∙ ap (λ v. with_registers old (numbers_at bytes 64 n ++ v)) (drop_all n old.regs all)
-      ∙ ap (with_registers old) (append-nil (numbers_at bytes 64 n))
-      ∙ ap (λ k. with_registers old (numbers_at bytes 64 k)) is
-
-  -- a frame more in a row
-  abbrev with_list : List CallFrame → ThreadRow
-  with_list frames = record (with_frames bytes 1) { frames = frames }
+  row-registers old new n is eight e_new = grind (arith, drop_all, append-nil)
 
   pub thread-more : (old new : ThreadRow) (frame : CallFrame) (n o : ℕ) → o ≡ 128 + 144 * n → old ≡ with_frames bytes n → frame ≡ frame_at bytes o
       → new ≡ record old { frames = old.frames ++ frame ∷ [] } → new ≡ with_frames bytes (n + 1)
-  thread-more old new frame n o is e_old e_frame e_new =
-      let more = frames_at-more 128 n o is in
-      e_new
-      ∙ ap (λ (m : ThreadRow). record m { frames = m.frames ++ frame ∷ [] }) e_old
-      ∙ ap (λ (f : CallFrame). with_list (frames_at bytes 128 n ++ f ∷ [])) e_frame
-      ∙ ap with_list (sym more)
+  thread-more old new frame n o is e_old e_frame e_new = grind (arith, frames_at-more)
 
   -- the rule of the parts before the later frames
   pub begins-creator : number_at bytes 8 ≤ number_at bytes 16 → begins bytes ≡ false
-  begins-creator high =
-      let a = nat_lt (number_at bytes 16) (number_at bytes 8) in
-      let p = number_at bytes 24 % 8 == 0 in
-      let f = is_call_frame (frame_at bytes 128) in
-      and_left (a && p && f) (number_at bytes 128 == 0) (and_left (a && p) f (and_left a p (le-ltb (number_at bytes 16) (number_at bytes 8) high)))
+  begins-creator high = grind (arith, and_left, le-ltb)
 
   pub begins-pc : number_at bytes 24 % 8 ≢ 0 → begins bytes ≡ false
-  begins-pc odd =
-      let a = nat_lt (number_at bytes 16) (number_at bytes 8) in
-      let p = number_at bytes 24 % 8 == 0 in
-      let f = is_call_frame (frame_at bytes 128) in
-      and_left (a && p && f) (number_at bytes 128 == 0) (and_left (a && p) f (and_right a p (ne_eqb (number_at bytes 24 % 8) 0 odd)))
+  begins-pc odd = grind (arith, and_left, and_right, ne_eqb)
 
   pub begins-frame : is_call_frame (frame_at bytes 128) ≡ false → begins bytes ≡ false
-  begins-frame broken =
-      let a = nat_lt (number_at bytes 16) (number_at bytes 8) in
-      let p = number_at bytes 24 % 8 == 0 in
-      let f = is_call_frame (frame_at bytes 128) in
-      and_left (a && p && f) (number_at bytes 128 == 0) (and_right (a && p) f broken)
+  begins-frame broken = grind (arith, and_left, and_right)
 
   pub begins-back : (number_at bytes 128 == 0) ≡ false → begins bytes ≡ false
-  begins-back elsewhere =
-      let a = nat_lt (number_at bytes 16) (number_at bytes 8) in
-      let p = number_at bytes 24 % 8 == 0 in
-      let f = is_call_frame (frame_at bytes 128) in
-      and_right (a && p && f) (number_at bytes 128 == 0) elsewhere
+  begins-back elsewhere = grind (arith, and_right)
 
   pub begins-all : number_at bytes 16 < number_at bytes 8 → number_at bytes 24 % 8 ≡ 0 → is_call_frame (frame_at bytes 128) ≡ true → (number_at bytes 128 == 0) ≡ true → begins bytes ≡ true
-  begins-all low even kept bottom =
-      let a = nat_lt (number_at bytes 16) (number_at bytes 8) in
-      let p = number_at bytes 24 % 8 == 0 in
-      let f = is_call_frame (frame_at bytes 128) in
-      and_from (a && p && f) (number_at bytes 128 == 0)
-      (and_from (a && p) f (and_from a p (lt-ltb (number_at bytes 16) (number_at bytes 8) low) (eq-eqb (number_at bytes 24 % 8) 0 even)) kept)
-      bottom
+  begins-all low even kept bottom = grind (arith, and_from, lt-ltb, eq-eqb)
 
   pub begins-first : begins bytes ≡ true → is_call_frame (frame_at bytes 128) ≡ true
-  begins-first is =
-      let a = nat_lt (number_at bytes 16) (number_at bytes 8) in
-      let p = number_at bytes 24 % 8 == 0 in
-      let f = is_call_frame (frame_at bytes 128) in
-      (and_parts (a && p) f (and_parts (a && p && f) (number_at bytes 128 == 0) is).0).1
+  begins-first is = grind (arith, and_parts)
 
   pub row-begun : (new row : ThreadRow) (first : CallFrame) (birth creator pc : ℕ) (state : ThrState)
       → new ≡ with_registers row (numbers_at bytes 64 8) → row ≡ record { birth = birth; creator = creator; pc = pc; state = state; regs = replicate 8 0; frames = first ∷ [] }
       → birth ≡ number_at bytes 8 → creator ≡ number_at bytes 16 → pc ≡ number_at bytes 24 → state ≡ state_numbered (number_at bytes 32) → first ≡ frame_at bytes 128
       → new ≡ with_frames bytes 1
-  row-begun new row first birth creator pc state e_new e_row e_birth e_creator e_pc e_state e_first =
-      e_new
-      ∙ ap (λ (r : ThreadRow). with_registers r (numbers_at bytes 64 8)) e_row
-      ∙ thread_same (record { birth = birth; creator = creator; pc = pc; state = state; regs = numbers_at bytes 64 8; frames = first ∷ [] }) (with_frames bytes 1) e_birth e_creator e_pc e_state refl (ap (λ f. f ∷ []) e_first)
+  row-begun new row first birth creator pc state e_new e_row e_birth e_creator e_pc e_state e_first = grind (arith, thread_same)
 
   -- the answer with the other frames
   pub fields-found : (n : ℕ) (result : Option ThreadRow) → n ≡ number_at bytes 40 → 1 ≤ n → n ≤ 16 → begins bytes ≡ true

@@ -1,4 +1,5 @@
 -- A thread's row as bytes, and what is read from them.
+use Rattle.std.proofs.lemmas.Grind.{common_steps}
 use Rattle.std.proofs.Common.{◌≡◌, ◌≤◌, ◌<◌, ◌+◌, ◌*◌, ◌-◌, ◌++◌, [], ◌∷◌, ℕ, zero, suc, min, get_or, take, List, length, flat_map, replicate, All, Some, refl, sym, ap, ◌∙◌, arith, append_assoc, add_assoc, length-append}
 use Rattle.std.proofs.lemmas.Grind.{flat_map-append}
 use Rattle.std.proofs.lemmas.List.{append-nil, take_more}
@@ -49,11 +50,7 @@ length-slot_words (slot ∷ slots) = let e = length-slot_words slots in omega ar
 
 -- a frame
 pub length-frame_bytes : (frame : CallFrame) → length frame.slots ≤ 8 → length (frame_bytes frame) ≡ 144
-length-frame_bytes frame few =
-    let words = frame.back ∷ length frame.slots ∷ flat_map slot_words frame.slots in
-    let long = length-words_bytes words in
-    let slots = length-slot_words frame.slots in
-    length-padded_to 144 (words_bytes words) (omega arith)
+length-frame_bytes frame few = grind (arith, common_steps, length-words_bytes, length-slot_words, length-padded_to)
 
 frame_of : ℕ → List Slot → CallFrame
 frame_of back slots = record { back = back; slots = slots }
@@ -91,9 +88,7 @@ frame_at-behind xs ys n k is =
 -- the frames of a thread
 frames_at-behind : (xs ys : List ℕ) (n k m : ℕ) → length xs ≡ n → frames_at (xs ++ ys) (n + k) m ≡ frames_at ys k m
 frames_at-behind xs ys n k zero is = refl
-frames_at-behind xs ys n k (suc m) is =
-    ap (λ f. f ∷ frames_at (xs ++ ys) (n + k + 144) m) (frame_at-behind xs ys n k is)
-    ∙ ap (λ fs. frame_at ys k ∷ fs) (ap (λ o. frames_at (xs ++ ys) o m) (add_assoc n k 144) ∙ frames_at-behind xs ys n (k + 144) m is)
+frames_at-behind xs ys n k (suc m) is = grind (arith, (frames_at-behind xs ys n (k + 144) m is), frame_at-behind, add_assoc)
 
 frames_at-first : (frames : List CallFrame) (ys : List ℕ) → All IsCallFrame frames → frames_at (flat_map frame_bytes frames ++ ys) 0 (length frames) ≡ frames
 frames_at-first [] ys all = refl
@@ -120,13 +115,7 @@ state-few (Faulted fault.Denied) = omega arith
 state-few (Faulted fault.Opcode) = omega arith
 
 pub thread_same : (a b : ThreadRow) → a.birth ≡ b.birth → a.creator ≡ b.creator → a.pc ≡ b.pc → a.state ≡ b.state → a.regs ≡ b.regs → a.frames ≡ b.frames → a ≡ b
-thread_same a b birth creator pc state registers frames =
-    ap (λ v. record { birth = v; creator = a.creator; pc = a.pc; state = a.state; regs = a.regs; frames = a.frames }) birth
-    ∙ ap (λ v. record { birth = b.birth; creator = v; pc = a.pc; state = a.state; regs = a.regs; frames = a.frames }) creator
-    ∙ ap (λ v. record { birth = b.birth; creator = b.creator; pc = v; state = a.state; regs = a.regs; frames = a.frames }) pc
-    ∙ ap (λ v. record { birth = b.birth; creator = b.creator; pc = b.pc; state = v; regs = a.regs; frames = a.frames }) state
-    ∙ ap (λ v. record { birth = b.birth; creator = b.creator; pc = b.pc; state = b.state; regs = v; frames = a.frames }) registers
-    ∙ ap (λ v. record { birth = b.birth; creator = b.creator; pc = b.pc; state = b.state; regs = b.regs; frames = v }) frames
+thread_same a b birth creator pc state registers frames = grind arith
 
 module _ (row : ThreadRow) (is : IsThreadRow row) where
   -- the head, the registers, and the frames with zeros after them
@@ -182,24 +171,9 @@ thread-back row is = thread-live (thread_bytes row) row refl (fields-back row is
 -- written part by part
 pub added : {X : Type 0} (f : X → List ℕ) (xs : List X) (i : ℕ) (x : X) (new mid old : List ℕ) → i < length xs → x ≡ get_or xs i x → mid ≡ old ++ flat_map f (take i xs) → new ≡ mid ++ f x
     → new ≡ old ++ flat_map f (take (i + 1) xs)
-added f xs i x new mid old within is e_mid e_new =
-    let more : flat_map f (take (i + 1) xs) ≡ flat_map f (take i xs) ++ f x =
-    ap (flat_map f) (take_more xs i x within)
-    ∙ flat_map-append f (take i xs) (get_or xs i x ∷ [])
-    ∙ ap (λ v. flat_map f (take i xs) ++ v) (append-nil (f (get_or xs i x)))
-    ∙ ap (λ v. flat_map f (take i xs) ++ f v) (sym is) in
-    e_new ∙ ap (λ v. v ++ f x) e_mid ∙ append_assoc old (flat_map f (take i xs)) (f x) ∙ ap (λ v. old ++ v) (sym more)
+added f xs i x new mid old within is e_mid e_new = grind (arith, common_steps, take_more, flat_map-append, append-nil, append_assoc)
 
 pub thread-spelled : (row : ThreadRow) (whole s1 s2 s3 registers : List ℕ) (frames : List CallFrame) → whole ≡ padded_to 4096 s3
     → s1 ≡ padded_to 64 (words_bytes (head_words row)) → s2 ≡ s1 ++ words_bytes registers → s3 ≡ s2 ++ flat_map frame_bytes frames
     → registers ≡ row.regs → frames ≡ row.frames → whole ≡ thread_bytes row
-thread-spelled row whole s1 s2 s3 registers frames is e1 e2 e3 e_registers e_frames =
-    let first = padded_to 64 (words_bytes (head_words row)) in
-    is
-    ∙ ap (padded_to 4096) (
-    e3
-    ∙ ap (λ v. v ++ flat_map frame_bytes frames) (e2 ∙ ap (λ v. v ++ words_bytes registers) e1)
-    ∙ append_assoc first (words_bytes registers) (flat_map frame_bytes frames)
-    ∙ ap (λ (v : List ℕ). first ++ (words_bytes v ++ flat_map frame_bytes frames)) e_registers
-    ∙ ap (λ (v : List CallFrame). first ++ (words_bytes row.regs ++ flat_map frame_bytes v)) e_frames)
-    ∙ padded_to-append 64 4032 first (words_bytes row.regs ++ flat_map frame_bytes row.frames) refl
+thread-spelled row whole s1 s2 s3 registers frames is e1 e2 e3 e_registers e_frames = grind (arith, append_assoc, padded_to-append)

@@ -1,19 +1,16 @@
-use Rattle.std.proofs.Common.{◌≡◌, false, sym, ◌∙◌}
-use Rattle.mg_model.specs.Bytes.{are_zeros}
-use Rattle.mg_rows.proofs.ObjectWhole.{bytes_agree, bytes_differ, fields_fail}
+use Rattle.std.proofs.Common.{sym, ◌∙◌}
+use Rattle.mg_model.specs.Spelling.{object_bytes, object_fields}
+use Rattle.mg_model.specs.Tests.{is_object_row}
+use Rattle.mg_rows.proofs.ThreadReads.{row-none, row-other, row-some}
 use Rattle.mg_rows.proofs.objects.read_object.Goals as goal
 
 pub returns-then-is_spelling : goal.returns-then-is_spelling
 returns-then-is_spelling c =
-    let some : are_zeros c.args.bytes.now ≡ false = sym c.are_zeros.ensures ∙ c.if-are_zeros.false in
-    sym (bytes_agree c.args.bytes.now some c.in-Some.row c.in-Some.ensures (sym c.is_spelling.ensures ∙ c.if-is_spelling.true))
+    row-some object_fields is_object_row object_bytes c.args.bytes.now (sym c.are_zeros.ensures ∙ c.if-are_zeros.false) c.in-Some.row c.in-Some.ensures (sym c.is_spelling.ensures ∙ c.if-is_spelling.true)
 
 pub returns-else-is_spelling : goal.returns-else-is_spelling
 returns-else-is_spelling c =
-    let some : are_zeros c.args.bytes.now ≡ false = sym c.are_zeros.ensures ∙ c.if-are_zeros.false in
-    sym (bytes_differ c.args.bytes.now some c.in-Some.row c.in-Some.ensures (sym c.is_spelling.ensures ∙ c.if-is_spelling.false))
+    row-other object_fields is_object_row object_bytes c.args.bytes.now (sym c.are_zeros.ensures ∙ c.if-are_zeros.false) c.in-Some.row c.in-Some.ensures (sym c.is_spelling.ensures ∙ c.if-is_spelling.false)
 
 pub returns-in-None : goal.returns-in-None
-returns-in-None c =
-    let some : are_zeros c.args.bytes.now ≡ false = sym c.are_zeros.ensures ∙ c.if-are_zeros.false in
-    sym (fields_fail c.args.bytes.now some c.in-None.ensures)
+returns-in-None c = row-none object_fields is_object_row object_bytes c.args.bytes.now (sym c.are_zeros.ensures ∙ c.if-are_zeros.false) c.in-None.ensures

@@ -5,16 +5,12 @@ use Rattle.mg_rows.proofs.Padded.{padded_twice}
 use Rattle.mg_rows.proofs.ThreadRows.{thread-back, thread-spelled}
 use Rattle.mg_rows.proofs.threads.thread_start.Goals as goal
 
-is_spelled : (c : goal.After-whole) → padded_to 4096 c.whole.result ≡ thread_bytes c.args.row.now
-is_spelled c =
+pub returns : goal.returns
+returns c =
     let bytes = c.add_frames.new.filling in
+    let is : padded_to 4096 c.whole.result ≡ thread_bytes c.args.row.now =
     ap (padded_to 4096) c.whole.ensures
     ∙ padded_twice 704 4096 bytes (search rules) (omega arith)
     ∙ thread-spelled c.args.row.now (padded_to 4096 bytes) c.add_head.new.filling c.add_words.new.self bytes c.regs.result c.frames.result.now
-    refl c.add_head.ensures.spelled c.add_words.ensures.value c.add_frames.ensures.value c.regs.ensures c.frames.ensures
-
-pub returns-clause-spelled : goal.returns-clause-spelled
-returns-clause-spelled c = is_spelled c
-
-pub returns-clause-read_back : goal.returns-clause-read_back
-returns-clause-read_back c = ap thread_read (is_spelled c) ∙ thread-back c.args.row.now c.add_head.ensures.kept
+    refl c.add_head.ensures.spelled c.add_words.ensures.value c.add_frames.ensures.value c.regs.ensures c.frames.ensures in
+    record { spelled = is; read_back = ap thread_read is ∙ thread-back c.args.row.now c.add_head.ensures.kept }
