@@ -1,13 +1,12 @@
 -- What a step must keep so that a seat stays backed, and the changes of objects that keep it.
-use Rattle.std.proofs.Common.{ℕ, zero, suc, ◌+◌, ◌*◌, ◌≤◌, ◌≡◌, ◌&&◌, ◌/◌, ◌-◌, Bool, true, false, cond, eqb, leb, ltb, min, List, [], Option, Some, None, refl, sym, ap, ◌∙◌, subst, arith, Contains}
-use Rattle.std.proofs.lemmas.Bool.{and_from, and_parts, cond_both, eqb-true, false≢true, le-leb, leb-true, ltb-false}
+use Rattle.std.proofs.Common.{ℕ, zero, suc, ◌+◌, ◌*◌, ◌≤◌, ◌≡◌, ◌&&◌, ◌/◌, ◌-◌, Bool, true, false, cond, eqb, leb, ltb, List, [], Option, Some, None, refl, sym, subst, arith, Contains}
+use Rattle.std.proofs.lemmas.Bool.{and_from, and_parts, cond_both, eqb-true, le-leb, leb-true, ltb-false}
 use Rattle.std.proofs.Math.Seq.{get_or-set_other}
 use Rattle.std.specs.Prelude.{find, slice_index, slice_set}
 use Rattle.std.specs.Option.{option_map_or}
 use Rattle.mg_laws.proofs.Finds.{pass-map, read-map}
 use Rattle.mg_model.specs.declared.replies.Refusal.{Refusal}
 use Rattle.mg_model.specs.declared.rights.Right.{Right}
-use Rattle.mg_model.specs.declared.rights.Right.TheVariants.{R}
 use Rattle.mg_model.specs.declared.seats.Seat.{Seat}
 use Rattle.mg_model.specs.declared.slots.Slot.{Slot}
 use Rattle.mg_model.specs.Access.{based_at, covers, domain_of, entries_from, entries_of, holds, last_slots}
@@ -33,16 +32,7 @@ pub record KeepsParts (old new : State) (seat : Seat) : Type 0 where
   pub held : KeepsHeld old new seat.base
 
 pub backed_from : (old new : State) (seat : Seat) → KeepsParts old new seat → IsBacked old seat → IsBacked new seat
-backed_from old new seat keeps backed = record {
-  slot = backed.slot;
-  slots = keeps.slots backed.slot backed.slots;
-  via = backed.via;
-  opened = keeps.opened backed.slot.password R backed.opened;
-  entry = backed.entry;
-  entries = subst (λ (entries : List (ℕ × ℕ)). Contains entries backed.entry) (sym keeps.entries) backed.entries;
-  base = backed.base;
-  held = keeps.held backed.entry.1 seat.right backed.held;
-}
+backed_from old new seat keeps backed = grind arith
 
 -- a row of the table: if it is refused nothing changes
 pub unless_refused-backed : (ended : Seat → Bool) (state : State) (refused : Option Refusal) (done : Answer) → (refused ≡ None → KeepsBacked ended state done.0) → KeepsBacked ended state (unless_refused refused state done).0
@@ -74,9 +64,7 @@ entries_from-set words i value j (suc n) high =
     rw (first, second, rest) refl
 
 entries_of-set : (words : List ℕ) (i value : ℕ) → 512 ≤ i → entries_of (slice_set words i value) ≡ entries_of words
-entries_of-set words i value high =
-    let count : slice_index (slice_set words i value) 0 ≡ slice_index words 0 = get_or-set_other words i 0 value 0 (omega arith) in
-    ap (λ (n : ℕ). entries_from (slice_set words i value) 0 (min n 255)) count ∙ entries_from-set words i value 0 (min (slice_index words 0) 255) (omega arith)
+entries_of-set words i value high = grind (arith, get_or-set_other, entries_from-set)
 
 -- the object with another word, if it has the address
 abbrev stored : ℕ → ℕ → Object → Object
@@ -86,33 +74,10 @@ stored-row : (address value : ℕ) (object : Object) → (stored address value o
 stored-row address value object = cond_both (covers object.row address) _ _ (λ (x : Object). x.row ≡ object.row) (λ _. refl) (λ _. refl)
 
 stored-entries : (address value via : ℕ) (object : Object) → (leb via address && ltb address (via + 4096)) ≡ false → object.row.base ≡ via → entries_of (stored address value object).words ≡ entries_of object.words
-stored-entries address value via object beyond same =
-    cond_both (covers object.row address) _ _ (λ (x : Object). entries_of x.words ≡ entries_of object.words)
-    (λ there.
-    let above : object.row.base ≤ address = leb-true _ _ (and_parts _ _ there).0 in
-    let behind : via + 4096 ≤ address = far (ltb address (via + 4096)) refl (omega arith) in
-    entries_of-set object.words ((address - object.row.base) / 8) value (omega arith))
-    (λ _. refl)
-  where
-    far : (v : Bool) → ltb address (via + 4096) ≡ v → via ≤ address → via + 4096 ≤ address
-    far true near above = absurd (false≢true (sym beyond ∙ and_from _ _ (le-leb via address above) near))
-    far false past above = ltb-false _ _ past
+stored-entries address value via object beyond same = grind (arith, cond_both, leb-true, and_parts, entries_of-set, and_from, le-leb, ltb-false)
 
 pub with_word-backed : (state : State) (address value : ℕ) → KeepsBacked (by_word address) state (record state { objects = with_word state.objects address value })
-with_word-backed state address value seat beyond =
-    let new : State = record state { objects = with_word state.objects address value } in
-    let held : (base : ℕ) → KeepsHeld state new base = λ base password right.
-    pass-map (λ (x : Object). eqb x.row.base base) (stored address value) (λ (x : Object). holds state.counters.period x.row password right) (λ (x : Object). holds state.counters.period x.row password right) state.objects
-    (λ x. ap (λ (row : ObjectRow). eqb row.base base) (stored-row address value x))
-    (λ x _ there. ap (λ (row : ObjectRow). holds state.counters.period row password right) (stored-row address value x) ∙ there) in
-    backed_from state new seat (record {
-      slots = λ slot there. there;
-      entries = read-map (λ (x : Object). eqb x.row.base seat.via) (stored address value) (λ (x : Object). entries_of x.words) [] state.objects
-          (λ x. ap (λ (row : ObjectRow). eqb row.base seat.via) (stored-row address value x))
-          (λ x same. stored-entries address value seat.via x beyond (eqb-true _ _ same));
-      opened = held seat.via;
-      held = held seat.base;
-    })
+with_word-backed state address value seat beyond = grind (arith, pass-map, stored-row, backed_from, read-map, stored-entries, eqb-true)
 
 -- the object with a change of its row, if it has this base
 abbrev rewritten : ℕ → (ObjectRow → ObjectRow) → Object → Object
@@ -129,22 +94,10 @@ abbrev pub TakesNone : ℕ → ℕ → (ObjectRow → ObjectRow) → ℕ → Typ
 TakesNone period x change base = x ≡ base → (row : ObjectRow) (password : ℕ) (right : Right) → holds period row password right ≡ true → holds period (change row) password right ≡ true
 
 with_row-held : (state new : State) (x base : ℕ) (change : ObjectRow → ObjectRow) → new.objects ≡ with_row x change state.objects → new.counters.period ≡ state.counters.period → ((row : ObjectRow) → (change row).base ≡ row.base) → TakesNone state.counters.period x change base → KeepsHeld state new base
-with_row-held state new x base change objects period same none password right there =
-    ap (λ (p : ℕ). option_map_or (λ (o : Object). holds p o.row password right) (based_at new.objects base) false) period
-    ∙ ap (λ (os : List Object). option_map_or (λ (o : Object). holds state.counters.period o.row password right) (based_at os base) false) objects
-    ∙ pass-map (λ (o : Object). eqb o.row.base base) (rewritten x change) (λ (o : Object). holds state.counters.period o.row password right) (λ (o : Object). holds state.counters.period o.row password right) state.objects
-    (λ o. ap (λ (b : ℕ). eqb b base) (rewritten-base x change o same))
-    (λ o found holds_it. cond_both (eqb o.row.base x) _ _ (λ (n : Object). holds state.counters.period n.row password right ≡ true)
-    (λ it. none (sym (eqb-true _ _ it) ∙ eqb-true _ _ found) o.row password right holds_it)
-    (λ _. holds_it))
-    there
+with_row-held state new x base change objects period same none password right there = grind (arith, pass-map, rewritten-base, cond_both, eqb-true)
 
 with_row-entries : (state new : State) (x base : ℕ) (change : ObjectRow → ObjectRow) → new.objects ≡ with_row x change state.objects → ((row : ObjectRow) → (change row).base ≡ row.base) → entries_at new base ≡ entries_at state base
-with_row-entries state new x base change objects same =
-    ap (λ (os : List Object). option_map_or (λ (o : Object). entries_of o.words) (based_at os base) []) objects
-    ∙ read-map (λ (o : Object). eqb o.row.base base) (rewritten x change) (λ (o : Object). entries_of o.words) [] state.objects
-    (λ o. ap (λ (b : ℕ). eqb b base) (rewritten-base x change o same))
-    (λ o _. ap entries_of (rewritten-words x change o))
+with_row-entries state new x base change objects same = grind (arith, read-map, rewritten-base, rewritten-words)
 
 -- a change of the row with base x that keeps its base keeps a seat if it takes no password away from the seat's list or object
 pub with_row-backed : (state new : State) (x : ℕ) (change : ObjectRow → ObjectRow) (seat : Seat) → new.objects ≡ with_row x change state.objects → new.counters.period ≡ state.counters.period → new.threads ≡ state.threads → ((row : ObjectRow) → (change row).base ≡ row.base) → TakesNone state.counters.period x change seat.via → TakesNone state.counters.period x change seat.base → IsBacked state seat → IsBacked new seat
@@ -158,28 +111,8 @@ with_row-backed state new x change seat objects period threads same via base =
 
 -- a seat is kept if its list and its object are found as before, and the period and the threads are as they were
 pub found-backed : (old new : State) (seat : Seat) → new.counters.period ≡ old.counters.period → new.threads ≡ old.threads → based_at new.objects seat.via ≡ based_at old.objects seat.via → based_at new.objects seat.base ≡ based_at old.objects seat.base → IsBacked old seat → IsBacked new seat
-found-backed old new seat period threads via base =
-    let held : (at : ℕ) → based_at new.objects at ≡ based_at old.objects at → KeepsHeld old new at = λ at same password right there.
-    ap (λ (p : ℕ). option_map_or (λ (o : Object). holds p o.row password right) (based_at new.objects at) false) period
-    ∙ ap (λ (f : Option Object). option_map_or (λ (o : Object). holds old.counters.period o.row password right) f false) same
-    ∙ there in
-    backed_from old new seat (record {
-      slots = λ slot there. subst (λ (ts : List Thread). Contains (option_map_or (λ (thread : Thread). last_slots thread.row.frames) (find (λ (thread : Thread). eqb thread.number seat.thread) ts) []) slot) (sym threads) there;
-      entries = ap (λ (f : Option Object). option_map_or (λ (o : Object). entries_of o.words) f []) via;
-      opened = held seat.via via;
-      held = held seat.base base;
-    })
+found-backed old new seat period threads via base = grind (arith, backed_from)
 
 -- a seat rests on the objects, the period, and the slots of the thread's present frame
 pub rests-backed : (old new : State) (seat : Seat) → new.objects ≡ old.objects → new.counters.period ≡ old.counters.period → KeepsSlots (domain_of old seat.thread) (domain_of new seat.thread) → IsBacked old seat → IsBacked new seat
-rests-backed old new seat objects period slots =
-    let held : (at : ℕ) → KeepsHeld old new at = λ at password right there.
-    ap (λ (p : ℕ). option_map_or (λ (o : Object). holds p o.row password right) (based_at new.objects at) false) period
-    ∙ ap (λ (os : List Object). option_map_or (λ (o : Object). holds old.counters.period o.row password right) (based_at os at) false) objects
-    ∙ there in
-    backed_from old new seat (record {
-      slots = slots;
-      entries = ap (λ (os : List Object). option_map_or (λ (o : Object). entries_of o.words) (based_at os seat.via) []) objects;
-      opened = held seat.via;
-      held = held seat.base;
-    })
+rests-backed old new seat objects period slots = grind (arith, backed_from)

@@ -1,7 +1,7 @@
 -- A seat that is backed is an access that is allowed, and the other way round. An address in the first page of a list finds
 -- the list.
 use Rattle.std.proofs.Common.{ℕ, ◌+◌, ◌*◌, ◌<◌, ◌≤◌, ◌≡◌, ◌≢◌, ◌||◌, ◌&&◌, Bool, true, false, eqb, leb, ltb, if◌then◌else◌, List, [], ◌∷◌, get_or, Option, Some, None, refl, sym, ap, ◌∙◌, subst, inl, inr, arith, AllPairs, Contains}
-use Rattle.std.proofs.lemmas.Bool.{and_from, and_parts, cases_lt, cond-true, eq-eqb, eqb-true, false≢true, leb-true, le-leb, lt-ltb, ltb-true, or_left}
+use Rattle.std.proofs.lemmas.Bool.{and_from, and_parts, cases_lt, cond-true, eq-eqb, eqb-true, false≢true, leb-true, le-leb, lt-ltb, ltb-true}
 use Rattle.std.proofs.lemmas.List.Elements.{All-contains, at_from_Contains}
 use Rattle.std.proofs.lemmas.List.Folds.{Any-from_list_any, list_any_at, list_any-append}
 use Rattle.std.specs.Prelude.{flat_map}
@@ -14,8 +14,8 @@ use Rattle.mg_model.specs.declared.rights.Right.{Right}
 use Rattle.mg_model.specs.declared.rights.Right.TheVariants.{R}
 use Rattle.mg_model.specs.declared.seats.Seat.{Seat}
 use Rattle.mg_model.specs.declared.slots.Slot.{Slot}
-use Rattle.mg_model.specs.Access.{allowed, at, based_at, capabilities, covers, domain_of, entries_of, entries_under, holds}
-use Rattle.mg_model.specs.Backed.{IsBacked, by_list, by_word, entries_at, held_at}
+use Rattle.mg_model.specs.Access.{allowed, at, based_at, covers, domain_of, entries_of, entries_under, holds}
+use Rattle.mg_model.specs.Backed.{IsBacked, by_word, entries_at, held_at}
 use Rattle.mg_model.specs.State.{Object, State}
 use Rattle.mg_model.specs.WellFormed.{IsBefore, IsObject, IsWellFormed}
 
@@ -46,11 +46,7 @@ entries-opened state slot opened = opened_of (based_at state.objects slot.base) 
 -- if a slot gives any entry, its password opens the list
 opens_of : (o : Option Object) (test : Object → Bool) (entry : ℕ × ℕ) → Contains (option_map_or (λ (x : Object). if test x then entries_of x.words else []) o []) entry → option_map_or test o false ≡ true
 opens_of None test entry among = let within = among.1 in absurd (omega arith)
-opens_of (Some x) test entry among = by_test (test x) among
-  where
-    by_test : (v : Bool) → Contains (if v then entries_of x.words else []) entry → v ≡ true
-    by_test true there = refl
-    by_test false there = let within = there.1 in absurd (omega arith)
+opens_of (Some x) test entry among = grind arith
 
 any-flat_map : {X Y : Type 0} (test : Y → Bool) (f : X → List Y) (xs : List X) → list_any test (flat_map f xs) ≡ list_any (λ x. list_any test (f x)) xs
 any-flat_map test f [] = refl
@@ -65,9 +61,7 @@ is_for state object right entry = eqb entry.0 object.row.base && holds state.cou
 
 allowed-any : (state : State) (t address : ℕ) (right : Right) (object : Object) → at state.objects address ≡ Some object →
     allowed state t address right ≡ list_any (λ slot. list_any (is_for state object right) (entries_under state.objects state.counters.period slot)) (domain_of state t)
-allowed-any state t address right object there =
-    ap (λ (o : Option Object). option_map_or (λ (x : Object). list_any (is_for state x right) (capabilities state.objects state.counters.period (domain_of state t))) o false) there
-    ∙ any-flat_map (is_for state object right) (λ slot. entries_under state.objects state.counters.period slot) (domain_of state t)
+allowed-any state t address right object there = grind (arith, any-flat_map)
 
 pub backed-allows : BackedAllows allowed
 backed-allows state seat address object formed backed there same =
@@ -84,21 +78,7 @@ backed-allows state seat address object formed backed there same =
 -- a slot whose list opens the object backs a seat for it
 pub opening-backs : OpeningBacks
 opening-backs state t address right object slot formed there among opens =
-    let any = Any-from_list_any (is_for state object right) (entries_under state.objects state.counters.period slot) opens in
-    let entry : ℕ × ℕ = any.1 in
-    let given : Contains (entries_under state.objects state.counters.period slot) entry = (any.0, any.2, any.3) in
-    let parts = and_parts (eqb entry.0 object.row.base) (holds state.counters.period object.row entry.1 right) any.4 in
-    let opened : held_at state slot.base slot.password R ≡ true = opens_of (based_at state.objects slot.base) (λ (x : Object). holds state.counters.period x.row slot.password R) entry given in
-    record {
-      slot = slot;
-      slots = among;
-      via = refl;
-      opened = opened;
-      entry = entry;
-      entries = subst (λ (es : List (ℕ × ℕ)). Contains es entry) (entries-opened state slot opened) given;
-      base = eqb-true _ _ parts.0;
-      held = held-found state object.row.base entry.1 right object (at-based state address object formed there) ∙ parts.1;
-    }
+    grind (arith, Any-from_list_any, and_parts, opens_of, entries-opened, eqb-true, held-found, at-based)
 
 pub allowed-backed : AllowedIsBacked allowed
 allowed-backed state t address right object formed there may =
@@ -157,13 +137,4 @@ word-via state seat address object formed backed within there =
     sym via ∙ same_object state list object address formed hit.among other.among has other.passes
 
 pub ends-one_list : EndsOneList
-ends-one_list old new address object formed there keeps seat stays backed = by_test (by_word address seat) refl
-  where
-    by_test : (v : Bool) → by_word address seat ≡ v → IsBacked new seat
-    by_test false outside = keeps seat outside backed
-    by_test true within =
-        let via : seat.via ≡ object.row.base = word-via old seat address object formed backed within there in
-        let high : address < seat.via + 4096 = ltb-true _ _ (and_parts (leb seat.via address) (ltb address (seat.via + 4096)) within).1 in
-        let near : ltb address (object.row.base + 4096) ≡ true = lt-ltb _ _ (omega arith) in
-        let goes : by_list object.row.base address seat ≡ true = ap (λ (f : Seat → Bool). f seat) (cond-true _ _ _ near) ∙ eq-eqb _ _ via in
-        absurd (false≢true (sym stays ∙ goes))
+ends-one_list old new address object formed there keeps seat stays backed = grind (arith, word-via, ltb-true, and_parts, lt-ltb, cond-true, eq-eqb)

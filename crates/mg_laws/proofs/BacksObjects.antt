@@ -1,23 +1,18 @@
 -- The calls on words and objects keep seats backed, except those that they end.
-use Rattle.std.proofs.Common.{ℕ, ◌+◌, ◌*◌, ◌≤◌, ◌≡◌, ◌≢◌, true, false, not, cond, eqb, ltb, List, [], ◌∷◌, ◌++◌, length, filter, Option, Some, None, refl, sym, ap, ◌∙◌, inl, inr, arith, All}
-use Rattle.std.proofs.lemmas.Bool.{cond_both, cond-false, eqb-false, eqb-true, false≢true, ltb-false, ne_eqb, or_left, or_parts}
+use Rattle.std.proofs.Common.{ℕ, ◌+◌, ◌*◌, ◌≤◌, ◌≡◌, ◌≢◌, true, false, eqb, ltb, List, [], ◌∷◌, length, Option, None, refl, arith, All}
+use Rattle.std.proofs.lemmas.Bool.{cond_both, cond-false, eqb-false, eqb-true, ltb-false, ne_eqb, or_left, or_parts}
 use Rattle.std.proofs.lemmas.List.Folds.{list_any-append}
-use Rattle.std.specs.Prelude.{unwrap_or}
-use Rattle.std.specs.Option.{option_map_or}
-use Rattle.std.specs.List.{list_any}
-use Rattle.mg_laws.proofs.Backs.{TakesNone, found-backed, unless_refused-backed, with_row-backed, with_word-backed}
+use Rattle.mg_laws.proofs.Backs.{found-backed, unless_refused-backed, with_row-backed, with_word-backed}
 use Rattle.mg_laws.proofs.Finds.{find-filter, find-none}
 use Rattle.mg_laws.proofs.KeepsCreate.{frames-few}
 use Rattle.mg_laws.proofs.Lowest.{IsApart, is_free-true, lowest_free-exists}
 use Rattle.mg_laws.proofs.Passed.{unrefused}
 use Rattle.mg_model.specs.declared.rights.Right.{Right}
 use Rattle.mg_model.specs.declared.rights.Right.TheVariants.{R}
-use Rattle.mg_model.specs.declared.slots.Pw.{Pw}
-use Rattle.mg_model.specs.Access.{based_at, gives, holds}
+use Rattle.mg_model.specs.Access.{based_at}
 use Rattle.mg_model.specs.Backed.{KeepsBacked, by_none, by_via, by_word, held_at}
 use Rattle.mg_model.specs.KeptListLemmas.{All-both}
-use Rattle.mg_model.specs.Limits.{never}
-use Rattle.mg_model.specs.ObjectCalls.{create, delete, drawn, entry, ext, extension_of, has_password, is_entry, next_password, pwadd, pwdel, recharge, row_at, store, with_entry, with_row_at}
+use Rattle.mg_model.specs.ObjectCalls.{create, delete, drawn, entry, ext, extension_of, is_entry, next_password, pwadd, pwdel, recharge, row_at, store, with_entry, with_row_at}
 use Rattle.mg_model.specs.Objects.{lowest_free, new_object, with_object, with_row, with_word, without_object}
 use Rattle.mg_model.specs.State.{Object, ObjectRow, State}
 use Rattle.mg_model.specs.WellFormed.{IsObject, IsWellFormed}
@@ -27,10 +22,7 @@ store-backed state t a value = unless_refused-backed (by_word a) state _ (record
 
 -- a change of a row that keeps its base and its passwords
 leaves-backed : (state : State) (x : ℕ) (change : ObjectRow → ObjectRow) → ((row : ObjectRow) → (change row).base ≡ row.base) → ((row : ObjectRow) → (change row).passwords ≡ row.passwords) → KeepsBacked by_none state (with_row_at state x change)
-leaves-backed state x change base passwords seat stays =
-    let none : (at : ℕ) → TakesNone state.counters.period (row_at state x).base change at = λ at same row password right there.
-    ap (λ (pws : List Pw). list_any (λ pw. gives state.counters.period pw password right) pws) (passwords row) ∙ there in
-    with_row-backed state (with_row_at state x change) (row_at state x).base change seat refl refl refl base (none seat.via) (none seat.base)
+leaves-backed state x change base passwords seat stays = grind (arith, with_row-backed)
 
 pub ext-backed : (state : State) (t b clist password : ℕ) → KeepsBacked by_none state (ext state t b clist password).0
 ext-backed state t b clist password =
@@ -53,76 +45,44 @@ entry-backed state t b off =
 
 -- one password more takes none away
 pub pwadd-backed : (state : State) (t b rights : ℕ) (until : Option ℕ) → KeepsBacked by_none state (pwadd state t b rights until).0
-pwadd-backed state t b rights until =
-    let new : Pw = record { password = next_password state; rights = rights; until = unwrap_or until never } in
-    let change : ObjectRow → ObjectRow = λ object. record object { passwords = object.passwords ++ new ∷ [] } in
-    let none : (at : ℕ) → TakesNone state.counters.period (row_at state b).base change at = λ at same row password right there.
-    list_any-append (λ pw. gives state.counters.period pw password right) row.passwords (new ∷ []) ∙ or_left _ _ there in
-    unless_refused-backed by_none state _ (with_row_at (drawn state) b change, _)
-    (λ _ seat _. with_row-backed state (with_row_at (drawn state) b change) (row_at state b).base change seat refl refl refl (λ row. refl) (none seat.via) (none seat.base))
+pwadd-backed state t b rights until = grind (arith, list_any-append, or_left, unless_refused-backed, with_row-backed)
 
 -- a change of the row with this base ends the seats that its list gave, and those for its object
 pub change-backed : (state : State) (base : ℕ) (change : ObjectRow → ObjectRow) → ((row : ObjectRow) → (change row).base ≡ row.base) → KeepsBacked (by_via base) state (record state { objects = with_row base change state.objects })
-change-backed state base change same seat stays =
-    let others = or_parts (eqb seat.via base) (eqb seat.base base) stays in
-    with_row-backed state (record state { objects = with_row base change state.objects }) base change seat refl refl refl same
-    (λ it. absurd (eqb-false _ _ others.0 (sym it)))
-    (λ it. absurd (eqb-false _ _ others.1 (sym it)))
+change-backed state base change same seat stays = grind (arith, or_parts, with_row-backed, eqb-false)
 
 pub pwdel-backed : (state : State) (t b password : ℕ) → KeepsBacked (by_via (row_at state b).base) state (pwdel state t b password).0
-pwdel-backed state t b password =
-    let base = (row_at state b).base in
-    let change : ObjectRow → ObjectRow = λ object. record object { passwords = filter (λ pw. not (has_password password pw)) object.passwords } in
-    unless_refused-backed (by_via base) state _ (with_row_at state b change, _) (λ _. change-backed state base change (λ row. refl))
+pwdel-backed state t b password = grind (arith, unless_refused-backed, change-backed)
 
 -- one object less
 find-without_object : (x base : ℕ) (objects : List Object) → base ≢ x → based_at (without_object x objects) base ≡ based_at objects base
-find-without_object x base objects other =
-    find-filter (λ (o : Object). eqb o.row.base base) (λ (o : Object). not (eqb o.row.base x))
-    (λ o same. ap not (ne_eqb o.row.base x (λ it. other (sym (eqb-true _ _ same) ∙ it)))) objects
+find-without_object x base objects other = grind (arith, find-filter, ne_eqb, eqb-true)
 
 pub gone-backed : (state : State) (base : ℕ) → KeepsBacked (by_via base) state (record state { objects = without_object base state.objects })
-gone-backed state base seat stays =
-    let new : State = record state { objects = without_object base state.objects } in
-    let others = or_parts (eqb seat.via base) (eqb seat.base base) stays in
-    let via : based_at new.objects seat.via ≡ based_at state.objects seat.via = find-without_object base seat.via state.objects (eqb-false _ _ others.0) in
-    let object : based_at new.objects seat.base ≡ based_at state.objects seat.base = find-without_object base seat.base state.objects (eqb-false _ _ others.1) in
-    found-backed state new seat refl refl via object
+gone-backed state base seat stays = grind (arith, or_parts, find-without_object, eqb-false, found-backed)
 
 pub delete-backed : (state : State) (t b : ℕ) → KeepsBacked (by_via (row_at state b).base) state (delete state t b).0
-delete-backed state t b =
-    let base = (row_at state b).base in
-    let new : State = record state { objects = without_object base state.objects } in
-    unless_refused-backed (by_via base) state _ (new, _) (λ _. gone-backed state base)
+delete-backed state t b = grind (arith, unless_refused-backed, gone-backed)
 
 -- one object more: a search for another base finds the same object as before
 find-with_object : (new : Object) (base : ℕ) (objects : List Object) → new.row.base ≢ base → based_at (with_object new objects) base ≡ based_at objects base
 find-with_object new base [] other = cond-false _ _ _ (ne_eqb _ _ other)
-find-with_object new base (object ∷ objects) other =
-    cond_both (ltb new.row.base object.row.base) (new ∷ object ∷ objects) (object ∷ with_object new objects) (λ (os : List Object). based_at os base ≡ based_at (object ∷ objects) base)
-    (λ _. cond-false _ _ _ (ne_eqb _ _ other))
-    (λ _. ap (λ (o : Option Object). cond (eqb object.row.base base) (Some object) o) (find-with_object new base objects other))
+find-with_object new base (object ∷ objects) other = grind (arith, (find-with_object new base objects other))
 
 -- the base of the lowest free pages is that of no object
 none_at : (state : State) (n : ℕ) → IsWellFormed state → 1 ≤ n → n ≤ 1024 → based_at state.objects (4096 * lowest_free state.objects n) ≡ None
 none_at state n formed some few =
     let page = lowest_free state.objects n in
     let there = lowest_free-exists state.settings.frames (length state.accounts) state.objects n formed.objects (frames-few state.settings formed.settings) some few in
-    let differ : All (λ (o : Object). eqb o.row.base (4096 * page) ≡ false) state.objects =
-    All-both (IsApart page n) IsObject (λ (o : Object). eqb o.row.base (4096 * page) ≡ false)
-    (λ o apart is. ne_eqb _ _ (λ same. meets page n o some is same apart))
-    state.objects (is_free-true state.objects n page there.free) formed.objects.each in
+    let differ : All (λ (o : Object). eqb o.row.base (4096 * page) ≡ false) state.objects = grind (arith, All-both, ne_eqb, meets, is_free-true) in
     find-none (λ (o : Object). eqb o.row.base (4096 * page)) state.objects differ
   where
     meets : (page n : ℕ) (o : Object) → 1 ≤ n → IsObject o → o.row.base ≡ 4096 * page → IsApart page n o → ⊥
-    meets page n o some is same apart =
-        let pages = is.row.place.some in
-        elim apart [ inl before ↦ omega arith | inr behind ↦ omega arith ]
+    meets page n o some is same apart = grind arith
 
 -- a base at which a password is held is that of an object
 held-other : (state : State) (base at password : ℕ) (right : Right) → based_at state.objects base ≡ None → held_at state at password right ≡ true → base ≢ at
-held-other state base at password right none there same =
-    false≢true (sym (ap (λ (o : Option Object). option_map_or (λ (x : Object). holds state.counters.period x.row password right) o false) (sym (ap (λ (b : ℕ). based_at state.objects b) same) ∙ none)) ∙ there)
+held-other state base at password right none there same = grind arith
 
 pub create-backed : (state : State) (n account password : ℕ) → IsWellFormed state → KeepsBacked by_none state (create state n account password).0
 create-backed state n account password formed =

@@ -1,4 +1,5 @@
 -- A thread's calls, its turns and all lines keep seats backed, except those that they end.
+use Rattle.std.proofs.Common.{arith}
 use Rattle.std.proofs.Common.{ℕ, List, [], ◌∷◌, ◌+◌, ◌%◌, if◌then◌else◌, ◌≤◌, ◌≡◌, ◌&&◌, Bool, true, false, not, cond, eqb, ltb, Contains, Option, Some, None, refl, sym, ap, ◌∙◌, subst}
 use Rattle.std.proofs.lemmas.Bool.{cond_both, cond-true, not-false}
 use Rattle.std.proofs.lemmas.Option.{same_Some}
@@ -160,9 +161,7 @@ turn-backed state t formed =
     subst (λ (o : Option Thread). KeepsBacked (ended_by_turn state o) state (turn_state state t)) (sym (cond-true _ _ _ ready)) (by_found (thread_of state t) refl))
   where
     by_found : (o : Option Thread) → thread_of state t ≡ o → KeepsBacked (ended_by_turn state o) state (turn_state state t)
-    by_found None is =
-        let stays : turn_state state t ≡ state = ap (λ (o : Option Thread). option_map_or (λ r. turned state t r) (option_map_or (λ (x : Thread). Some x.row) o None) state) is in
-        subst (λ (new : State). KeepsBacked by_none state new) (sym stays) (same-backed by_none state)
+    by_found None is = grind (arith, same-backed)
     by_found (Some thread) is = thread_turn-backed state t thread formed is
 
 -- the thread that is picked is one of the threads

@@ -1,8 +1,8 @@
 -- The calls on domains, threads and accounts keep seats backed, except those that they end.
-use Rattle.std.proofs.Common.{ℕ, suc, ◌+◌, ◌-◌, ◌<◌, ◌≡◌, ◌≢◌, not, eqb, List, [], ◌∷◌, ◌++◌, drop, filter, length, take, Option, Some, None, refl, sym, ap, ◌∙◌, subst, arith, All, Contains}
+use Rattle.std.proofs.Common.{ℕ, ◌+◌, ◌<◌, ◌≡◌, ◌≢◌, not, eqb, List, [], ◌∷◌, ◌++◌, filter, length, Option, Some, None, refl, sym, ap, ◌∙◌, subst, arith, All, Contains}
 use Rattle.std.proofs.lemmas.Bool.{cond_both, eqb-false, eqb-true, ne_eqb}
 use Rattle.std.proofs.lemmas.List.Elements.{Contains-append_left}
-use Rattle.std.specs.Prelude.{option_map, slice_get}
+use Rattle.std.specs.Prelude.{option_map}
 use Rattle.std.specs.Option.{option_map_or}
 use Rattle.mg_laws.proofs.Backs.{KeepsSlots, rests-backed, unless_refused-backed}
 use Rattle.mg_laws.proofs.Finds.{find-hit, find-map, find-none}
@@ -11,14 +11,11 @@ use Rattle.mg_laws.proofs.KeepsRows.{changed, changed-number, domain_of-row, row
 use Rattle.mg_laws.proofs.KeepsThreads.{find-with_new_thread, find-without, free_number-free}
 use Rattle.mg_model.specs.declared.seats.Seat.{Seat}
 use Rattle.mg_model.specs.declared.slots.Slot.{Slot}
-use Rattle.mg_model.specs.declared.threads.ThrState.TheVariants.{Ready}
-use Rattle.mg_model.specs.Abbreviations.{entered_slots, free_number}
+use Rattle.mg_model.specs.Abbreviations.{free_number}
 use Rattle.mg_model.specs.Access.{domain_of, last_slots, thread_of}
 use Rattle.mg_model.specs.Backed.{IsBacked, KeepsBacked, by_each, by_none, by_thread}
-use Rattle.mg_model.specs.Bank.{given_to, taken_from}
 use Rattle.mg_model.specs.BankCalls.{open_account, pay, rent}
-use Rattle.mg_model.specs.Domains.{apdadd, apddel, last_back, pdx, ret, row_of, with_last_slots, with_thread}
-use Rattle.mg_model.specs.ObjectCalls.{drawn, next_password}
+use Rattle.mg_model.specs.Domains.{apdadd, apddel, pdx, ret, row_of, with_last_slots, with_thread}
 use Rattle.mg_model.specs.State.{CallFrame, State, Thread, ThreadRow}
 use Rattle.mg_model.specs.Threads.{birth_of, born, end_thread, make_thread, new_thread, resume, with_new_thread}
 use Rattle.mg_model.specs.WellFormed.{IsWellFormed}
@@ -48,41 +45,29 @@ threads-backed state t change seat keeps = rests-backed state (with_thread state
 
 -- a change of a thread's row that keeps its frames ends no seat
 pub frames-backed : (state : State) (t : ℕ) (change : ThreadRow → ThreadRow) → ((row : ThreadRow) → row_of state t ≡ Some row → (change row).frames ≡ row.frames) → KeepsBacked by_none state (with_thread state t change)
-frames-backed state t change same seat _ =
-    threads-backed state t change seat (λ row _ is slot there. subst (λ (frames : List CallFrame). Contains (last_slots frames) slot) (sym (same row is)) there)
+frames-backed state t change same seat _ = grind (arith, threads-backed)
 
 -- any change of it ends only seats of the thread
 pub by_thread-backed : (state : State) (t : ℕ) (change : ThreadRow → ThreadRow) → KeepsBacked (by_thread t) state (with_thread state t change)
 by_thread-backed state t change seat other = threads-backed state t change seat (λ row same. absurd (eqb-false _ _ other same))
 
 pub pdx-backed : (state : State) (t a mask : ℕ) → KeepsBacked (by_thread t) state (pdx state t a mask).0
-pdx-backed state t a mask =
-    let change : ThreadRow → ThreadRow = λ thread. record thread { pc = a; frames = thread.frames ++ record { back = thread.pc; slots = entered_slots state t a mask } ∷ [] } in
-    unless_refused-backed (by_thread t) state _ (with_thread state t change, _) (λ _. by_thread-backed state t change)
+pdx-backed state t a mask = grind (arith, unless_refused-backed, by_thread-backed)
 
 pub ret-backed : (state : State) (t : ℕ) → KeepsBacked (by_thread t) state (ret state t).0
-ret-backed state t =
-    let change : ThreadRow → ThreadRow = λ thread. record thread { pc = last_back thread.frames; frames = take (length thread.frames - 1) thread.frames } in
-    unless_refused-backed (by_thread t) state _ (with_thread state t change, _) (λ _. by_thread-backed state t change)
+ret-backed state t = grind (arith, unless_refused-backed, by_thread-backed)
 
 pub apddel-backed : (state : State) (t index : ℕ) → KeepsBacked (by_thread t) state (apddel state t index).0
-apddel-backed state t index =
-    let slots : List Slot = domain_of state t in
-    let change : ThreadRow → ThreadRow = λ thread. record thread { frames = with_last_slots thread.frames (take index slots ++ drop (suc index) slots) } in
-    unless_refused-backed (by_thread t) state _ (with_thread state t change, _) (λ _. by_thread-backed state t change)
+apddel-backed state t index = grind (arith, unless_refused-backed, by_thread-backed)
 
 -- frames below the last frame do not matter
 last_slots-cons : (frame : CallFrame) (frames : List CallFrame) → 0 < length frames → last_slots (frame ∷ frames) ≡ last_slots frames
-last_slots-cons frame frames some =
-    let place : suc (length frames) - 1 ≡ suc (length frames - 1) = omega arith in
-    ap (λ (k : ℕ). option_map_or (λ (f : CallFrame). f.slots) (slice_get (frame ∷ frames) k) []) place
+last_slots-cons frame frames some = grind arith
 
 -- the slots that are stored in the last frame, if there is one
 last_slots-put : (frame : CallFrame) (frames : List CallFrame) (slots : List Slot) → last_slots (with_last_slots (frame ∷ frames) slots) ≡ slots
 last_slots-put frame [] slots = refl
-last_slots-put frame (next ∷ frames) slots =
-    let long : length (with_last_slots (next ∷ frames) slots) ≡ suc (length frames) = length-with_last_slots (next ∷ frames) slots in
-    last_slots-cons frame (with_last_slots (next ∷ frames) slots) (omega arith) ∙ last_slots-put next frames slots
+last_slots-put frame (next ∷ frames) slots = grind (arith, (last_slots-put next frames slots), length-with_last_slots, last_slots-cons)
 
 -- one slot more takes none away
 more_slots : (frames : List CallFrame) (new : Slot) → KeepsSlots (last_slots frames) (last_slots (with_last_slots frames (last_slots frames ++ new ∷ [])))
@@ -99,9 +84,7 @@ apdadd-backed state t clist password =
     (λ _ seat _. threads-backed state t change seat (λ row _ is. subst (λ (slots : List Slot). KeepsSlots (last_slots row.frames) (last_slots (with_last_slots row.frames (slots ++ new ∷ [])))) (sym (domain_of-row state t row is)) (more_slots row.frames new)))
 
 pub resume-backed : (state : State) (t i : ℕ) → KeepsBacked by_none state (resume state t i).0
-resume-backed state t i =
-    let change : ThreadRow → ThreadRow = λ thread. record thread { state = Ready } in
-    unless_refused-backed by_none state _ (with_thread state i change, _) (λ _. frames-backed state i change (λ row is. refl))
+resume-backed state t i = grind (arith, unless_refused-backed, frames-backed)
 
 -- one thread less: the slots of the others
 pub end-backed : (state : State) (t i : ℕ) → KeepsBacked (by_thread i) state (end_thread state t i).0
@@ -114,11 +97,7 @@ end-backed state t i =
 
 -- a thread with a slot has another number than a new one
 no_thread : (state : State) (seat : Seat) (number : ℕ) (slot : Slot) → All (λ (thread : Thread). thread.number ≢ number) state.threads → Contains (domain_of state seat.thread) slot → number ≢ seat.thread
-no_thread state seat number slot free there same =
-    let none : thread_of state seat.thread ≡ None = find-none (λ (thread : Thread). eqb thread.number seat.thread) state.threads (λ k d within. ne_eqb _ _ (λ is. free k d within (is ∙ sym same))) in
-    let empty : Contains [] slot = subst (λ (o : Option Thread). Contains (option_map_or (λ (thread : Thread). last_slots thread.row.frames) o []) slot) none there in
-    let within = empty.1 in
-    absurd (omega arith)
+no_thread state seat number slot free there same = grind (arith, find-none, ne_eqb)
 
 pub thread-backed : (state : State) (t pc : ℕ) → IsWellFormed state → KeepsBacked by_none state (make_thread state t pc).0
 thread-backed state t pc formed =
@@ -135,14 +114,10 @@ thread-backed state t pc formed =
 
 -- accounts do not matter
 pub account-backed : (state : State) (account password amount : ℕ) → KeepsBacked by_none state (open_account state account password amount).0
-account-backed state account password amount =
-    let new : State = record (drawn state) { accounts = taken_from state.accounts account amount ++ record { password = next_password state; balance = amount; owed = 0 } ∷ [] } in
-    unless_refused-backed by_none state _ (new, _) (λ _ seat _. rests-backed state new seat refl refl (λ slot there. there))
+account-backed state account password amount = grind (arith, unless_refused-backed, rests-backed)
 
 pub pay-backed : (state : State) (account password to amount : ℕ) → KeepsBacked by_none state (pay state account password to amount).0
-pay-backed state account password to amount =
-    let new : State = record state { accounts = given_to (taken_from state.accounts account amount) to amount } in
-    unless_refused-backed by_none state _ (new, _) (λ _ seat _. rests-backed state new seat refl refl (λ slot there. there))
+pay-backed state account password to amount = grind (arith, unless_refused-backed, rests-backed)
 
 -- a collection of rent ends every seat: passwords end with the period
 pub rent-backed : (state : State) → KeepsBacked by_each state (rent state).0

@@ -1,18 +1,17 @@
 -- From lines to a session: keys that would be warm are kept, so each line stays within its cost, and costs add up.
-use Rattle.std.proofs.Common.{ℕ, ◌≡◌, ◌≤◌, ◌+◌, ◌&&◌, Bool, true, false, cond, List, [], ◌∷◌, ◌++◌, Option, Some, None, refl, sym, ap, ◌∙◌, arith}
+use Rattle.std.proofs.Common.{ℕ, ◌≡◌, ◌≤◌, ◌+◌, Bool, true, false, List, [], ◌∷◌, ◌++◌, Some, refl, sym, ap, ◌∙◌, arith}
 use Rattle.std.proofs.lemmas.Bool.{and_from, and_parts, cond-false, cond-true, false≢true}
 use Rattle.std.proofs.lemmas.Option.{none-some}
-use Rattle.std.specs.Option.{option_map_or}
 use Rattle.mg_laws.proofs.KeysSeats.{last_is_kept}
 use Rattle.mg_laws.proofs.KeysTaken.{last-recent, recent-last}
 use Rattle.mg_laws.specs.Costs.{BeginsWarm, BoundedByCost, CostsAddUp, CostsGoOn, EventsGoOn, LimitsWithinCost, PrefixesCostLess, StaysWarm}
 use Rattle.mg_model.specs.declared.calls.Line.{Line}
-use Rattle.mg_model.specs.Accesses.{Access, accesses}
-use Rattle.mg_model.specs.Keys.{Key, first_at, has_seat, key_of, seat_of, taken_by}
+use Rattle.mg_model.specs.Accesses.{Access}
+use Rattle.mg_model.specs.Keys.{Key, first_at, seat_of}
 use Rattle.mg_model.specs.Kept.{Follows, KeepsWarm, is_served, line_limit}
 use Rattle.mg_model.specs.State.{State}
 use Rattle.mg_model.specs.Step.{step}
-use Rattle.mg_model.specs.Warmth.{Event, cost, cost_behind, events, failing, is_disturbing, is_recent, is_warm, recent, taken_in}
+use Rattle.mg_model.specs.Warmth.{Event, cost, cost_behind, events, failing, is_disturbing, is_warm, recent, taken_in}
 
 -- Kept keys
 
@@ -25,8 +24,7 @@ warm-stays past event kept kept' warm keeps = record {
 }
   where
     by_line : (key : Key) (disturbs : Bool) → is_disturbing event.state event.line ≡ disturbs → first_at (seat_of key) (recent (event ∷ past)) ≡ Some key → kept' key ≡ true
-    by_line key true is first =
-        absurd (none-some key (ap (λ keys. first_at (seat_of key) keys) (sym (cond-true (is_disturbing event.state event.line) [] (taken_in event ++ recent past) is)) ∙ first))
+    by_line key true is first = grind (arith, none-some, cond-true)
     by_line key false is first =
         last_is_kept (taken_in event) (recent past) kept kept' (keeps is).stays (keeps is).comes (λ other there. warm.each other (last-recent past other there)) key
         (ap (λ keys. first_at (seat_of key) keys) (sym (cond-false (is_disturbing event.state event.line) [] (taken_in event ++ recent past) is)) ∙ first)
@@ -36,35 +34,16 @@ warm-stays past event kept kept' warm keeps = record {
 -- a warm access is served without a search
 warm-served : (past : List Event) (kept : Key → Bool) (state : State) → KeepsWarm past kept → (before : List Access) (access : Access)
     → is_warm past state before access ≡ true → is_served kept state before access ≡ true
-warm-served past kept state warm before access is = by_key (key_of state access) is
-  where
-    by_key : (o : Option Key) → option_map_or (λ key. is_recent past key && has_seat (taken_by state before) key) o false ≡ true
-        → option_map_or (λ key. kept key && has_seat (taken_by state before) key) o false ≡ true
-    by_key None test = test
-    by_key (Some key) test =
-        let both = and_parts (is_recent past key) (has_seat (taken_by state before) key) test in
-        and_from (kept key) (has_seat (taken_by state before) key) (warm.each key both.0) both.1
-
-one-fails : (a b : Bool) → (a ≡ true → b ≡ true) → cond b 0 1 ≤ cond a 0 1
-one-fails true true implies = omega arith
-one-fails true false implies = absurd (false≢true (implies refl))
-one-fails false true implies = omega arith
-one-fails false false implies = omega arith
+warm-served past kept state warm before access is = grind (arith, and_parts, and_from)
 
 -- a wider test fails less often
 failing-less : (test wider : List Access → Access → Bool) → ((before : List Access) (access : Access) → test before access ≡ true → wider before access ≡ true)
     → (before more : List Access) → failing wider before more ≤ failing test before more
 failing-less test wider implies before [] = omega arith
-failing-less test wider implies before (access ∷ more) =
-    let one = one-fails (test before access) (wider before access) (implies before access) in
-    let later = failing-less test wider implies (before ++ access ∷ []) more in
-    omega arith
+failing-less test wider implies before (access ∷ more) = grind (arith, (failing-less test wider implies (before ++ access ∷ []) more))
 
 pub limit-within : LimitsWithinCost line_limit
-limit-within past kept state line warm =
-    let fewer : failing (is_served kept state) [] (accesses state line) ≤ failing (is_warm past state) [] (accesses state line) =
-    failing-less (is_warm past state) (is_served kept state) (warm-served past kept state warm) [] (accesses state line) in
-    omega arith
+limit-within past kept state line warm = grind (arith, failing-less, warm-served)
 
 -- Lines one after another
 

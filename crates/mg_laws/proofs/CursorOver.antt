@@ -1,32 +1,29 @@
 -- The cursor may be moved before a turn or after it.
-use Rattle.std.proofs.Common.{ℕ, suc, ◌+◌, ◌-◌, ◌*◌, ◌++◌, ◌≡◌, Bool, true, false, cond, eqb, not, [], ◌∷◌, filter, length, Option, Some, None, refl, ap, ◌∙◌}
+use Rattle.std.proofs.Common.{arith}
+use Rattle.std.proofs.Common.{ℕ, suc, ◌+◌, ◌*◌, ◌++◌, ◌≡◌, Bool, eqb, not, [], ◌∷◌, filter, length, Option, Some, None, refl, ap, ◌∙◌}
 use Rattle.std.proofs.lemmas.Bool.{cond_both}
-use Rattle.std.specs.Prelude.{drop, nat_lt, take, unwrap_or}
+use Rattle.std.specs.Prelude.{drop, take, unwrap_or}
 use Rattle.std.specs.Option.{option_map_or}
 use Rattle.mg_laws.specs.Scripts.{RestsOnNoCursor, at_cursor}
 use Rattle.mg_model.specs.declared.calls.Call.{Call}
 use Rattle.mg_model.specs.declared.calls.Call.TheVariants as call
 use Rattle.mg_model.specs.declared.instructions.Instr.{Instr}
 use Rattle.mg_model.specs.declared.instructions.Instr.TheVariants as op
-use Rattle.mg_model.specs.declared.threads.Fault.TheVariants as fault
 use Rattle.mg_model.specs.declared.replies.Refusal.{Refusal}
-use Rattle.mg_model.specs.declared.replies.Refusal.TheVariants as refusal
 use Rattle.mg_model.specs.declared.replies.Reply.{Reply}
 use Rattle.mg_model.specs.declared.replies.Reply.TheVariants as reply
-use Rattle.mg_model.specs.declared.rights.Right.TheVariants.{R, W, X}
 use Rattle.mg_model.specs.declared.threads.ThrState.TheVariants.{Ready}
-use Rattle.mg_model.specs.Abbreviations.{advanced, entered_slots, free_number}
-use Rattle.mg_model.specs.Access.{allowed, domain_of}
+use Rattle.mg_model.specs.Abbreviations.{advanced, free_number}
+use Rattle.mg_model.specs.Access.{domain_of}
 use Rattle.mg_model.specs.Bank.{balance_of, given_to, owed_by, pages_of, taken_from}
-use Rattle.mg_model.specs.Domains.{frames_of, last_back, pdx, ret, row_of, with_slots, with_thread}
+use Rattle.mg_model.specs.Domains.{pdx, ret, row_of, with_slots, with_thread}
 use Rattle.mg_model.specs.Limits.{never}
-use Rattle.mg_model.specs.ObjectCalls.{about, drawn, extension_of, has_password, is_aligned, next_password, row_at, with_entry, with_row_at}
+use Rattle.mg_model.specs.ObjectCalls.{about, drawn, extension_of, has_password, next_password, row_at, with_entry, with_row_at}
 use Rattle.mg_model.specs.Objects.{lowest_free, new_object, with_object, with_word, without_object, word_at}
 use Rattle.mg_model.specs.Refused.{Answer, unless_refused}
-use Rattle.mg_model.specs.Script.{decoded, operand, register, with_register}
 use Rattle.mg_model.specs.State.{State, Thread, ThreadRow}
 use Rattle.mg_model.specs.Threads.{birth_of, born, new_thread, with_new_thread}
-use Rattle.mg_model.specs.Turn.{faulted, put_row, run, run_word, seen, spelled, thread_call, turn_state, turned, unless_faulted, values_of, with_registers}
+use Rattle.mg_model.specs.Turn.{put_row, run, run_word, seen, spelled, thread_call, turn_state, turned, unless_faulted, values_of, with_registers}
 
 module _ (n : ℕ) where
   abbrev C : State → State
@@ -40,14 +37,10 @@ module _ (n : ℕ) where
   row-over state (Some word) after = refl
 
   pdx-over : (state : State) (t a mask : ℕ) → pdx (C state) t a mask ≡ moved (pdx state t a mask)
-  pdx-over state t a mask =
-      row-over state _
-      (with_thread state t (λ (thread : ThreadRow). record thread { pc = a; frames = thread.frames ++ record { back = thread.pc; slots = entered_slots state t a mask } ∷ [] }), reply.Count (length (frames_of state t) + 1))
+  pdx-over state t a mask = grind (arith, row-over)
 
   ret-over : (state : State) (t : ℕ) → ret (C state) t ≡ moved (ret state t)
-  ret-over state t =
-      row-over state _
-      (with_thread state t (λ (thread : ThreadRow). record thread { pc = last_back thread.frames; frames = take (length thread.frames - 1) thread.frames }), reply.Count (length (frames_of state t) - 1))
+  ret-over state t = grind (arith, row-over)
 
   call-over : (state : State) (t : ℕ) (made : Call) → thread_call (C state) t made ≡ moved (thread_call state t made)
   call-over state t (call.Load a) = row-over state _ (state, reply.Value (word_at state.objects a))
@@ -81,31 +74,13 @@ module _ (n : ℕ) where
   seen-over t on_ok (state, other) = refl
 
   faulted-over : (state : State) (t address : ℕ) (may : Bool) (done : State) → unless_faulted (C state) t address may (C done) ≡ C (unless_faulted state t address may done)
-  faulted-over state t address may done = by_tests (is_aligned address) may
-    where
-      by_tests : (v w : Bool) → cond (not v) (C (faulted state t fault.Align)) (cond (not w) (C (faulted state t fault.Denied)) (C done)) ≡ C (cond (not v) (faulted state t fault.Align) (cond (not w) (faulted state t fault.Denied) done))
-      by_tests false w = refl
-      by_tests true false = refl
-      by_tests true true = refl
+  faulted-over state t address may done = grind arith
 
   run-over : (state : State) (t here : ℕ) (thread : ThreadRow) (instr : Instr) → run (C state) t here thread instr ≡ C (run state t here thread instr)
-  run-over state t here thread (op.Load a b i) =
-      faulted-over state t (operand thread b i) (allowed state t (operand thread b i) R) (put_row state t (with_register thread a (word_at state.objects (operand thread b i))))
-  run-over state t here thread (op.Store a b i) =
-      faulted-over state t (operand thread b i) (allowed state t (operand thread b i) W) (put_row (record state { objects = with_word state.objects (operand thread b i) (register thread a) }) t thread)
-  run-over state t here thread (op.Pdx a b) =
-      let before = put_row state t thread in
-      let entered : Reply → ThreadRow → ThreadRow = λ _ row. with_register row 0 0 in
-      cond_both (nat_lt 255 (register thread b)) (before, reply.No refusal.Syntax) (pdx before t (register thread a) (register thread b))
-      (λ answer. seen t entered (cond (nat_lt 255 (register thread b)) (C before, reply.No refusal.Syntax) (pdx (C before) t (register thread a) (register thread b))) ≡ C (seen t entered answer))
-      (λ over. ap (λ v. seen t entered (cond v (C before, reply.No refusal.Syntax) (pdx (C before) t (register thread a) (register thread b)))) over)
-      (λ within.
-      ap (λ v. seen t entered (cond v (C before, reply.No refusal.Syntax) (pdx (C before) t (register thread a) (register thread b)))) within
-      ∙ ap (seen t entered) (pdx-over before t (register thread a) (register thread b))
-      ∙ seen-over t entered (pdx before t (register thread a) (register thread b)))
-  run-over state t here thread op.Ret =
-      let before = put_row state t thread in
-      ap (seen t (λ _ returned. returned)) (ret-over before t) ∙ seen-over t (λ _ returned. returned) (ret before t)
+  run-over state t here thread (op.Load a b i) = grind (arith, faulted-over)
+  run-over state t here thread (op.Store a b i) = grind (arith, faulted-over)
+  run-over state t here thread (op.Pdx a b) = grind (arith, cond_both, pdx-over, seen-over)
+  run-over state t here thread op.Ret = grind (arith, ret-over, seen-over)
   run-over state t here thread op.Sys =
       let before = put_row state t thread in
       let told : Reply → ThreadRow → ThreadRow = λ said caller. with_registers caller 0 (0 ∷ values_of said) in
@@ -117,11 +92,7 @@ module _ (n : ℕ) where
   word-over state t thread (Some instr) = run-over state t thread.pc (advanced thread) instr
 
   turned-over : (state : State) (t : ℕ) (thread : ThreadRow) → turned (C state) t thread ≡ C (turned state t thread)
-  turned-over state t thread = by_fetch (allowed state t thread.pc X)
-    where
-      by_fetch : (v : Bool) → cond v (run_word (C state) t thread (decoded (word_at state.objects thread.pc))) (C (faulted state t fault.Denied)) ≡ C (cond v (run_word state t thread (decoded (word_at state.objects thread.pc))) (faulted state t fault.Denied))
-      by_fetch true = word-over state t thread (decoded (word_at state.objects thread.pc))
-      by_fetch false = refl
+  turned-over state t thread = grind (arith, word-over)
 
   by_row : (state : State) (t : ℕ) (o : Option ThreadRow) → option_map_or (λ thread. turned (C state) t thread) o (C state) ≡ C (option_map_or (λ thread. turned state t thread) o state)
   by_row state t None = refl

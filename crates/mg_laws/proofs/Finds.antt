@@ -1,5 +1,5 @@
 -- What a search through a list finds, and what it finds after a change of the list.
-use Rattle.std.proofs.Common.{ℕ, zero, suc, ◌<◌, ◌≡◌, ◌≢◌, Bool, true, false, cond, eqb, List, [], ◌∷◌, get_or, length, map, filter, Option, Some, None, refl, sym, ap, ◌∙◌, arith, All, AllPairs, Contains}
+use Rattle.std.proofs.Common.{ℕ, zero, suc, ◌<◌, ◌≡◌, ◌≢◌, Bool, true, false, cond, eqb, List, [], ◌∷◌, get_or, length, map, filter, Some, None, refl, sym, ap, ◌∙◌, arith, All, AllPairs, Contains}
 use Rattle.std.proofs.lemmas.Bool.{cond_both, cond-false, cond-true, eq-eqb, false≢true, ne_eqb}
 use Rattle.std.proofs.lemmas.List.Elements.{All-head, All-tail}
 use Rattle.std.proofs.lemmas.Option.{same_Some}
@@ -37,10 +37,7 @@ find_by_key key (x ∷ xs) (suc k) d apart within =
 -- a change of each element that the test does not see
 pub find-map : {X : Type 0} (test : X → Bool) (f : X → X) → ((x : X) → test (f x) ≡ test x) → (xs : List X) → find test (map f xs) ≡ option_map f (find test xs)
 find-map test f same [] = refl
-find-map test f same (x ∷ xs) =
-    cond_both (test x) (Some x) (find test xs) (λ o. cond (test (f x)) (Some (f x)) (find test (map f xs)) ≡ option_map f o)
-    (λ passes. cond-true _ _ _ (same x ∙ passes))
-    (λ fails. cond-false _ _ _ (same x ∙ fails) ∙ find-map test f same xs)
+find-map test f same (x ∷ xs) = grind (arith, (find-map test f same xs))
 
 -- a filter that keeps what passes
 pub find-filter : {X : Type 0} (test kept : X → Bool) → ((x : X) → test x ≡ true → kept x ≡ true) → (xs : List X) → find test (filter kept xs) ≡ find test xs
@@ -57,16 +54,8 @@ find-filter test kept keeps (x ∷ xs) =
 
 -- What is read from the element that is found, if a change of each element leaves it.
 pub read-map : {X Y : Type 0} (test : X → Bool) (f : X → X) (g : X → Y) (d : Y) (xs : List X) → ((x : X) → test (f x) ≡ test x) → ((x : X) → test x ≡ true → g (f x) ≡ g x) → option_map_or g (find test (map f xs)) d ≡ option_map_or g (find test xs) d
-read-map test f g d xs same leaves = ap (λ o. option_map_or g o d) (find-map test f same xs) ∙ by_found (find test xs) refl
-  where
-    by_found : (o : Option _) → find test xs ≡ o → option_map_or g (option_map f o) d ≡ option_map_or g o d
-    by_found None is = refl
-    by_found (Some x) is = leaves x (find-hit test xs x is).passes
+read-map test f g d xs same leaves = grind (arith, find-map, find-hit)
 
 -- a test on that element that still passes
 pub pass-map : {X : Type 0} (test : X → Bool) (f : X → X) (g h : X → Bool) (xs : List X) → ((x : X) → test (f x) ≡ test x) → ((x : X) → test x ≡ true → g x ≡ true → h (f x) ≡ true) → option_map_or g (find test xs) false ≡ true → option_map_or h (find test (map f xs)) false ≡ true
-pass-map test f g h xs same stays passes = ap (λ o. option_map_or h o false) (find-map test f same xs) ∙ by_found (find test xs) refl passes
-  where
-    by_found : (o : Option _) → find test xs ≡ o → option_map_or g o false ≡ true → option_map_or h (option_map f o) false ≡ true
-    by_found None is never = absurd (false≢true never)
-    by_found (Some x) is there = stays x (find-hit test xs x is).passes there
+pass-map test f g h xs same stays passes = grind (arith, find-map, find-hit)

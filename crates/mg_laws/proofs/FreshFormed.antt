@@ -1,5 +1,5 @@
 -- The fresh state of settings is well formed.
-use Rattle.std.proofs.Common.{ℕ, ◌≤◌, ◌≢◌, List, [], ◌∷◌, replicate, refl, arith, All}
+use Rattle.std.proofs.Common.{ℕ, ◌≤◌, List, [], ◌∷◌, replicate, refl, arith, All}
 use Rattle.std.proofs.lemmas.Bool.{and_parts, leb-true}
 use Rattle.std.proofs.lemmas.List.{length-replicate}
 use Rattle.std.proofs.lemmas.List.Elements.{All-cons, All-nil, All-replicate}
@@ -8,11 +8,8 @@ use Rattle.mg_model.specs.declared.accounts.AccRow.{AccRow}
 use Rattle.mg_model.specs.Draw.{password_drawn}
 use Rattle.mg_model.specs.DrawnLemmas.{drawn-IsWord}
 use Rattle.mg_model.specs.Fresh.{first_thread, fresh, root_base, root_object, root_words}
-use Rattle.mg_laws.proofs.KeepsThreads.{HasOtherBirth}
-use Rattle.mg_laws.proofs.KeepsRows.{IsBelow}
 use Rattle.mg_model.specs.KeptListLemmas.{AllPairs-nil}
-use Rattle.mg_model.specs.PasswordRows.{IsPassword}
-use Rattle.mg_model.specs.Ranges.{IsCallFrame, IsEntryOf, IsSlot, IsWord}
+use Rattle.mg_model.specs.Ranges.{IsWord}
 use Rattle.mg_model.specs.Settings.{Settings}
 use Rattle.mg_model.specs.State.{Object, Thread}
 use Rattle.mg_model.specs.WellFormed.{IsAccount, IsBefore, IsObject, IsSettings, IsThread, IsWellFormed}
@@ -25,44 +22,13 @@ root_words-words password word =
 
 root_object-formed : (password : ℕ) → IsWord password → IsObject (root_object password)
 root_object-formed password word = record {
-  row = record {
-    place = record { aligned = refl; low = omega arith; some = omega arith; few = omega arith; high = omega arith };
-    account_some = omega arith;
-    account_few = omega arith;
-    few_passwords = omega arith;
-    passwords = All-cons IsPassword _ [] (record { password = word; rights = record { some = omega arith; six = omega arith }; begins = omega arith; ends = omega arith }) (All-nil IsPassword);
-    few_entries = omega arith;
-    entries = All-nil (IsEntryOf 0x0000000100000000 1);
-    distinct = AllPairs-nil (λ (x y : ℕ). x ≢ y);
-    extension = λ slot none. absurd (cc);
-  };
+  row = grind (arith, All-cons, All-nil, AllPairs-nil);
   long = omega (arith, length-replicate {A = ℕ} 508 0);
   words = root_words-words password word;
 }
 
 first_thread-formed : (password : ℕ) → IsWord password → IsThread 1 (first_thread password)
-first_thread-formed password word = record {
-  some = omega arith;
-  few = omega arith;
-  row = record {
-    birth = omega arith;
-    creator = omega arith;
-    pc = omega arith;
-    aligned = refl;
-    eight = refl;
-    registers = All-replicate IsWord 8 0 (omega arith);
-    some_frame = omega arith;
-    few_frames = omega arith;
-    frames = All-cons IsCallFrame _ [] (record {
-      back = omega arith;
-      aligned = refl;
-      few = omega arith;
-      slots = All-cons IsSlot _ [] (record { base = omega arith; password = word }) (All-nil IsSlot);
-    }) (All-nil IsCallFrame);
-    bottom = refl;
-  };
-  born = omega arith;
-}
+first_thread-formed password word = grind (arith, All-replicate, All-cons, All-nil)
 
 pub fresh-formed : (settings : Settings) → IsSettings settings → IsWellFormed (fresh settings)
 fresh-formed settings is =
@@ -87,10 +53,6 @@ fresh-formed settings is =
         each = All-cons (IsAccount 0) treasury [] (record { password = drawn-IsWord settings.seed 1; owed = omega arith }) (All-nil (IsAccount 0));
         sum = omega arith;
       };
-      threads = record {
-        each = All-cons (IsThread 1) thread [] (first_thread-formed (password_drawn settings.seed 0) word) (All-nil (IsThread 1));
-        ordered = AllPairs-cons IsBelow thread [] (All-nil (IsBelow thread)) (AllPairs-nil IsBelow);
-        distinct = AllPairs-cons HasOtherBirth thread [] (All-nil (HasOtherBirth thread)) (AllPairs-nil HasOtherBirth);
-      };
+      threads = grind (arith, All-cons, first_thread-formed, All-nil, AllPairs-cons, AllPairs-nil);
       first = (thread.row, refl, record { birth = refl; creator = refl });
     }

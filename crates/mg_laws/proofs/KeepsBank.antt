@@ -5,7 +5,7 @@ use Rattle.std.proofs.lemmas.List.{length_push}
 use Rattle.std.proofs.lemmas.List.Elements.{All-push, All-weaker}
 use Rattle.std.proofs.lemmas.List.Sums.{sum_by_push}
 use Rattle.mg_model.specs.declared.accounts.AccRow.{AccRow}
-use Rattle.mg_model.specs.Bank.{account_of, all_charged, balance_of, given_to, opens, pages_of, rate_now, rent_accounts, rent_paid, taken_from, used}
+use Rattle.mg_model.specs.Bank.{account_of, all_charged, balance_of, given_to, opens, pages_of, rate_now, rent_accounts, rent_paid, taken_from}
 use Rattle.mg_model.specs.Limits.{account_limit, period_limit}
 use Rattle.mg_model.specs.BankCalls.{balance, open_account, pay, rent}
 use Rattle.mg_model.specs.DrawnLemmas.{drawn-IsWord}
@@ -21,24 +21,11 @@ use Rattle.mg_model.specs.WellFormed.{AreAccounts, AreObjects, IsAccount, IsWell
 
 -- objects stay as they are if there are as many accounts as before, or more
 objects-more : (frames before after : ℕ) (objects : List Object) → before ≤ after → AreObjects frames before objects → AreObjects frames after objects
-objects-more frames before after objects more formed = record {
-  few = formed.few;
-  each = formed.each;
-  apart = formed.apart;
-  paid = All-weaker (λ (object : Object). object.row.account ≤ before) (λ (object : Object). object.row.account ≤ after) (λ object paid. omega arith) objects formed.paid;
-  fit = formed.fit;
-}
+objects-more frames before after objects more formed = grind (arith, All-weaker)
 
 -- other accounts
 pub accounts-keep : (state : State) (accounts : List AccRow) → IsWellFormed state → AreAccounts state.settings.credits state.counters.period accounts → length state.accounts ≤ length accounts → IsWellFormed (record state { accounts = accounts })
-accounts-keep state accounts formed are more = record {
-  settings = formed.settings;
-  counters = formed.counters;
-  objects = objects-more state.settings.frames (length state.accounts) (length accounts) state.objects more formed.objects;
-  accounts = are;
-  threads = formed.threads;
-  first = formed.first;
-}
+accounts-keep state accounts formed are more = grind (arith, objects-more)
 
 -- an account that a password opens is there
 opens-some : (accounts : List AccRow) (number password : ℕ) → opens accounts number password ≡ true → is_some (account_of accounts number) ≡ true
@@ -110,36 +97,12 @@ rent-edits state formed =
     let some = formed.accounts.some in
     let fit = formed.objects.fit in
     let frames = frames-few state.settings formed.settings in
-    let few : (number : ℕ) → rate_now state * pages_of state.objects number ≤ 2 ^ 36 =
-    λ number. due-few state.objects (rate_now state) number (omega arith) (rate_of-few state.settings.tariff (used state.objects) formed.settings.tariff) in
+    let few : (number : ℕ) → rate_now state * pages_of state.objects number ≤ 2 ^ 36 = λ number. grind (arith, due-few, rate_of-few) in
     given_to-edits (state.counters.period + 1) charged 1 (rent_paid state) (account_of-there charged 1 (omega arith) (omega arith))
     (all_charged-each state.objects rate state.counters.period few 1 state.accounts formed.accounts.each)
 
 rented-keeps : (state : State) → IsWellFormed state → state.counters.period < period_limit → IsWellFormed (record state { counters = record state.counters { period = state.counters.period + 1 }; accounts = rent_accounts state })
-rented-keeps state formed early =
-    let edited = rent-edits state formed in
-    let long = edited.long in
-    let sum = edited.sum in
-    let count = length-all_charged state.objects (rate_now state) 1 state.accounts in
-    let kept = all_charged-total state.objects (rate_now state) 1 state.accounts in
-    let before = formed.accounts.sum in
-    let some = formed.accounts.some in
-    let few = formed.accounts.few in
-    record {
-      settings = formed.settings;
-      counters = record {
-        some_draws = formed.counters.some_draws;
-        draws = formed.counters.draws;
-        period = omega arith;
-        cursor = formed.counters.cursor;
-        some_births = formed.counters.some_births;
-        births = formed.counters.births;
-      };
-      objects = objects-more state.settings.frames (length state.accounts) (length (rent_accounts state)) state.objects (omega arith) formed.objects;
-      accounts = record { some = omega arith; few = omega arith; each = edited.each; sum = omega arith };
-      threads = formed.threads;
-      first = formed.first;
-    }
+rented-keeps state formed early = grind (arith, rent-edits, length-all_charged, all_charged-total, objects-more)
 
 pub rent-keeps : (state : State) → IsWellFormed state → IsWellFormed (rent state).0
 rent-keeps state formed =

@@ -1,5 +1,5 @@
 -- `create` keeps the state well formed: its pages are there, and its object is one.
-use Rattle.std.proofs.Common.{◌≡◌, ℕ, ◌+◌, ◌*◌, ◌/◌, ◌^◌, ◌<◌, ◌≤◌, ◌≢◌, ◌==◌, nat_le, nat_lt, ◌&&◌, ◌||◌, true, false, not, [], length, subst, sym, arith}
+use Rattle.std.proofs.Common.{◌≡◌, ℕ, ◌+◌, ◌*◌, ◌/◌, ◌<◌, ◌≤◌, ◌==◌, nat_le, nat_lt, ◌||◌, true, false, not, length, subst, sym, arith}
 use Rattle.std.proofs.lemmas.Bool.{and_parts, eqb-false, leb-false, leb-true, ltb-false, not-false, or_parts}
 use Rattle.std.proofs.lemmas.List.{length-replicate}
 use Rattle.std.proofs.lemmas.List.Elements.{All-nil, All-push, All-replicate}
@@ -12,21 +12,18 @@ use Rattle.mg_model.specs.KeptListLemmas.{AllPairs-nil}
 use Rattle.mg_laws.proofs.KeptObjects.{AreObjects-with_object}
 use Rattle.mg_laws.proofs.Lowest.{lowest_free-exists}
 use Rattle.mg_laws.specs.Laws.{IsLowest}
-use Rattle.mg_model.specs.Limits.{object_limit, object_page_limit, first_page, never, page_end}
+use Rattle.mg_model.specs.Limits.{object_limit, object_page_limit, first_page, page_end}
 use Rattle.mg_model.specs.ObjectCalls.{all_drawn, create, drawn, next_password}
 use Rattle.mg_model.specs.Objects.{is_free, lowest_free, new_object, with_object}
 use Rattle.mg_laws.proofs.Passed.{unrefused}
-use Rattle.mg_model.specs.PasswordRows.{IsPassword}
-use Rattle.mg_model.specs.Ranges.{IsEntryOf, IsWord}
+use Rattle.mg_model.specs.Ranges.{IsWord}
 use Rattle.mg_model.specs.Settings.{Settings}
 use Rattle.mg_model.specs.State.{Object, State}
 use Rattle.mg_model.specs.WellFormed.{IsObject, IsSettings, IsWellFormed}
 
 -- there are at most 65,536 frames
 pub frames-few : (settings : Settings) → IsSettings settings → settings.frames ≤ 65536
-frames-few settings is =
-    let parts = and_parts (nat_le 16 settings.frames && nat_le settings.frames 65536) (nat_le settings.credits (2 ^ 62)) is.limits in
-    leb-true settings.frames 65536 (and_parts (nat_le 16 settings.frames) (nat_le settings.frames 65536) parts.0).1
+frames-few settings is = grind (arith, and_parts, leb-true)
 
 -- what a new object needs
 record HasPlace (page n : ℕ) : Type 0 where
@@ -44,17 +41,7 @@ new_object-formed page n account password place some few word =
     let low = place.low in
     let high = place.high in
     record {
-      row = record {
-        place = record { aligned = omega arith; low = omega arith; some = place.some; few = place.few; high = omega arith };
-        account_some = some;
-        account_few = few;
-        few_passwords = omega arith;
-        passwords = All-push IsPassword [] (record { password = password; rights = 63; until = never }) (All-nil IsPassword) (record { password = word; rights = record { some = omega arith; six = omega arith }; begins = omega arith; ends = omega arith });
-        few_entries = omega arith;
-        entries = All-nil (IsEntryOf (4096 * page) n);
-        distinct = AllPairs-nil (λ x y. x ≢ y);
-        extension = λ slot is. absurd (cc);
-      };
+      row = grind (arith, All-push, All-nil, AllPairs-nil);
       long = length-replicate (512 * n) 0;
       words = All-replicate IsWord (512 * n) 0 (omega arith);
     }

@@ -4,7 +4,7 @@ use Rattle.std.proofs.lemmas.Bool.{cond_both, eqb-true, leb-false, ltb-false, no
 use Rattle.std.proofs.lemmas.List.{get_or-take, get_or_append_left, length-take-le, length_push}
 use Rattle.std.proofs.lemmas.List.Elements.{All-append, All-cons, All-drop, All-head, All-nil, All-push, All-tail, All-take}
 use Rattle.std.proofs.lemmas.Option.{get_or_from_slice_get, same_Some, slice_get_within}
-use Rattle.std.specs.Prelude.{◌/◌, ◌^◌, ◌==◌, All, find, slice_get}
+use Rattle.std.specs.Prelude.{All, find, slice_get}
 use Rattle.std.specs.Option.{option_map_or, option_to_list}
 use Rattle.mg_model.specs.declared.rights.Right.TheVariants.{P}
 use Rattle.mg_model.specs.declared.slots.Slot.{Slot}
@@ -65,27 +65,14 @@ first_back-with_last_slots (frame ∷ next ∷ frames) slots = refl
 
 All-with_last_slots : (frames : List CallFrame) (slots : List Slot) → AreSlots slots → All IsCallFrame frames → All IsCallFrame (with_last_slots frames slots)
 All-with_last_slots [] slots are all = all
-All-with_last_slots (frame ∷ []) slots are all =
-    let is : IsCallFrame frame = All-head IsCallFrame frame [] all in
-    All-cons IsCallFrame _ [] (record { back = is.back; aligned = is.aligned; few = are.few; slots = are.each }) (All-nil IsCallFrame)
+All-with_last_slots (frame ∷ []) slots are all = grind (arith, All-head, All-cons, All-nil)
 All-with_last_slots (frame ∷ next ∷ frames) slots are all =
-    All-cons IsCallFrame frame _ (All-head IsCallFrame frame (next ∷ frames) all) (All-with_last_slots (next ∷ frames) slots are (All-tail IsCallFrame frame (next ∷ frames) all))
+    grind (arith, (All-with_last_slots (next ∷ frames) slots are (All-tail IsCallFrame frame (next ∷ frames) all)), All-cons, All-head, All-tail)
 
 pub with_slots-keeps : (state : State) (t : ℕ) (slots : List Slot) → IsWellFormed state → AreSlots slots → IsWellFormed (with_slots state t slots)
 with_slots-keeps state t slots formed are =
     with_thread-keeps state t (λ thread. record thread { frames = with_last_slots thread.frames slots }) formed (λ row _ is. record {
-      row = record {
-        birth = is.birth;
-        creator = is.creator;
-        pc = is.pc;
-        aligned = is.aligned;
-        eight = is.eight;
-        registers = is.registers;
-        some_frame = rw length-with_last_slots is.some_frame;
-        few_frames = rw length-with_last_slots is.few_frames;
-        frames = All-with_last_slots row.frames slots are is.frames;
-        bottom = first_back-with_last_slots row.frames slots ∙ is.bottom;
-      };
+      row = grind (arith, length-with_last_slots, All-with_last_slots, first_back-with_last_slots);
       birth = refl;
       creator = refl;
     })
@@ -115,10 +102,7 @@ apddel-keeps state t index formed =
 All-kept_from : (mask j : ℕ) (slots : List Slot) → All IsSlot slots → All IsSlot (kept_from mask j slots)
 All-kept_from mask j [] all = all
 All-kept_from mask j (slot ∷ slots) all =
-    let rest : All IsSlot (kept_from mask (j + 1) slots) = All-kept_from mask (j + 1) slots (All-tail IsSlot slot slots all) in
-    cond_both (mask / 2 ^ j % 2 == 1) (slot ∷ kept_from mask (j + 1) slots) (kept_from mask (j + 1) slots) (All IsSlot)
-    (λ _. All-cons IsSlot slot _ (All-head IsSlot slot slots all) rest)
-    (λ _. rest)
+    grind (arith, (All-kept_from mask (j + 1) slots (All-tail IsSlot slot slots all)), All-tail, cond_both, All-cons, All-head)
 
 slots_of_extension : (o : Option Slot) → ((slot : Slot) → o ≡ Some slot → IsSlot slot) → All IsSlot (option_to_list o)
 slots_of_extension None is = All-nil IsSlot
@@ -196,18 +180,7 @@ returned-keeps state t formed more =
     let back : IsAddress (last_back row.frames) = last_back-formed row.frames is.frames in
     let long : length (take (length row.frames - 1) row.frames) ≡ length row.frames - 1 = length-take-le (length row.frames - 1) row.frames (omega arith) in
     record {
-      row = record {
-        birth = is.birth;
-        creator = is.creator;
-        pc = back.word;
-        aligned = back.aligned;
-        eight = is.eight;
-        registers = is.registers;
-        some_frame = rw long (omega arith);
-        few_frames = rw long (omega arith);
-        frames = All-take IsCallFrame (length row.frames - 1) row.frames is.frames;
-        bottom = ap (λ (f : CallFrame). f.back) (get_or-take (length row.frames - 1) row.frames 0 _ (omega arith)) ∙ is.bottom;
-      };
+      row = grind (arith, All-take, get_or-take);
       birth = refl;
       creator = refl;
     })

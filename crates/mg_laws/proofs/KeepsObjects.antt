@@ -1,5 +1,5 @@
 -- The calls on words and objects keep the state well formed.
-use Rattle.std.proofs.Common.{◌≡◌, ◌≢◌, ℕ, ◌+◌, ◌*◌, ◌%◌, ◌^◌, ◌<◌, ◌≤◌, ◌==◌, nat_le, ◌&&◌, ◌||◌, false, not, List, [], ◌∷◌, ◌++◌, length, filter, get_or, Option, Some, None, refl, sym, ◌∙◌, subst, inl, inr, arith}
+use Rattle.std.proofs.Common.{◌≡◌, ◌≢◌, ℕ, ◌+◌, ◌*◌, ◌<◌, ◌≤◌, nat_le, ◌&&◌, ◌||◌, false, not, List, [], ◌∷◌, ◌++◌, length, filter, get_or, Option, Some, None, refl, sym, ◌∙◌, inl, inr, arith}
 use Rattle.std.proofs.lemmas.Bool.{cond_both, eq-eqb, false≢true, eqb-false, eqb-true, leb-false, not-false, or_parts, and_cases}
 use Rattle.std.proofs.lemmas.List.{length_push}
 use Rattle.std.proofs.lemmas.List.Elements.{All-filter, All-push}
@@ -29,35 +29,11 @@ use Rattle.mg_model.specs.WellFormed.{AreObjects, IsWellFormed}
 
 -- other objects
 pub objects-keep : (state : State) (objects : List Object) → IsWellFormed state → AreObjects state.settings.frames (length state.accounts) objects → IsWellFormed (record state { objects = objects })
-objects-keep state objects formed are = record {
-  settings = formed.settings;
-  counters = formed.counters;
-  objects = are;
-  accounts = formed.accounts;
-  threads = formed.threads;
-  first = formed.first;
-}
+objects-keep state objects formed are = grind arith
 
 -- one password more is drawn
 pub drawn-keeps : (state : State) → IsWellFormed state → all_drawn state ≡ false → IsWellFormed (drawn state)
-drawn-keeps state formed left =
-    let some = formed.counters.some_draws in
-    let room : state.counters.draws < 2 ^ 32 = leb-false (2 ^ 32) state.counters.draws left in
-    record {
-      settings = formed.settings;
-      counters = record {
-        some_draws = omega arith;
-        draws = omega arith;
-        period = formed.counters.period;
-        cursor = formed.counters.cursor;
-        some_births = formed.counters.some_births;
-        births = formed.counters.births;
-      };
-      objects = formed.objects;
-      accounts = formed.accounts;
-      threads = formed.threads;
-      first = formed.first;
-    }
+drawn-keeps state formed left = grind (arith, leb-false)
 
 pub load-keeps : (state : State) (t a : ℕ) → IsWellFormed state → IsWellFormed (load state t a).0
 load-keeps state t a formed = unless_refused-keeps _ state _ formed (λ _. formed)
@@ -78,11 +54,7 @@ delete-keeps state t b formed =
 -- the until of a new password is from 1 to `never`
 given_until : (period : ℕ) (until : Option ℕ) → is_past period until ≡ false → (1 ≤ unwrap_or until never) × (unwrap_or until never ≤ never)
 given_until period None past = (omega arith, omega arith)
-given_until period (Some until) past =
-    let parts = or_parts (nat_le until period) (nat_le never until) past in
-    let above = leb-false until period parts.0 in
-    let below = leb-false never until parts.1 in
-    (omega arith, omega arith)
+given_until period (Some until) past = grind (arith, or_parts, leb-false)
 
 -- one password more
 password-added : (state : State) (b rights : ℕ) (until : Option ℕ) → IsWellFormed state → IsRights rights → is_past state.counters.period until ≡ false → length (row_at state b).passwords < 32 → all_drawn state ≡ false
@@ -95,20 +67,8 @@ password-added state b rights until formed some past room left =
     (AreObjects-with_row_at state b change formed (λ row. record { base = refl; pages = refl })
     (λ paid.
     let few = length_push (row_at state b).passwords new in
-    record {
-      formed = record {
-        place = paid.formed.place;
-        account_some = paid.formed.account_some;
-        account_few = paid.formed.account_few;
-        few_passwords = omega arith;
-        passwords = All-push IsPassword (row_at state b).passwords new paid.formed.passwords (record { password = drawn-IsWord state.settings.seed state.counters.draws; rights = some; begins = ends.0; ends = ends.1 });
-        few_entries = paid.formed.few_entries;
-        entries = paid.formed.entries;
-        distinct = paid.formed.distinct;
-        extension = paid.formed.extension;
-      };
-      paid = paid.paid;
-    }))
+    let each = All-push IsPassword (row_at state b).passwords new paid.formed.passwords (record { password = drawn-IsWord state.settings.seed state.counters.draws; rights = some; begins = ends.0; ends = ends.1 }) in
+    record { formed = grind arith; paid = paid.paid }))
 
 pub pwadd-keeps : (state : State) (t b rights : ℕ) (until : Option ℕ) → IsWellFormed state → IsRights rights → IsWellFormed (pwadd state t b rights until).0
 pwadd-keeps state t b rights until formed some =
@@ -127,42 +87,18 @@ pwdel-keeps state t b password formed =
     (AreObjects-with_row_at state b change formed (λ row. record { base = refl; pages = refl })
     (λ paid.
     let row = row_at state b in
-    let few = paid.formed.few_passwords in
-    record {
-      formed = record {
-        place = paid.formed.place;
-        account_some = paid.formed.account_some;
-        account_few = paid.formed.account_few;
-        few_passwords = omega (arith, length-filter-le (λ pw. not (has_password password pw)) row.passwords);
-        passwords = All-filter (λ pw. not (has_password password pw)) IsPassword row.passwords paid.formed.passwords;
-        few_entries = paid.formed.few_entries;
-        entries = paid.formed.entries;
-        distinct = paid.formed.distinct;
-        extension = paid.formed.extension;
-      };
-      paid = paid.paid;
-    })))
+    let few : length (filter (λ pw. not (has_password password pw)) row.passwords) ≤ 32 = omega (arith, length-filter-le (λ pw. not (has_password password pw)) row.passwords) in
+    let each = All-filter (λ pw. not (has_password password pw)) IsPassword row.passwords paid.formed.passwords in
+    record { formed = grind arith; paid = paid.paid })))
 
 -- one entry more, at the end, that is none of the others
 entry-added : (accounts address : ℕ) (row : ObjectRow) → IsPaidRow accounts row → IsEntryOf row.base row.pages address → length row.entries < 16 → is_entry row address ≡ false → IsPaidRow accounts (record row { entries = row.entries ++ address ∷ [] })
 entry-added accounts address row paid inside room new =
     let few = length_push row.entries address in
-    let others : (k d : ℕ) → k < length row.entries → get_or row.entries k d ≢ address =
-    λ k d within same. false≢true (sym new ∙ list_any_at (λ entry. entry == address) row.entries k d within (eq-eqb (get_or row.entries k d) address same)) in
-    record {
-      formed = record {
-        place = paid.formed.place;
-        account_some = paid.formed.account_some;
-        account_few = paid.formed.account_few;
-        few_passwords = paid.formed.few_passwords;
-        passwords = paid.formed.passwords;
-        few_entries = omega arith;
-        entries = All-push (IsEntryOf row.base row.pages) row.entries address paid.formed.entries inside;
-        distinct = all_pairs_push (λ x y. x ≢ y) row.entries address paid.formed.distinct others;
-        extension = paid.formed.extension;
-      };
-      paid = paid.paid;
-    }
+    let others : (k d : ℕ) → k < length row.entries → get_or row.entries k d ≢ address = λ k d within same. grind (arith, list_any_at, eq-eqb) in
+    let each = All-push (IsEntryOf row.base row.pages) row.entries address paid.formed.entries inside in
+    let distinct = all_pairs_push (λ x y. x ≢ y) row.entries address paid.formed.distinct others in
+    record { formed = grind arith; paid = paid.paid }
 
 with_entry-paid : (accounts address : ℕ) (row : ObjectRow) → IsPaidRow accounts row → IsEntryOf row.base row.pages address → (nat_le entry_point_limit (length row.entries) && not (is_entry row address)) ≡ false → IsPaidRow accounts (with_entry row address)
 with_entry-paid accounts address row paid inside room =
@@ -176,16 +112,10 @@ with_entry-paid accounts address row paid inside room =
     new)
 
 with_entry-placed : (address : ℕ) (row : ObjectRow) → HasPlaceOf (with_entry row address) row
-with_entry-placed address row =
-    cond_both (is_entry row address) row (record row { entries = row.entries ++ address ∷ [] }) (λ r. HasPlaceOf r row) (λ _. record { base = refl; pages = refl }) (λ _. record { base = refl; pages = refl })
+with_entry-placed address row = grind (arith, cond_both)
 
 entry_address : (row : ObjectRow) (off : ℕ) → IsObjectRow row → (not (is_aligned off) || nat_le (4096 * row.pages) off) ≡ false → IsEntryOf row.base row.pages (row.base + off)
-entry_address row off formed range =
-    let parts = or_parts (not (is_aligned off)) (nat_le (4096 * row.pages) off) range in
-    let aligned : off % 8 ≡ 0 = eqb-true (off % 8) 0 (not-false (is_aligned off) parts.0) in
-    let base = formed.place.aligned in
-    let below : off < 4096 * row.pages = leb-false (4096 * row.pages) off parts.1 in
-    record { aligned = omega arith; above = omega arith; below = omega arith }
+entry_address row off formed range = grind (arith, or_parts, eqb-true, not-false, leb-false)
 
 pub entry-keeps : (state : State) (t b off : ℕ) → IsWellFormed state → IsWellFormed (entry state t b off).0
 entry-keeps state t b off formed =
@@ -198,10 +128,7 @@ entry-keeps state t b off formed =
     (λ paid. with_entry-paid (length state.accounts) ((row_at state b).base + off) (row_at state b) paid (entry_address (row_at state b) off paid.formed range.0) limit.0)))
 
 extension-formed : (clist password : ℕ) → IsWord clist → IsWord password → ForSome (extension_of clist password) IsExtension
-extension-formed clist password base word =
-    cond_both (clist == 0) None (Some record { base = clist; password = password }) (λ o. ForSome o IsExtension)
-    (λ _ slot is. absurd (cc))
-    (λ some slot is. subst IsExtension (same_Some (record { base = clist; password = password }) slot is) (record { fields = record { base = base; password = word }; some = eqb-false clist 0 some }))
+extension-formed clist password base word = grind (arith, cond_both, same_Some, eqb-false)
 
 pub ext-keeps : (state : State) (t b clist password : ℕ) → IsWellFormed state → IsWord clist → IsWord password → IsWellFormed (ext state t b clist password).0
 ext-keeps state t b clist password formed base word =
@@ -210,17 +137,7 @@ ext-keeps state t b clist password formed base word =
     objects-keep state (with_row_at state b change).objects formed
     (AreObjects-with_row_at state b change formed (λ row. record { base = refl; pages = refl })
     (λ paid. record {
-      formed = record {
-        place = paid.formed.place;
-        account_some = paid.formed.account_some;
-        account_few = paid.formed.account_few;
-        few_passwords = paid.formed.few_passwords;
-        passwords = paid.formed.passwords;
-        few_entries = paid.formed.few_entries;
-        entries = paid.formed.entries;
-        distinct = paid.formed.distinct;
-        extension = extension-formed clist password base word;
-      };
+      formed = grind (arith, extension-formed);
       paid = paid.paid;
     })))
 
@@ -232,17 +149,7 @@ recharged state b account formed some there =
     objects-keep state (with_row_at state b change).objects formed
     (AreObjects-with_row_at state b change formed (λ row. record { base = refl; pages = refl })
     (λ paid. record {
-      formed = record {
-        place = paid.formed.place;
-        account_some = some;
-        account_few = omega arith;
-        few_passwords = paid.formed.few_passwords;
-        passwords = paid.formed.passwords;
-        few_entries = paid.formed.few_entries;
-        entries = paid.formed.entries;
-        distinct = paid.formed.distinct;
-        extension = paid.formed.extension;
-      };
+      formed = grind arith;
       paid = there;
     }))
 

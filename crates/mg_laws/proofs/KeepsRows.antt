@@ -1,5 +1,5 @@
 -- A change of one thread's row keeps the state well formed if the row stays a row of a thread, with its birth and its creator.
-use Rattle.std.proofs.Common.{ℕ, zero, suc, ◌<◌, ◌≤◌, ◌≡◌, ◌≢◌, cond, eqb, List, [], ◌∷◌, length, get_or, map, Option, Some, None, refl, sym, ap, ◌∙◌, subst, arith}
+use Rattle.std.proofs.Common.{ℕ, zero, suc, ◌<◌, ◌≡◌, ◌≢◌, cond, eqb, List, [], ◌∷◌, length, get_or, map, Option, Some, None, refl, sym, ap, ◌∙◌, subst, arith}
 use Rattle.std.proofs.lemmas.Bool.{cond_both, cond-true, cond-false, eq-eqb, eqb-true, ne_eqb}
 use Rattle.std.proofs.lemmas.List.{get_or-map, length-map}
 use Rattle.std.proofs.lemmas.List.Elements.{All-map}
@@ -69,14 +69,10 @@ pub row_of-thread : (state : State) (t : ℕ) (thread : Thread) → thread_of st
 row_of-thread state t thread is = ap (λ (o : Option Thread). option_map_or (λ (x : Thread). Some x.row) o None) is
 
 pub frames_of-row : (state : State) (t : ℕ) (row : ThreadRow) → row_of state t ≡ Some row → frames_of state t ≡ row.frames
-frames_of-row state t row is =
-    let w = thread_with_row (thread_of state t) row is in
-    ap (λ (o : Option Thread). option_map_or (λ (x : Thread). x.row.frames) o []) w.1 ∙ ap (λ (x : ThreadRow). x.frames) w.2
+frames_of-row state t row is = grind (arith, thread_with_row)
 
 pub domain_of-row : (state : State) (t : ℕ) (row : ThreadRow) → row_of state t ≡ Some row → domain_of state t ≡ last_slots row.frames
-domain_of-row state t row is =
-    let w = thread_with_row (thread_of state t) row is in
-    ap (λ (o : Option Thread). option_map_or (λ (x : Thread). last_slots x.row.frames) o []) w.1 ∙ ap (λ (x : ThreadRow). last_slots x.frames) w.2
+domain_of-row state t row is = grind (arith, thread_with_row)
 
 pub thread-formed : (births : ℕ) (threads : List Thread) (t : ℕ) (thread : Thread) → AreThreads births threads → find (λ (x : Thread). eqb x.number t) threads ≡ Some thread → IsThread births thread
 thread-formed births threads t thread are is =
@@ -102,17 +98,7 @@ module _ (state : State) (t : ℕ) (change : ThreadRow → ThreadRow) (formed : 
       (λ _. record { row = is.row; birth = refl; creator = refl })
 
   changed-thread : (k : ℕ) (d : Thread) → k < length state.threads → IsThread state.counters.births (changed t change (get_or state.threads k d))
-  changed-thread k d within =
-      let x : Thread = get_or state.threads k d in
-      let is : IsThread state.counters.births x = formed.threads.each k d within in
-      let kept : KeepsRow x.row (changed t change x).row = changed-row k d within in
-      let number : (changed t change x).number ≡ x.number = changed-number t change x in
-      record {
-        some = subst (λ n. 1 ≤ n) (sym number) is.some;
-        few = subst (λ n. n ≤ 256) (sym number) is.few;
-        row = kept.row;
-        born = subst (λ n. n ≤ state.counters.births) (sym kept.birth) is.born;
-      }
+  changed-thread k d within = grind (arith, changed-row, changed-number)
 
   changed_threads : AreThreads state.counters.births (map (changed t change) state.threads)
   changed_threads = record {

@@ -11,12 +11,12 @@ use Rattle.mg_model.specs.Abbreviations.{free_number}
 use Rattle.mg_model.specs.Access.{allowed, domain_of, thread_of}
 use Rattle.mg_model.specs.Domains.{row_of, with_thread}
 use Rattle.mg_laws.proofs.Keeps.{unless_refused-keeps}
-use Rattle.mg_laws.proofs.KeepsDomains.{AreSlots, aligned_from, domain_of-formed}
+use Rattle.mg_laws.proofs.KeepsDomains.{aligned_from, domain_of-formed}
 use Rattle.mg_laws.proofs.KeepsRows.{IsBelow, found, thread-formed, thread_with_row, with_thread-keeps}
 use Rattle.mg_model.specs.KeptListLemmas.{AllPairs-head, AllPairs-nil, AllPairs-tail}
 use Rattle.mg_model.specs.ObjectCalls.{is_aligned}
 use Rattle.mg_laws.proofs.Passed.{unrefused}
-use Rattle.mg_model.specs.Ranges.{IsCallFrame, IsThreadRow, IsWord}
+use Rattle.mg_model.specs.Ranges.{IsThreadRow, IsWord}
 use Rattle.mg_model.specs.State.{State, Thread, ThreadRow}
 use Rattle.mg_model.specs.Threads.{birth_of, born, end_thread, free_number_from, is_own, is_thread, make_thread, new_thread, resume, with_new_thread}
 use Rattle.mg_model.specs.WellFormed.{AreThreads, IsFirst, IsThread, IsWellFormed}
@@ -56,9 +56,7 @@ free_number-free births threads are = free_number_from-free 1 threads are.ordere
 All-with_new_thread : (P : Thread → Type 0) (new : Thread) (threads : List Thread) → P new → All P threads → All P (with_new_thread new threads)
 All-with_new_thread P new [] this all = All-cons P new [] this all
 All-with_new_thread P new (x ∷ xs) this all =
-    cond_both (ltb new.number x.number) (new ∷ x ∷ xs) (x ∷ with_new_thread new xs) (All P)
-    (λ _. All-cons P new (x ∷ xs) this all)
-    (λ _. All-cons P x _ (All-head P x xs all) (All-with_new_thread P new xs this (All-tail P x xs all)))
+    grind (arith, (All-with_new_thread P new xs this (All-tail P x xs all)), cond_both, All-cons, All-head, All-tail)
 
 ordered-with_new_thread : (new : Thread) (threads : List Thread) → AllPairs IsBelow threads → All (λ (thread : Thread). thread.number ≢ new.number) threads → AllPairs IsBelow (with_new_thread new threads)
 ordered-with_new_thread new [] ordered free = AllPairs-cons IsBelow new [] (All-nil (IsBelow new)) (AllPairs-nil IsBelow)
@@ -91,10 +89,7 @@ distinct-with_new_thread new (x ∷ xs) distinct before =
 pub find-with_new_thread : (t : ℕ) (new : Thread) (threads : List Thread) → new.number ≢ t →
     find (λ (thread : Thread). eqb thread.number t) (with_new_thread new threads) ≡ find (λ (thread : Thread). eqb thread.number t) threads
 find-with_new_thread t new [] other = cond-false _ _ _ (ne_eqb _ _ other)
-find-with_new_thread t new (x ∷ xs) other =
-    cond_both (ltb new.number x.number) (new ∷ x ∷ xs) (x ∷ with_new_thread new xs) (λ (ys : List Thread). find (λ (thread : Thread). eqb thread.number t) ys ≡ find (λ (thread : Thread). eqb thread.number t) (x ∷ xs))
-    (λ _. cond-false _ _ _ (ne_eqb _ _ other))
-    (λ _. ap (λ (o : Option Thread). cond (eqb x.number t) (Some x) o) (find-with_new_thread t new xs other))
+find-with_new_thread t new (x ∷ xs) other = grind (arith, (find-with_new_thread t new xs other))
 
 birth_of_thread : (state : State) (t : ℕ) (o : Option Thread) → IsWellFormed state → thread_of state t ≡ o → option_map_or (λ (thread : Thread). thread.row.birth) o 0 ≤ state.counters.births
 birth_of_thread state t None formed is = omega arith
@@ -109,21 +104,7 @@ module _ (state : State) (t pc : ℕ) (formed : IsWellFormed state) (word : IsWo
 
   made_row : IsThreadRow made.row
   unfolding made
-  made_row =
-      let slots : AreSlots (domain_of state t) = domain_of-formed state t formed in
-      let born : birth_of state t ≤ state.counters.births = birth_of-born state t formed in
-      record {
-        birth = omega arith;
-        creator = omega arith;
-        pc = word;
-        aligned = aligned;
-        eight = refl;
-        registers = All-replicate IsWord 8 0 (omega arith);
-        some_frame = omega arith;
-        few_frames = omega arith;
-        frames = All-cons IsCallFrame _ [] (record { back = omega arith; aligned = refl; few = slots.few; slots = slots.each }) (All-nil IsCallFrame);
-        bottom = refl;
-      }
+  made_row = grind (arith, domain_of-formed, birth_of-born, All-replicate, All-cons, All-nil)
 
   made_threads : AreThreads (state.counters.births + 1) (with_new_thread made state.threads)
   unfolding made
@@ -148,21 +129,7 @@ module _ (state : State) (t pc : ℕ) (formed : IsWellFormed state) (word : IsWo
 
   made-keeps : IsWellFormed (record (born state) { threads = with_new_thread made state.threads })
   unfolding made
-  made-keeps = record {
-    settings = formed.settings;
-    counters = record {
-      some_draws = formed.counters.some_draws;
-      draws = formed.counters.draws;
-      period = formed.counters.period;
-      cursor = formed.counters.cursor;
-      some_births = omega arith;
-      births = omega arith;
-    };
-    objects = formed.objects;
-    accounts = formed.accounts;
-    threads = made_threads;
-    first = made_first;
-  }
+  made-keeps = grind (arith, made_threads, made_first)
 
 pub make_thread-keeps : (state : State) (t pc : ℕ) → IsWellFormed state → IsWord pc → IsWellFormed (make_thread state t pc).0
 unfolding made
@@ -213,18 +180,7 @@ end_thread-keeps state t i formed =
 resumed-keeps : (state : State) (i : ℕ) → IsWellFormed state → IsWellFormed (with_thread state i (λ thread. record thread { state = Ready }))
 resumed-keeps state i formed =
     with_thread-keeps state i (λ thread. record thread { state = Ready }) formed (λ row _ is. record {
-      row = record {
-        birth = is.birth;
-        creator = is.creator;
-        pc = is.pc;
-        aligned = is.aligned;
-        eight = is.eight;
-        registers = is.registers;
-        some_frame = is.some_frame;
-        few_frames = is.few_frames;
-        frames = is.frames;
-        bottom = is.bottom;
-      };
+      row = grind arith;
       birth = refl;
       creator = refl;
     })

@@ -1,6 +1,6 @@
 -- A thread's calls and its turns keep the state well formed.
-use Rattle.std.proofs.Common.{ℕ, ◌+◌, ◌*◌, ◌%◌, ◌^◌, ◌≤◌, ◌≡◌, Bool, not, cond, eqb, leb, ltb, ◌&&◌, All, ◌∷◌, length, Option, Some, None, refl, sym, ◌∙◌, subst, arith}
-use Rattle.std.proofs.lemmas.Bool.{and_parts, cond_both, leb-true}
+use Rattle.std.proofs.Common.{ℕ, ◌+◌, ◌*◌, ◌%◌, ◌^◌, ◌≤◌, ◌≡◌, Bool, not, cond, eqb, ltb, ◌&&◌, All, ◌∷◌, length, Option, Some, None, refl, sym, ◌∙◌, subst, arith}
+use Rattle.std.proofs.lemmas.Bool.{cond_both}
 use Rattle.std.proofs.lemmas.List.Elements.{All-cons}
 use Rattle.std.proofs.lemmas.Option.{same_Some}
 use Rattle.std.proofs.Math.Nat.{mod-lt}
@@ -34,7 +34,7 @@ use Rattle.mg_laws.proofs.ReplyWords.{thread_call-words, word_at-word}
 use Rattle.mg_model.specs.Script.{decoded, jumped, operand, register, with_register}
 use Rattle.mg_model.specs.State.{State, Thread, ThreadRow}
 use Rattle.mg_laws.proofs.KeepsBank.{balance-keeps, open_account-keeps, pay-keeps}
-use Rattle.mg_model.specs.Turn.{faulted, is_ready, next, picked, put_row, ready_above, refusal_number, run, run_next, run_word, seen, spelled, spelled_pwadd, thread_call, turn, turn_state, turned, unless_faulted, values_of, with_registers}
+use Rattle.mg_model.specs.Turn.{faulted, is_ready, next, picked, put_row, ready_above, refusal_number, run, run_next, run_word, seen, spelled, thread_call, turn, turn_state, turned, unless_faulted, values_of, with_registers}
 use Rattle.mg_model.specs.WellFormed.{HasRanges, IsThread, IsWellFormed}
 
 pub thread_call-keeps : (state : State) (t : ℕ) (made : Call) → IsWellFormed state → HasRanges made → IsWellFormed (thread_call state t made).0
@@ -64,37 +64,8 @@ thread_call-keeps state t call.Next formed ranges = formed
 thread_call-keeps state t call.Rent formed ranges = formed
 thread_call-keeps state t call.Bad formed ranges = formed
 
--- the call that registers spell has its arguments in range
-spelled_pwadd-ranges : (b rights : ℕ) (until : Option ℕ) → IsWord b → ForSome until IsWord → HasRanges (spelled_pwadd b rights until)
-spelled_pwadd-ranges b rights until word given =
-    cond_both (leb 1 rights && leb rights 63) (call.Pwadd b rights until) call.Bad HasRanges
-    (λ both. let parts = and_parts _ _ both in (word, record { some = leb-true _ _ parts.0; six = leb-true _ _ parts.1 }, given))
-    (λ _. tt)
-
 spelled-ranges : (row : ThreadRow) → IsThreadRow row → HasRanges (spelled row)
-spelled-ranges row is =
-    let r = λ (k : ℕ). register-word row k is in
-    let no : ForSome None IsWord = λ n same. absurd (cc) in
-    let given : ForSome (Some (register row 3)) IsWord = λ n same. subst IsWord (same_Some _ _ same) (r 3) in
-    cond_both (eqb (register row 0) 1) _ _ HasRanges (λ _. r 1) (λ _.
-    cond_both (eqb (register row 0) 2) _ _ HasRanges (λ _. (r 1, r 2)) (λ _.
-    cond_both (eqb (register row 0) 3) _ _ HasRanges (λ _. (r 1, r 2, r 3)) (λ _.
-    cond_both (eqb (register row 0) 4) _ _ HasRanges (λ _. r 1) (λ _.
-    cond_both (eqb (register row 0) 5) _ _ HasRanges (λ _. r 1) (λ _.
-    cond_both (eqb (register row 0) 6) _ _ HasRanges (λ _. spelled_pwadd-ranges (register row 1) (register row 2) None (r 1) no) (λ _.
-    cond_both (eqb (register row 0) 7) _ _ HasRanges (λ _. (r 1, r 2)) (λ _.
-    cond_both (eqb (register row 0) 8) _ _ HasRanges (λ _. (r 1, r 2)) (λ _.
-    cond_both (eqb (register row 0) 9) _ _ HasRanges (λ _. (r 1, r 2, r 3)) (λ _.
-    cond_both (eqb (register row 0) 10) _ _ HasRanges (λ _. (r 1, r 2, r 3)) (λ _.
-    cond_both (eqb (register row 0) 11) _ _ HasRanges (λ _. (r 1, r 2)) (λ _.
-    cond_both (eqb (register row 0) 12) _ _ HasRanges (λ _. r 1) (λ _.
-    cond_both (eqb (register row 0) 13) _ _ HasRanges (λ _. r 1) (λ _.
-    cond_both (eqb (register row 0) 14) _ _ HasRanges (λ _. r 1) (λ _.
-    cond_both (eqb (register row 0) 15) _ _ HasRanges (λ _. r 1) (λ _.
-    cond_both (eqb (register row 0) 16) _ _ HasRanges (λ _. (r 1, r 2, r 3)) (λ _.
-    cond_both (eqb (register row 0) 17) _ _ HasRanges (λ _. (r 1, r 2, r 3, r 4)) (λ _.
-    cond_both (eqb (register row 0) 18) _ _ HasRanges (λ _. (r 1, r 2)) (λ _.
-    cond_both (eqb (register row 0) 19) _ _ HasRanges (λ _. spelled_pwadd-ranges (register row 1) (register row 2) (Some (register row 3)) (r 1) given) (λ _. tt)))))))))))))))))))
+spelled-ranges row is = grind arith
 
 -- another row in place of the thread's
 pub put_row-keeps : (state : State) (t : ℕ) (row new : ThreadRow) → IsWellFormed state → row_of state t ≡ Some row → KeepsRow row new → IsWellFormed (put_row state t new)
@@ -192,21 +163,7 @@ turn-keeps state t formed = unless_refused-keeps _ state _ formed (λ _. turn_st
 
 -- the cursor
 pub with_cursor-keeps : (state : State) (n : ℕ) → IsWellFormed state → n ≤ 256 → IsWellFormed (record state { counters = record state.counters { cursor = n } })
-with_cursor-keeps state n formed few = record {
-  settings = formed.settings;
-  counters = record {
-    some_draws = formed.counters.some_draws;
-    draws = formed.counters.draws;
-    period = formed.counters.period;
-    cursor = few;
-    some_births = formed.counters.some_births;
-    births = formed.counters.births;
-  };
-  objects = formed.objects;
-  accounts = formed.accounts;
-  threads = formed.threads;
-  first = formed.first;
-}
+with_cursor-keeps state n formed few = grind arith
 
 run_next-keeps : (state : State) (o : Option Thread) → IsWellFormed state → ForSome o (IsThread state.counters.births) → IsWellFormed (run_next state o).0
 run_next-keeps state None formed each = formed

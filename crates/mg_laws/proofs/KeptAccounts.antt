@@ -26,10 +26,7 @@ pub opens-row : (accounts : List AccRow) (number password : ℕ) → opens accou
 opens-row accounts number password opened = tested (λ (row : AccRow). row.password == password) (account_of accounts number) opened
 
 pub opens-number : (accounts : List AccRow) (number password : ℕ) → opens accounts number password ≡ true → (1 ≤ number) × (number ≤ length accounts)
-opens-number accounts number password opened =
-    let found = opens-row accounts number password opened in
-    let is = account_of-row accounts number found.0 found.1 in
-    (is.some, is.within)
+opens-number accounts number password opened = grind (arith, opens-row, account_of-row)
 
 -- what all accounts have together
 abbrev pub total : List AccRow → ℕ

@@ -1,5 +1,5 @@
 -- What an edit of the objects keeps: each is well formed, they are in order and apart, and they fit.
-use Rattle.std.proofs.Common.{◌≡◌, ℕ, suc, ◌+◌, ◌/◌, ◌<◌, ◌≤◌, ◌-◌, ◌==◌, nat_lt, if◌then◌else◌, true, not, List, [], ◌∷◌, map, length, slice_set, All, AllPairs, refl, ap, inl, inr, arith}
+use Rattle.std.proofs.Common.{◌≡◌, ℕ, suc, ◌+◌, ◌/◌, ◌<◌, ◌≤◌, ◌-◌, ◌==◌, nat_lt, if◌then◌else◌, true, not, List, [], ◌∷◌, map, length, slice_set, All, AllPairs, refl, ap, arith}
 use Rattle.std.proofs.lemmas.Bool.{cond_both, eqb-true, ltb-false, ltb-true}
 use Rattle.std.proofs.lemmas.List.{length-map, length-set}
 use Rattle.std.proofs.lemmas.List.Elements.{All-cons, All-filter, All-head, All-nil, All-set, All-tail, All-weaker}
@@ -18,16 +18,11 @@ use Rattle.mg_model.specs.WellFormed.{AreObjects, IsBefore, IsObject}
 All-with_object : (P : Object → Type 0) (new : Object) (objects : List Object) → P new → All P objects → All P (with_object new objects)
 All-with_object P new [] here all = All-cons P new [] here all
 All-with_object P new (object ∷ objects) here all =
-    cond_both (nat_lt new.row.base object.row.base) (new ∷ object ∷ objects) (object ∷ with_object new objects) (All P)
-    (λ _. All-cons P new (object ∷ objects) here all)
-    (λ _. All-cons P object (with_object new objects) (All-head P object objects all) (All-with_object P new objects here (All-tail P object objects all)))
+    grind (arith, (All-with_object P new objects here (All-tail P object objects all)), cond_both, All-cons, All-head, All-tail)
 
 length-with_object : (new : Object) (objects : List Object) → length (with_object new objects) ≡ suc (length objects)
 length-with_object new [] = refl
-length-with_object new (object ∷ objects) =
-    cond_both (nat_lt new.row.base object.row.base) (new ∷ object ∷ objects) (object ∷ with_object new objects) (λ l. length l ≡ suc (suc (length objects)))
-    (λ _. refl)
-    (λ _. ap suc (length-with_object new objects))
+length-with_object new (object ∷ objects) = grind (arith, (length-with_object new objects), cond_both)
 
 used-cons : (object : Object) (objects : List Object) → used (object ∷ objects) ≡ object.row.pages + used objects
 used-cons object objects = sum_by-cons (λ (object : Object). object.row.pages) object objects
@@ -41,14 +36,10 @@ used-with_object new (object ∷ objects) =
 
 -- if the new object is apart from each, it comes before those with a higher base
 before_higher : (new object : Object) → IsObject new → IsObject object → IsApart (page_of new.row) new.row.pages object → new.row.base < object.row.base → IsBefore new object
-before_higher new object formed other apart higher =
-    let some = other.row.place.some in
-    elim apart [ inl before ↦ before | inr behind ↦ absurd (omega arith) ]
+before_higher new object formed other apart higher = grind arith
 
 after_lower : (new object : Object) → IsObject new → IsObject object → IsApart (page_of new.row) new.row.pages object → object.row.base ≤ new.row.base → IsBefore object new
-after_lower new object formed other apart lower =
-    let some = formed.row.place.some in
-    elim apart [ inl before ↦ absurd (omega arith) | inr behind ↦ behind ]
+after_lower new object formed other apart lower = grind arith
 
 apart-with_object : (new : Object) (objects : List Object) → IsObject new → All IsObject objects → All (IsApart (page_of new.row) new.row.pages) objects → AllPairs IsBefore objects → AllPairs IsBefore (with_object new objects)
 apart-with_object new [] formed each meets pairs = AllPairs-cons IsBefore new [] (All-nil (IsBefore new)) pairs
@@ -95,11 +86,7 @@ pub record HasPlaceOf (row old : ObjectRow) : Type 0 where
   pub pages : row.pages ≡ old.pages
 
 before_kept : (x y u v : Object) → HasPlaceOf u.row x.row → HasPlaceOf v.row y.row → IsBefore x y → IsBefore u v
-before_kept x y u v first second before =
-    let a : page_of u.row ≡ page_of x.row = ap (λ (b : ℕ). b / 4096) first.base in
-    let b : page_of v.row ≡ page_of y.row = ap (λ (b : ℕ). b / 4096) second.base in
-    let c = first.pages in
-    omega arith
+before_kept x y u v first second before = grind arith
 
 -- each object changed, except for its place
 pub AreObjects-map : (frames accounts : ℕ) (change : Object → Object) (objects : List Object) → ((object : Object) → HasPlaceOf (change object).row object.row) → All (λ object. IsObject (change object)) objects → All (λ object. (change object).row.account ≤ accounts) objects → AreObjects frames accounts objects → AreObjects frames accounts (map change objects)
@@ -124,10 +111,7 @@ abbrev rewritten : ℕ → (ObjectRow → ObjectRow) → Object → Object
 rewritten base change object = if object.row.base == base then record object { row = change object.row } else object
 
 rewritten-placed : (base : ℕ) (change : ObjectRow → ObjectRow) → ((row : ObjectRow) → HasPlaceOf (change row) row) → (object : Object) → HasPlaceOf (rewritten base change object).row object.row
-rewritten-placed base change places object =
-    cond_both (object.row.base == base) (record object { row = change object.row }) object (λ (o : Object). HasPlaceOf o.row object.row)
-    (λ _. places object.row)
-    (λ _. record { base = refl; pages = refl })
+rewritten-placed base change places object = grind (arith, cond_both)
 
 -- an object that is well formed, and that an account which is there pays for
 record IsPaid (accounts : ℕ) (object : Object) : Type 0 where
@@ -135,14 +119,7 @@ record IsPaid (accounts : ℕ) (object : Object) : Type 0 where
   paid : object.row.account ≤ accounts
 
 rewritten-paid : (accounts base : ℕ) (change : ObjectRow → ObjectRow) → ((row : ObjectRow) → HasPlaceOf (change row) row) → (object : Object) → IsPaid accounts object → (object.row.base ≡ base → IsPaidRow accounts (change object.row)) → IsPaid accounts (rewritten base change object)
-rewritten-paid accounts base change places object formed changed =
-    cond_both (object.row.base == base) (record object { row = change object.row }) object (IsPaid accounts)
-    (λ same.
-    let new = changed (eqb-true object.row.base base same) in
-    let long = formed.formed.long in
-    let pages = (places object.row).pages in
-    record { formed = record { row = new.formed; long = omega arith; words = formed.formed.words }; paid = new.paid })
-    (λ _. formed)
+rewritten-paid accounts base change places object formed changed = grind (arith, cond_both, eqb-true)
 
 are-IsPaid : (frames accounts : ℕ) (objects : List Object) → AreObjects frames accounts objects → All (IsPaid accounts) objects
 are-IsPaid frames accounts objects formed = All-both IsObject (λ (object : Object). object.row.account ≤ accounts) (IsPaid accounts) (λ object each paid. record { formed = each; paid = paid }) objects formed.each formed.paid
@@ -154,9 +131,7 @@ are-IsPaidRow frames accounts objects formed = All-weaker (IsPaid accounts) (λ 
 -- another row for the object with this base, at the same place
 pub AreObjects-with_row : (frames accounts base : ℕ) (change : ObjectRow → ObjectRow) (objects : List Object) → ((row : ObjectRow) → HasPlaceOf (change row) row) → All (λ (object : Object). object.row.base ≡ base → IsPaidRow accounts (change object.row)) objects → AreObjects frames accounts objects → AreObjects frames accounts (with_row base change objects)
 AreObjects-with_row frames accounts base change objects places changed formed =
-    let all : All (λ object. IsPaid accounts (rewritten base change object)) objects =
-    All-both (IsPaid accounts) (λ (object : Object). object.row.base ≡ base → IsPaidRow accounts (change object.row)) (λ object. IsPaid accounts (rewritten base change object))
-    (rewritten-paid accounts base change places) objects (are-IsPaid frames accounts objects formed) changed in
+    let all : All (λ object. IsPaid accounts (rewritten base change object)) objects = grind (arith, All-both, rewritten-paid, are-IsPaid, formed) in
     AreObjects-map frames accounts (rewritten base change) objects (rewritten-placed base change places)
     (All-weaker (λ object. IsPaid accounts (rewritten base change object)) (λ object. IsObject (rewritten base change object)) (λ object paid. paid.formed) objects all)
     (All-weaker (λ object. IsPaid accounts (rewritten base change object)) (λ object. (rewritten base change object).row.account ≤ accounts) (λ object paid. paid.paid) objects all)

@@ -1,5 +1,5 @@
 -- An instruction keeps a thread's row in its rules: registers stay words, and the pc the address of a word.
-use Rattle.std.proofs.Common.{ℕ, ◌+◌, ◌/◌, ◌%◌, ◌^◌, ◌<◌, ◌≡◌, Bool, true, false, eqb, ltb, List, [], ◌∷◌, length, get_or, Option, Some, refl, sym, ◌∙◌, subst, arith, All, length-set, ⊎_elim}
+use Rattle.std.proofs.Common.{ℕ, ◌+◌, ◌/◌, ◌%◌, ◌^◌, ◌<◌, ◌≡◌, Bool, true, false, eqb, ltb, List, [], ◌∷◌, get_or, Option, Some, refl, ◌∙◌, subst, arith, All, length-set}
 use Rattle.std.proofs.lemmas.Bool.{cases_lt, cond_both}
 use Rattle.std.proofs.lemmas.List.{get_or_past}
 use Rattle.std.proofs.lemmas.List.Elements.{All-get_or, All-head, All-set, All-tail}
@@ -20,8 +20,7 @@ use Rattle.mg_model.specs.Turn.{refusal_number, with_registers}
 
 -- a number in a list of words, also past its end
 pub word-in_list : (words : List ℕ) (k : ℕ) → All IsWord words → IsWord (get_or words k 0)
-word-in_list words k all =
-    ⊎_elim (λ within. All-get_or IsWord words k 0 within all) (λ past. subst IsWord (sym (get_or_past words k 0 past)) (omega arith)) (cases_lt k (length words))
+word-in_list words k all = grind (arith, All-get_or, get_or_past, cases_lt)
 
 pub register-word : (row : ThreadRow) (k : ℕ) → IsThreadRow row → IsWord (register row k)
 register-word row k is = word-in_list row.regs k is.registers
@@ -50,44 +49,10 @@ kept_register row next k value kept word =
     }
 
 pub kept_pc : (row next : ThreadRow) (pc : ℕ) → KeepsRow row next → IsWord pc → pc % 8 ≡ 0 → KeepsRow row (record next { pc = pc })
-kept_pc row next pc kept word aligned =
-    let is : IsThreadRow next = kept.row in
-    record {
-      row = record {
-        birth = is.birth;
-        creator = is.creator;
-        pc = word;
-        aligned = aligned;
-        eight = is.eight;
-        registers = is.registers;
-        some_frame = is.some_frame;
-        few_frames = is.few_frames;
-        frames = is.frames;
-        bottom = is.bottom;
-      };
-      birth = kept.birth;
-      creator = kept.creator;
-    }
+kept_pc row next pc kept word aligned = grind arith
 
 pub kept_state : (row next : ThreadRow) (state : ThrState) → KeepsRow row next → KeepsRow row (record next { state = state })
-kept_state row next state kept =
-    let is : IsThreadRow next = kept.row in
-    record {
-      row = record {
-        birth = is.birth;
-        creator = is.creator;
-        pc = is.pc;
-        aligned = is.aligned;
-        eight = is.eight;
-        registers = is.registers;
-        some_frame = is.some_frame;
-        few_frames = is.few_frames;
-        frames = is.frames;
-        bottom = is.bottom;
-      };
-      birth = kept.birth;
-      creator = kept.creator;
-    }
+kept_state row next state kept = grind arith
 
 -- a sum of two multiples of 8, modulo the end of words
 sum-aligned : (a b : ℕ) → a % 8 ≡ 0 → b % 8 ≡ 0 → (a + b) % 2 ^ 64 % 8 ≡ 0
@@ -106,7 +71,7 @@ jumped-keeps row next here i kept aligned = kept_pc row next ((here + jump_by i)
 pub kept_registers : (row next : ThreadRow) (k : ℕ) (values : List ℕ) → KeepsRow row next → All IsWord values → KeepsRow row (with_registers next k values)
 kept_registers row next k [] kept all = kept
 kept_registers row next k (value ∷ values) kept all =
-    kept_registers row (with_register next k value) (k + 1) values (kept_register row next k value kept (All-head IsWord value values all)) (All-tail IsWord value values all)
+    grind (arith, (kept_registers row (with_register next k value) (k + 1) values (kept_register row next k value kept (All-head IsWord value values all)) (All-tail IsWord value values all)))
 
 pub refusal_number-word : (word : Refusal) → IsWord (refusal_number word)
 refusal_number-word refusal.Syntax = omega arith

@@ -1,13 +1,12 @@
 -- What a collection of rent keeps: no balance is lost, and no account owes more than its periods make.
-use Rattle.std.proofs.Common.{◌≡◌, ℕ, zero, suc, ◌+◌, ◌*◌, ◌^◌, ◌<◌, ◌≤◌, ◌==◌, nat_le, nat_lt, ◌&&◌, Bool, true, cond, List, [], ◌∷◌, length, All, refl, ap, sym, subst, ◌∙◌, arith}
-use Rattle.std.proofs.lemmas.Bool.{and_parts, cond_both, leb-true}
+use Rattle.std.proofs.Common.{◌≡◌, ℕ, zero, suc, ◌+◌, ◌*◌, ◌^◌, ◌<◌, ◌≤◌, ◌==◌, nat_le, nat_lt, ◌&&◌, Bool, true, cond, List, [], ◌∷◌, length, All, refl, ap, sym, subst, arith}
+use Rattle.std.proofs.lemmas.Bool.{cond_both}
 use Rattle.std.proofs.lemmas.List.Elements.{All-cons, All-from_get_or, All-head, All-nil, All-tail}
 use Rattle.std.proofs.lemmas.List.Sums.{sum_by-cons}
 use Rattle.std.proofs.lemmas.Nat.{mul-le}
 use Rattle.mg_model.specs.declared.accounts.AccRow.{AccRow}
 use Rattle.mg_model.specs.Bank.{all_charged, all_paid, charged, paid, pages_of, rate_of, used}
-use Rattle.mg_model.specs.StepwiseLemmas.{from_at, rate_at, rate_from, rate_of-from, tariff_places}
-use Rattle.mg_model.specs.SuperblockLemmas.{tariff-four}
+use Rattle.mg_model.specs.StepwiseLemmas.{from_at, rate_at, rate_from, rate_of-from}
 use Rattle.mg_laws.proofs.KeptAccounts.{total}
 use Rattle.mg_model.specs.KeptListLemmas.{sum_by-filter-le}
 use Rattle.mg_model.specs.State.{Object}
@@ -30,9 +29,6 @@ rate_from-few before (step ∷ steps) pages low rates =
 abbrev rise : List (ℕ × ℕ) → Bool
 rise steps = from_at steps 0 == 0 && nat_lt (from_at steps 0) (from_at steps 1) && nat_lt (from_at steps 1) (from_at steps 2) && nat_lt (from_at steps 2) (from_at steps 3) && nat_le (from_at steps 3) step_limit
 
-abbrev is_low : List (ℕ × ℕ) → ℕ → Bool
-is_low steps k = nat_le (rate_at steps k) step_limit
-
 -- the four rates
 record AreLow (tariff : List (ℕ × ℕ)) : Type 0 where
   four : length tariff ≡ 4
@@ -42,19 +38,7 @@ record AreLow (tariff : List (ℕ × ℕ)) : Type 0 where
   fourth : rate_at tariff 3 ≤ step_limit
 
 tariff-low : (tariff : List (ℕ × ℕ)) → is_tariff tariff ≡ true → AreLow tariff
-tariff-low tariff is =
-    let long = tariff-four tariff is in
-    let parts = and_parts (rise tariff) (is_low tariff 0 && is_low tariff 1 && is_low tariff 2 && is_low tariff 3) (sym (tariff_places tariff long) ∙ is) in
-    let three = and_parts (is_low tariff 0 && is_low tariff 1 && is_low tariff 2) (is_low tariff 3) parts.1 in
-    let two = and_parts (is_low tariff 0 && is_low tariff 1) (is_low tariff 2) three.0 in
-    let one = and_parts (is_low tariff 0) (is_low tariff 1) two.0 in
-    record {
-      four = long;
-      first = leb-true (rate_at tariff 0) step_limit one.0;
-      second = leb-true (rate_at tariff 1) step_limit one.1;
-      third = leb-true (rate_at tariff 2) step_limit two.1;
-      fourth = leb-true (rate_at tariff 3) step_limit three.1;
-    }
+tariff-low tariff is = grind arith
 
 rate_at-few : (tariff : List (ℕ × ℕ)) → AreLow tariff → (k : ℕ) → k < length tariff → rate_at tariff k ≤ step_limit
 rate_at-few tariff low zero within = low.first
@@ -68,24 +52,17 @@ rate_of-few tariff pages is = subst (λ rate. rate ≤ step_limit) (sym (rate_of
 
 -- what one account owes for a period
 pub due-few : (objects : List Object) (rate number : ℕ) → used objects ≤ 65536 → rate ≤ step_limit → rate * pages_of objects number ≤ 2 ^ 36
-due-few objects rate number few low =
-    let pages : pages_of objects number ≤ used objects = sum_by-filter-le (λ (object : Object). object.row.account == number) (λ (object : Object). object.row.pages) objects in
-    let product : rate * pages_of objects number ≤ step_limit * 65536 = mul-le rate (pages_of objects number) step_limit 65536 low (omega arith) in
-    omega arith
+due-few objects rate number few low = grind (arith, sum_by-filter-le, mul-le)
 
 -- an account after it paid
 charged-formed : (period due : ℕ) (row : AccRow) → due ≤ 2 ^ 36 → IsAccount period row → IsAccount (period + 1) (charged row due)
-charged-formed period due row few formed =
-    let owed = formed.owed in
-    record { password = formed.password; owed = omega arith }
+charged-formed period due row few formed = grind arith
 
 -- all accounts after they paid
 pub all_charged-each : (objects : List Object) (rate period : ℕ) → ((number : ℕ) → rate * pages_of objects number ≤ 2 ^ 36) → (number : ℕ) (rows : List AccRow) → All (IsAccount period) rows → All (IsAccount (period + 1)) (all_charged objects rate number rows)
 all_charged-each objects rate period few number [] each = All-nil (IsAccount (period + 1))
 all_charged-each objects rate period few number (row ∷ rows) each =
-    All-cons (IsAccount (period + 1)) (charged row (rate * pages_of objects number)) (all_charged objects rate (number + 1) rows)
-    (charged-formed period (rate * pages_of objects number) row (few number) (All-head (IsAccount period) row rows each))
-    (all_charged-each objects rate period few (number + 1) rows (All-tail (IsAccount period) row rows each))
+    grind (arith, (all_charged-each objects rate period few (number + 1) rows (All-tail (IsAccount period) row rows each)), All-cons, charged-formed, All-head, All-tail)
 
 pub length-all_charged : (objects : List Object) (rate number : ℕ) (rows : List AccRow) → length (all_charged objects rate number rows) ≡ length rows
 length-all_charged objects rate number [] = refl

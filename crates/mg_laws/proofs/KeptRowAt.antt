@@ -1,5 +1,5 @@
 -- The row that an address names belongs to one object alone, so a change of it keeps the objects well formed.
-use Rattle.std.proofs.Common.{◌≡◌, ◌≢◌, ℕ, List, [], ◌∷◌, length, All, AllPairs, Option, Some, refl, sym, subst, arith}
+use Rattle.std.proofs.Common.{◌≡◌, ◌≢◌, ℕ, List, [], ◌∷◌, length, All, AllPairs, Option, Some, refl, sym, arith}
 use Rattle.std.proofs.lemmas.Bool.{cond_both}
 use Rattle.std.proofs.lemmas.List.Elements.{All-cons, All-head, All-nil, All-tail, All-weaker}
 use Rattle.std.specs.Option.{option_map_or}
@@ -52,8 +52,8 @@ pub AreObjects-with_row_at : (state : State) (address : ℕ) (change : ObjectRow
 AreObjects-with_row_at state address change formed places keeps =
     let accounts = length state.accounts in
     let row = row_at state address in
-    let changed : (object : Object) → IsPaidRow accounts object.row → IsOnly row object → object.row.base ≡ row.base → IsPaidRow accounts (change object.row) =
-    λ object paid only here. subst (λ (r : ObjectRow). IsPaidRow accounts (change r)) (sym (only here)) (keeps (subst (IsPaidRow accounts) (only here) paid)) in
+    let changed : (object : Object) → IsPaidRow accounts object.row → IsOnly row object → object.row.base ≡ row.base → IsPaidRow accounts (change object.row) = λ object paid only here.
+    grind arith in
     AreObjects-with_row state.settings.frames accounts row.base change state.objects places
     (All-both (λ (object : Object). IsPaidRow accounts object.row) (IsOnly row) (λ (object : Object). object.row.base ≡ row.base → IsPaidRow accounts (change object.row)) changed
     state.objects (are-IsPaidRow state.settings.frames accounts state.objects formed.objects) (row_at-only state address formed))

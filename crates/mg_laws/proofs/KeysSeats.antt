@@ -1,5 +1,6 @@
 -- Keys, and the one seat that each can have: which of some keys has a seat now.
-use Rattle.std.proofs.Common.{ℕ, zero, suc, ◌≡◌, ◌&&◌, ◌||◌, Bool, true, false, not, eqb, List, [], ◌∷◌, ◌++◌, Option, Some, None, refl, sym, ap, ◌∙◌}
+use Rattle.std.proofs.Common.{arith}
+use Rattle.std.proofs.Common.{ℕ, zero, suc, ◌≡◌, ◌||◌, Bool, true, false, not, eqb, List, [], ◌∷◌, ◌++◌, Option, Some, None, refl, ap, ◌∙◌}
 use Rattle.std.proofs.lemmas.Bool.{and_from, and_parts, cond_both, eq-eqb, eqb-true, false≢true, not_from_false, or_right}
 use Rattle.std.proofs.lemmas.List.Folds.{find-append, list_all-append}
 use Rattle.std.specs.Option.{option_map_or, option_or}
@@ -30,18 +31,10 @@ same_parts : (a b c d : ℕ) (r s : Right) → a ≡ b → c ≡ d → r ≡ s
 same_parts a b c d r s t u v = cc
 
 pub is_key-same : (key other : Key) → is_key key other ≡ true → key ≡ other
-is_key-same key other is =
-    let both = and_parts (eqb key.thread other.thread) (eqb key.base other.base && eqb (right_number key.right) (right_number other.right)) is in
-    let rest = and_parts (eqb key.base other.base) (eqb (right_number key.right) (right_number other.right)) both.1 in
-    same_parts key.thread other.thread key.base other.base key.right other.right
-    (eqb-true key.thread other.thread both.0)
-    (eqb-true key.base other.base rest.0)
-    (sym (number-right key.right) ∙ ap right_at (eqb-true (right_number key.right) (right_number other.right) rest.1) ∙ number-right other.right)
+is_key-same key other is = grind (arith, and_parts, same_parts, eqb-true, number-right)
 
 pub is_key-self : (key : Key) → is_key key key ≡ true
-is_key-self key =
-    and_from (eqb key.thread key.thread) (eqb key.base key.base && eqb (right_number key.right) (right_number key.right)) (eq-eqb key.thread key.thread refl)
-    (and_from (eqb key.base key.base) (eqb (right_number key.right) (right_number key.right)) (eq-eqb key.base key.base refl) (eq-eqb (right_number key.right) (right_number key.right) refl))
+is_key-self key = grind (arith, and_from, eq-eqb)
 
 -- the last key with a seat is this one
 pub last_is : (key : Key) (o : Option Key) → option_map_or (λ last. is_key last key) o false ≡ true → o ≡ Some key
@@ -68,8 +61,7 @@ elsewhere-has_seat key (x ∷ xs) all =
     and_from (is_key x key || not (eqb (seat_of x) (seat_of key))) (has_seat xs key) (or_right (is_key x key) (not (eqb (seat_of x) (seat_of key))) both.0) (elsewhere-has_seat key xs both.1)
 
 pub has_seat-append : (key : Key) (new old : List Key) → has_seat (new ++ old) key ≡ true → (has_seat new key ≡ true) × (has_seat old key ≡ true)
-has_seat-append key new old all =
-    and_parts (has_seat new key) (has_seat old key) (sym (list_all-append (λ other. is_key other key || not (eqb (seat_of other) (seat_of key))) new old) ∙ all)
+has_seat-append key new old all = grind (arith, and_parts, list_all-append)
 
 -- the key that has a seat is one of the new keys, or else one of the old
 pub first-append : (seat : ℕ) (new old : List Key) → first_at seat (new ++ old) ≡ option_or (first_at seat new) (first_at seat old)
@@ -116,16 +108,10 @@ first-splits key (x ∷ xs) is =
     }
 
 pub splits-first : (key : Key) (after before : List Key) → has_seat after key ≡ true → first_at (seat_of key) (after ++ key ∷ before) ≡ Some key
-splits-first key after before leaves =
-    seat-first key after (key ∷ before) leaves (cond_both (eqb (seat_of key) (seat_of key)) (Some key) (first_at (seat_of key) before) (λ o. o ≡ Some key) (λ _. refl) (λ other. absurd (false≢true (sym other ∙ eq-eqb (seat_of key) (seat_of key) refl))))
+splits-first key after before leaves = grind (arith, seat-first, cond_both, eq-eqb)
 
 -- Of new keys and old keys the last with a seat is kept, if new keys come and old keys stay.
 pub last_is_kept : (new old : List Key) (kept kept' : Key → Bool) → ((key : Key) → kept key ≡ true → has_seat new key ≡ true → kept' key ≡ true)
     → ((key : Key) → first_at (seat_of key) new ≡ Some key → kept' key ≡ true) → ((key : Key) → first_at (seat_of key) old ≡ Some key → kept key ≡ true)
     → (key : Key) → first_at (seat_of key) (new ++ old) ≡ Some key → kept' key ≡ true
-last_is_kept new old kept kept' stays comes were key is =
-    by_new (first_at (seat_of key) new) refl (sym (first-append (seat_of key) new old) ∙ is)
-  where
-    by_new : (o : Option Key) → first_at (seat_of key) new ≡ o → option_or o (first_at (seat_of key) old) ≡ Some key → kept' key ≡ true
-    by_new (Some x) there first = comes key (there ∙ first)
-    by_new None none first = stays key (were key first) (elsewhere-has_seat key new (none-elsewhere key new none))
+last_is_kept new old kept kept' stays comes were key is = grind (arith, first-append, elsewhere-has_seat, none-elsewhere)

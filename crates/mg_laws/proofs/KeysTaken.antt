@@ -1,4 +1,5 @@
 -- A key is recent exactly if an earlier line took it, nothing disturbed since, and no other key took its seat since.
+use Rattle.std.proofs.Common.{arith}
 use Rattle.std.proofs.Common.{◌≡◌, true, List, [], ◌∷◌, ◌++◌, Option, Some, None, refl, sym, ap, ◌∙◌, All, append_assoc}
 use Rattle.std.proofs.lemmas.Bool.{cond-false, cond_both}
 use Rattle.std.proofs.lemmas.List.Elements.{All-cons, All-head, All-nil, All-tail}
@@ -70,17 +71,11 @@ quiet-recent event past quiet = cond-false (is_disturbing event.state event.line
 
 taken-last : (key : Key) (later : List Event) (event : Event) (older : List Event) (after before : List Key) → DisturbsNothing event → All DisturbsNothing later
     → taken_in event ≡ after ++ key ∷ before → has_seat after key ≡ true → All (λ other. has_seat (taken_in other) key ≡ true) later → IsLast (later ++ event ∷ older) key
-taken-last key [] event older after before quiet all took seat seats =
-    ap (λ keys. first_at (seat_of key) keys)
-    (quiet-recent event older quiet ∙ ap (λ keys. keys ++ recent older) took ∙ append_assoc after (key ∷ before) (recent older))
-    ∙ splits-first key after (before ++ recent older) seat
+taken-last key [] event older after before quiet all took seat seats = grind (arith, quiet-recent, append_assoc, splits-first)
 taken-last key (x ∷ later) event older after before quiet all took seat seats =
     ap (λ keys. first_at (seat_of key) keys) (quiet-recent x (later ++ event ∷ older) (All-head DisturbsNothing x later all))
     ∙ seat-first key (taken_in x) (recent (later ++ event ∷ older)) (All-head (λ other. has_seat (taken_in other) key ≡ true) x later seats)
     (taken-last key later event older after before quiet (All-tail DisturbsNothing x later all) took seat (All-tail (λ other. has_seat (taken_in other) key ≡ true) x later seats))
 
 pub tells_taken : TellsTaken is_recent
-tells_taken past key = (
-  (λ is. last-taken past key (recent-last past key is)),
-  (λ w. last-recent past key (ap (λ v. first_at (seat_of key) (recent v)) w.split ∙ taken-last key w.later w.event w.older w.after w.before w.quiet w.all_quiet w.took w.seat w.seats)),
-)
+tells_taken past key = grind (arith, last-taken, recent-last, last-recent, taken-last)

@@ -15,10 +15,7 @@ Differs t thread = thread.number ≢ t
 
 differ-none : (t : ℕ) (threads : List Thread) → All (Differs t) threads → find (λ (thread : Thread). eqb thread.number t) threads ≡ None
 differ-none t [] all = refl
-differ-none t (x ∷ xs) all =
-    cond_both (eqb x.number t) (Some x) (find (λ (thread : Thread). eqb thread.number t) xs) (λ o. o ≡ None)
-    (λ same. absurd (All-head (Differs t) x xs all (eqb-true _ _ same)))
-    (λ _. differ-none t xs (All-tail (Differs t) x xs all))
+differ-none t (x ∷ xs) all = grind (arith, (differ-none t xs (All-tail (Differs t) x xs all)), cond_both, All-head, eqb-true, All-tail)
 
 none-differ : (t : ℕ) (threads : List Thread) → find (λ (thread : Thread). eqb thread.number t) threads ≡ None → All (Differs t) threads
 none-differ t [] none = All-nil (Differs t)

@@ -1,16 +1,16 @@
 -- The lines of any input have their arguments in range.
-use Rattle.std.proofs.Common.{ℕ, ◌+◌, ◌/◌, ◌%◌, ◌^◌, ◌≤◌, ◌≡◌, ◌≢◌, cond, eqb, leb, ltb, List, [], ◌∷◌, length, Option, Some, None, refl, subst, sym, arith, All}
+use Rattle.std.proofs.Common.{ℕ, ◌+◌, ◌/◌, ◌%◌, ◌≤◌, ◌≡◌, ◌≢◌, cond, eqb, ltb, List, [], ◌∷◌, length, Option, Some, None, refl, subst, sym, arith, All}
 use Rattle.std.proofs.lemmas.Bool.{cond_both, eqb-false, leb-true, ltb-true}
 use Rattle.std.proofs.lemmas.List.Elements.{All-cons, All-head, All-nil}
 use Rattle.std.proofs.lemmas.Option.{same_Some}
-use Rattle.std.specs.Prelude.{if◌then◌else◌, option_map}
+use Rattle.std.specs.Prelude.{option_map}
 use Rattle.std.specs.List.{cons_option, filter_map}
 use Rattle.std.specs.Option.{ForSome, option_map_or}
 use Rattle.mg_model.specs.declared.calls.Call.{Call}
 use Rattle.mg_model.specs.declared.calls.Call.TheVariants as call
 use Rattle.mg_model.specs.declared.calls.Line.{Line}
 use Rattle.mg_model.specs.Abbreviations.{pdx_of}
-use Rattle.mg_model.specs.Lines.{Row, bad_line, call_by, call_line, call_table, form0, form1, form2, form3, form4, form_pwadd, four, is_among, is_note, line_of, line_of_words, line_with, lines, lone_words, one, pwadd_of, spelled_line, thread_line, three, two}
+use Rattle.mg_model.specs.Lines.{Row, bad_line, call_by, call_line, call_table, form0, form1, form2, form3, form4, form_pwadd, four, is_among, line_of, line_of_words, line_with, lines, lone_words, one, pwadd_of, spelled_line, thread_line, three, two}
 use Rattle.mg_model.specs.Ranges.{IsWord}
 use Rattle.mg_model.specs.Rights.{IsRights}
 use Rattle.mg_model.specs.WellFormed.{HasRanges, IsInRange}
@@ -24,10 +24,7 @@ and_then-some Q (Some x) f each = each x refl
 
 below_word-word : (o : Option ℕ) → ForSome (below_word o) IsWord
 below_word-word None = λ n none. absurd (cc)
-below_word-word (Some n) =
-    cond_both (ltb n (2 ^ 64)) (Some n) None (λ o. ForSome o IsWord)
-    (λ below m same. subst IsWord (same_Some _ _ same) (ltb-true _ _ below))
-    (λ _ m none. absurd (cc))
+below_word-word (Some n) = grind (arith, cond_both, same_Some, ltb-true)
 
 pub number_of-word : (word : List ℕ) → ForSome (number_of word) IsWord
 number_of-word word = below_word-word (option_map_or (λ digits. value_of_digits 16 16 digits) (hex_part word) (value_of_digits 10 20 word))
@@ -44,19 +41,7 @@ numbers_of-words (word ∷ more) =
 
 -- rights: no letter comes twice, so their bits stay below 64
 letter_weight-bits : (b bits : ℕ) → bits ≤ 63 → ForSome (letter_weight b) (λ weight. bits / weight % 2 ≢ 1 → IsRights (bits + weight))
-letter_weight-bits b bits few =
-    cond_both (eqb b 82) _ _ (λ o. ForSome o IsSafe) (λ _. safe 1 (λ other. record { some = omega arith; six = omega arith })) (λ _.
-    cond_both (eqb b 87) _ _ (λ o. ForSome o IsSafe) (λ _. safe 2 (λ other. record { some = omega arith; six = omega arith })) (λ _.
-    cond_both (eqb b 88) _ _ (λ o. ForSome o IsSafe) (λ _. safe 4 (λ other. record { some = omega arith; six = omega arith })) (λ _.
-    cond_both (eqb b 68) _ _ (λ o. ForSome o IsSafe) (λ _. safe 8 (λ other. record { some = omega arith; six = omega arith })) (λ _.
-    cond_both (eqb b 80) _ _ (λ o. ForSome o IsSafe) (λ _. safe 16 (λ other. record { some = omega arith; six = omega arith })) (λ _.
-    cond_both (eqb b 79) _ _ (λ o. ForSome o IsSafe) (λ _. safe 32 (λ other. record { some = omega arith; six = omega arith })) (λ _ weight none. absurd (cc)))))))
-  where
-    IsSafe : ℕ → Type 0
-    IsSafe weight = bits / weight % 2 ≢ 1 → IsRights (bits + weight)
-
-    safe : (weight : ℕ) → IsSafe weight → ForSome (Some weight) IsSafe
-    safe weight is = λ other same. subst IsSafe (same_Some _ _ same) is
+letter_weight-bits b bits few = grind (arith, cond_both, same_Some)
 
 rights_some : (bits : ℕ) → IsRights bits → ForSome (Some bits) IsRights
 rights_some bits is = λ other same. subst IsRights (same_Some _ _ same) is
@@ -149,8 +134,7 @@ form_pwadd-ranges (b ∷ rights ∷ until ∷ []) =
 form_pwadd-ranges (b ∷ rights ∷ until ∷ more ∷ args) = tt
 
 pdx_of-ranges : (a mask : ℕ) → IsWord a → IsWord mask → HasRanges (pdx_of a mask)
-pdx_of-ranges a mask word _ =
-    cond_both (leb mask 255) (call.Pdx a mask) call.Bad HasRanges (λ few. let upto : mask ≤ 255 = leb-true _ _ few in (word, omega arith)) (λ _. tt)
+pdx_of-ranges a mask word _ = grind (arith, cond_both, leb-true)
 
 -- the rows of a table make calls in range
 abbrev AreRanged : List Row → Type 0
@@ -163,32 +147,7 @@ abbrev ◌also◌ : {X Y : Type 0} → X → Y → X × Y
 x also y = (x, y)
 
 table-ranged : AreRanged call_table
-table-ranged =
-    form1-ranges (λ a. call.Load a) (λ a is. is)
-    also form2-ranges (λ a value. call.Store a value) (λ a value is1 is2. (is1, is2))
-    also form3-ranges (λ n account password. call.Create n account password) (λ n account password is1 is2 is3. (is1, is2, is3))
-    also form1-ranges (λ b. call.Delete b) (λ b is. is)
-    also form1-ranges (λ b. call.Info b) (λ b is. is)
-    also form_pwadd-ranges
-    also form2-ranges (λ b password. call.Pwdel b password) (λ b password is1 is2. (is1, is2))
-    also form2-ranges (λ b off. call.Entry b off) (λ b off is1 is2. (is1, is2))
-    also form3-ranges (λ b clist password. call.Ext b clist password) (λ b clist password is1 is2 is3. (is1, is2, is3))
-    also form3-ranges (λ b account password. call.Recharge b account password) (λ b account password is1 is2 is3. (is1, is2, is3))
-    also form2-ranges (λ clist password. call.Apdadd clist password) (λ clist password is1 is2. (is1, is2))
-    also form1-ranges (λ index. call.Apddel index) (λ index is. is)
-    also form0-ranges call.Apdlist tt
-    also form2-ranges pdx_of pdx_of-ranges
-    also form0-ranges call.Ret tt
-    also form1-ranges (λ pc. call.Thread pc) (λ pc is. is)
-    also form1-ranges (λ i. call.End i) (λ i is. is)
-    also form1-ranges (λ i. call.Resume i) (λ i is. is)
-    also form0-ranges call.Turn tt
-    also form0-ranges call.Next tt
-    also form3-ranges (λ account password amount. call.Account account password amount) (λ account password amount is1 is2 is3. (is1, is2, is3))
-    also form4-ranges (λ account password to amount. call.Pay account password to amount) (λ account password to amount is1 is2 is3 is4. (is1, is2, is3, is4))
-    also form2-ranges (λ account password. call.Balance account password) (λ account password is1 is2. (is1, is2))
-    also form0-ranges call.Rent tt
-    also tt
+table-ranged = grind (arith, form1-ranges, form2-ranges, form3-ranges, form_pwadd-ranges, form0-ranges, pdx_of-ranges, form4-ranges)
 
 call_by-ranges : (rows : List Row) → AreRanged rows → (word : List ℕ) (args : List (List ℕ)) → ForSome (call_by rows word args) HasRanges
 call_by-ranges [] ranged word args = λ made none. absurd (cc)
@@ -232,8 +191,7 @@ line_some line is = λ other same. subst IsInRange (same_Some _ _ same) is
 
 line_of_words-in_range : (spelled : List (List ℕ)) → ForSome (line_of_words spelled) IsInRange
 line_of_words-in_range [] = λ line none. absurd (cc)
-line_of_words-in_range (first ∷ more) =
-    cond_both (is_note first) None (Some (spelled_line first more)) (λ o. ForSome o IsInRange) (λ _ line none. absurd (cc)) (λ _. line_some (spelled_line first more) (spelled_line-in_range first more))
+line_of_words-in_range (first ∷ more) = grind (arith, cond_both, line_some, spelled_line-in_range)
 
 line_of-in_range : (bytes : List ℕ) → ForSome (line_of bytes) IsInRange
 line_of-in_range bytes =

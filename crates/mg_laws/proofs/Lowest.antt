@@ -1,5 +1,5 @@
 -- The lowest free pages: they exist, they meet no object, and no lower pages meet none.
-use Rattle.std.proofs.Common.{◌≡◌, ℕ, ◌+◌, ◌*◌, ◌<◌, ◌≤◌, ◌⊎◌, nat_le, Bool, true, min, List, [], ◌∷◌, map, filter, length, All, AllPairs, subst, inl, inr, arith}
+use Rattle.std.proofs.Common.{◌≡◌, ℕ, ◌+◌, ◌*◌, ◌<◌, ◌≤◌, ◌⊎◌, Bool, true, min, List, [], ◌∷◌, map, filter, length, All, AllPairs, inl, inr, arith}
 use Rattle.std.proofs.lemmas.Bool.{cases_lt, cond_both, le-leb, leb-true, or_cases, or_left, or_right}
 use Rattle.std.proofs.lemmas.List.Elements.{All-cons, All-filter, All-head, All-nil, All-tail, All-weaker, filter_passes}
 use Rattle.std.proofs.lemmas.List.Sums.{AllPass-from_list_all, list_all-from_AllPass, sum_by-cons}
@@ -17,35 +17,21 @@ abbrev pub IsApart : ℕ → ℕ → Object → Type 0
 IsApart page n object = (page + n ≤ page_of object.row) ⊎ (page_behind object.row ≤ page)
 
 pub is_apart-true : (page n : ℕ) (object : Object) → is_apart page n object ≡ true → IsApart page n object
-is_apart-true page n object passes =
-    elim (or_cases (nat_le (page + n) (page_of object.row)) (nat_le (page_behind object.row) page) passes) [
-      | inl before ↦ inl (leb-true (page + n) (page_of object.row) before)
-      | inr behind ↦ inr (leb-true (page_behind object.row) page behind)
-    ]
+is_apart-true page n object passes = grind (arith, or_cases, leb-true)
 
 pub apart-is_apart : (page n : ℕ) (object : Object) → IsApart page n object → is_apart page n object ≡ true
-apart-is_apart page n object apart =
-    elim apart [
-      | inl before ↦ or_left (nat_le (page + n) (page_of object.row)) (nat_le (page_behind object.row) page) (le-leb (page + n) (page_of object.row) before)
-      | inr behind ↦ or_right (nat_le (page + n) (page_of object.row)) (nat_le (page_behind object.row) page) (le-leb (page_behind object.row) page behind)
-    ]
+apart-is_apart page n object apart = grind (arith, or_left, le-leb, or_right)
 
 -- pages are free if they are apart from each object
 pub is_free-true : (objects : List Object) (n page : ℕ) → is_free objects n page ≡ true → All (IsApart page n) objects
-is_free-true objects n page free =
-    All-weaker (λ object. is_apart page n object ≡ true) (IsApart page n) (is_apart-true page n) objects (AllPass-from_list_all (λ object. is_apart page n object) objects free)
+is_free-true objects n page free = grind (arith, All-weaker, is_apart-true, AllPass-from_list_all)
 
 pub apart-is_free : (objects : List Object) (n page : ℕ) → All (IsApart page n) objects → is_free objects n page ≡ true
-apart-is_free objects n page apart =
-    list_all-from_AllPass (λ object. is_apart page n object) objects (All-weaker (IsApart page n) (λ object. is_apart page n object ≡ true) (apart-is_apart page n) objects apart)
+apart-is_free objects n page apart = grind (arith, list_all-from_AllPass, All-weaker, apart-is_apart)
 
 -- the smaller of two numbers is one of them
 min-holds : (P : ℕ → Type 0) (n m : ℕ) → P n → P m → P (min n m)
-min-holds P n m first second =
-    elim (cases_lt n m) [
-      | inl less ↦ (let e : n ≡ min n m = omega arith in subst P e first)
-      | inr more ↦ (let e : m ≡ min n m = omega arith in subst P e second)
-    ]
+min-holds P n m first second = grind (arith, cases_lt)
 
 -- what holds for each number holds for the least
 pub least-holds : (P : ℕ → Type 0) (n : ℕ) (ms : List ℕ) → P n → All P ms → P (least n ms)
@@ -59,12 +45,7 @@ least-le n (m ∷ ms) = omega (arith, least-le (min n m) ms)
 -- the least of those that pass is below each that passes
 least-below : (q : ℕ → Bool) (n : ℕ) (ms : List ℕ) → All (λ m. q m ≡ true → least n (filter q ms) ≤ m) ms
 least-below q n [] = All-nil (λ m. q m ≡ true → n ≤ m)
-least-below q n (m ∷ ms) =
-    All-cons (λ x. q x ≡ true → least n (filter q (m ∷ ms)) ≤ x) m ms
-    (λ passes. cond_both (q m) (m ∷ filter q ms) (filter q ms) (λ l. least n l ≤ m) (λ _. omega (arith, least-le (min n m) (filter q ms))) (λ fails. absurd (cc (passes, fails))))
-    (All-both (λ x. q x ≡ true → least (min n m) (filter q ms) ≤ x) (λ x. q x ≡ true → least n (filter q ms) ≤ x) (λ x. q x ≡ true → least n (filter q (m ∷ ms)) ≤ x)
-    (λ x with_it without passes. cond_both (q m) (m ∷ filter q ms) (filter q ms) (λ l. least n l ≤ x) (λ _. with_it passes) (λ _. without passes))
-    ms (least-below q (min n m) ms) (least-below q n ms))
+least-below q n (m ∷ ms) = grind (arith, (least-below q (min n m) ms), (least-below q n ms), All-cons, cond_both, least-le, All-both)
 
 -- the last candidate up to a page: no object ends between the two
 record IsLast (P : ℕ → Type 0) (p c : ℕ) (objects : List Object) (page : ℕ) : Type 0 where
@@ -74,15 +55,7 @@ record IsLast (P : ℕ → Type 0) (p c : ℕ) (objects : List Object) (page : �
   last : All (λ (object : Object). page_behind object.row ≤ p → page_behind object.row ≤ page) objects
 
 last_more : (P : ℕ → Type 0) (p c d : ℕ) (object : Object) (objects : List Object) → d ≤ c → (page_behind object.row ≤ p → page_behind object.row ≤ c) → (page : ℕ) × IsLast P p c objects page → (page : ℕ) × IsLast P p d (object ∷ objects) page
-last_more P p c d object objects up here found = (
-  found.0,
-  record {
-    holds = found.1.holds;
-    above = (let a = found.1.above in omega arith);
-    below = found.1.below;
-    last = All-cons (λ (object : Object). page_behind object.row ≤ p → page_behind object.row ≤ found.0) object objects (λ ends. let a = found.1.above in let b = here ends in omega arith) found.1.last;
-  },
-)
+last_more P p c d object objects up here found = grind (arith, All-cons)
 
 last_candidate : (P : ℕ → Type 0) (p c : ℕ) (objects : List Object) → c ≤ p → P c → All (λ (object : Object). P (page_behind object.row)) objects → (page : ℕ) × IsLast P p c objects page
 last_candidate P p c [] within first all = (c, record { holds = first; above = omega arith; below = within; last = All-nil (λ (object : Object). page_behind object.row ≤ p → page_behind object.row ≤ c) })
@@ -105,10 +78,7 @@ lowest_free-least objects n page low free =
     let all : All P (first_page ∷ map behind objects) = least-below (is_free objects n) page_end (first_page ∷ map behind objects) in
     let found : (c : ℕ) × IsLast P page first_page objects c = last_candidate P page first_page objects low (All-head P first_page (map behind objects) all) (All-unmap P behind objects (All-tail P first_page (map behind objects) all)) in
     let down = found.1.below in
-    let apart : All (IsApart found.0 n) objects =
-    All-both (IsApart page n) (λ (object : Object). page_behind object.row ≤ page → page_behind object.row ≤ found.0) (IsApart found.0 n)
-    (λ object meets last. elim meets [ inl before ↦ inl (omega arith) | inr ends ↦ inr (last ends) ])
-    objects (is_free-true objects n page free) found.1.last in
+    let apart : All (IsApart found.0 n) objects = grind (arith, All-both, is_free-true) in
     let up = found.1.holds (apart-is_free objects n found.0 apart) in
     omega arith
 

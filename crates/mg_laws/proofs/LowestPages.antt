@@ -19,9 +19,7 @@ Misses address object = covers object.row address ≡ false
 none-at : (objects : List Object) (address : ℕ) → All (Misses address) objects → at objects address ≡ None
 none-at [] address all = refl
 none-at (object ∷ objects) address all =
-    cond_both (covers object.row address) (Some object) (at objects address) (λ found. found ≡ None)
-    (λ there. absurd (false≢true (sym (All-head (Misses address) object objects all) ∙ there)))
-    (λ _. none-at objects address (All-tail (Misses address) object objects all))
+    grind (arith, (none-at objects address (All-tail (Misses address) object objects all)), cond_both, All-head, All-tail)
 
 at-none : (objects : List Object) (address : ℕ) → at objects address ≡ None → All (Misses address) objects
 at-none [] address none = All-nil (Misses address)
@@ -33,12 +31,7 @@ at-none (object ∷ objects) address none =
 
 -- pages that are apart from an object have none of its addresses
 apart-misses : (page n address : ℕ) (object : Object) → 4096 * page ≤ address → address < 4096 * (page + n) → IsObject object → IsApart page n object → Misses address object
-apart-misses page n address object low high formed apart =
-    let aligned = formed.row.place.aligned in
-    elim apart [
-      | inl before ↦ and_left (nat_le object.row.base address) (nat_lt address (object.row.base + 4096 * object.row.pages)) (lt-leb object.row.base address (omega arith))
-      | inr behind ↦ and_right (nat_le object.row.base address) (nat_lt address (object.row.base + 4096 * object.row.pages)) (le-ltb address (object.row.base + 4096 * object.row.pages) (omega arith))
-    ]
+apart-misses page n address object low high formed apart = grind (arith, and_left, lt-leb, and_right, le-ltb)
 
 covered : (object : Object) (address : ℕ) → object.row.base ≤ address → address < object.row.base + 4096 * object.row.pages → covers object.row address ≡ true
 covered object address low high = and_from (nat_le object.row.base address) (nat_lt address (object.row.base + 4096 * object.row.pages)) (le-leb object.row.base address low) (lt-ltb address (object.row.base + 4096 * object.row.pages) high)
@@ -60,8 +53,7 @@ misses-apart page n object some formed misses =
     ]
 
 pub is_free-meets_none : (objects : List Object) (n page : ℕ) → All IsObject objects → is_free objects n page ≡ true → MeetsNone objects n page
-is_free-meets_none objects n page each free address low high =
-    none-at objects address (All-both IsObject (IsApart page n) (Misses address) (λ object. apart-misses page n address object low high) objects each (is_free-true objects n page free))
+is_free-meets_none objects n page each free address low high = grind (arith, none-at, All-both, apart-misses, is_free-true)
 
 pub meets_none-is_free : (objects : List Object) (n page : ℕ) → 1 ≤ n → All IsObject objects → MeetsNone objects n page → is_free objects n page ≡ true
 meets_none-is_free objects n page some each meets =

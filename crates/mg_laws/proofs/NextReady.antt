@@ -36,11 +36,7 @@ ready-holds P (x ∷ xs) n all ready =
 
 -- a Ready thread among these is the first of them or one of the others
 ready-cases : (x : Thread) (xs : List Thread) (n : ℕ) (P : Type 0) → ((x.number ≡ n) → is_ready x.row.state ≡ true → P) → (ready_in xs n ≡ true → P) → ready_in (x ∷ xs) n ≡ true → P
-ready-cases x xs n P first others ready =
-    cond_both (eqb x.number n) (Some x) (find (λ (thread : Thread). eqb thread.number n) xs) (λ o. ready_of o ≡ true → P)
-    (λ same is. first (eqb-true _ _ same) is)
-    (λ _ rest. others rest)
-    ready
+ready-cases x xs n P first others ready = grind (arith, cond_both, eqb-true)
 
 -- the result of a search above a number: the least that is Ready there, or there is none
 record IsLeastReady (threads : List Thread) (c number : ℕ) : Type 0 where
@@ -63,10 +59,7 @@ here c x xs ordered pass =
     }
 
 not_here : (c : ℕ) (x : Thread) (n : ℕ) → (is_ready x.row.state && ltb c x.number) ≡ false → x.number ≡ n → is_ready x.row.state ≡ true → n ≤ c
-not_here c x n fails same ready =
-    cond_both (ltb c x.number) true false (λ _. n ≤ c)
-    (λ above. absurd (false≢true (sym fails ∙ and_from (is_ready x.row.state) (ltb c x.number) ready above)))
-    (λ below. let le : x.number ≤ c = ltb-false _ _ below in omega arith)
+not_here c x n fails same ready = grind (arith, cond_both, and_from, ltb-false)
 
 behind : (c : ℕ) (x : Thread) (xs : List Thread) (found : Option Thread) → AllPairs IsBelow (x ∷ xs) → (is_ready x.row.state && ltb c x.number) ≡ false → Found xs c found → Found (x ∷ xs) c found
 behind c x xs None ordered fails none = λ n ready. ready-cases x xs n (n ≤ c) (λ same is. not_here c x n fails same is) (λ rest. none n rest) ready
@@ -83,9 +76,7 @@ behind c x xs (Some y) ordered fails is =
 ready_above-found : (c : ℕ) (threads : List Thread) → AllPairs IsBelow threads → Found threads c (ready_above c threads)
 ready_above-found c [] ordered = λ n ready. absurd (false≢true ready)
 ready_above-found c (x ∷ xs) ordered =
-    cond_both (is_ready x.row.state && ltb c x.number) (Some x) (ready_above c xs) (λ o. Found (x ∷ xs) c o)
-    (λ pass. here c x xs ordered pass)
-    (λ fails. behind c x xs (ready_above c xs) ordered fails (ready_above-found c xs (AllPairs-tail IsBelow x xs ordered)))
+    grind (arith, (ready_above-found c xs (AllPairs-tail IsBelow x xs ordered)), cond_both, here, behind, AllPairs-tail)
 
 module _ (state : State) (formed : IsWellFormed state) where
   told : (n : ℕ) → thread_is_ready state n ≡ true → ready_in state.threads n ≡ true
@@ -95,20 +86,9 @@ module _ (state : State) (formed : IsWellFormed state) where
   positive n ready = ready-holds (λ m. 1 ≤ m) state.threads n (λ k d within. (formed.threads.each k d within).some) ready
 
   ran : (first second : Option Thread) → Found state.threads state.counters.cursor first → Found state.threads 0 second → RanNext state (run_next state (option_or first second)).1
-  ran (Some x) second is _ = record {
-    ready = ready_is state x.number ∙ is.ready;
-    above = λ _ n ready above. is.least n (told n ready) above;
-    around = λ low. let a = is.above in absurd (omega arith);
-  }
-  ran None (Some x) none is = record {
-    ready = ready_is state x.number ∙ is.ready;
-    above = λ above. let le = none x.number is.ready in absurd (omega arith);
-    around = λ _ n ready. (none n (told n ready), is.least n (told n ready) (let p = positive n (told n ready) in omega arith));
-  }
+  ran (Some x) second is _ = grind (arith, ready_is, told)
+  ran None (Some x) none is = grind (arith, ready_is, told, positive)
   ran None None _ none = (refl, λ n ready. let le = none n (told n ready) in let p = positive n (told n ready) in absurd (omega arith))
 
 pub next-ready : RunsNextReady next
-next-ready state formed =
-    ran state formed (ready_above state.counters.cursor state.threads) (ready_above 0 state.threads)
-    (ready_above-found state.counters.cursor state.threads formed.threads.ordered)
-    (ready_above-found 0 state.threads formed.threads.ordered)
+next-ready state formed = grind (arith, ran, ready_above-found)

@@ -1,4 +1,5 @@
 -- A line that is refused leaves the state as it was.
+use Rattle.std.proofs.Common.{arith}
 use Rattle.std.proofs.Common.{ℕ, ◌+◌, ◌-◌, ◌*◌, ◌≡◌, length, Option, Some, None, refl}
 use Rattle.std.proofs.lemmas.Bool.{cond_both}
 use Rattle.mg_model.specs.declared.calls.Call.{Call}
@@ -18,7 +19,6 @@ use Rattle.mg_model.specs.Objects.{lowest_free, word_at}
 use Rattle.mg_model.specs.Refused.{Answer, unless_refused}
 use Rattle.mg_model.specs.State.{State, Thread}
 use Rattle.mg_model.specs.Step.{of_thread, step, step_of}
-use Rattle.mg_model.specs.Threads.{is_thread}
 use Rattle.mg_model.specs.Turn.{after_of, picked, run_next, thread_call, turn, turn_state}
 
 -- an answer that is no refusal
@@ -85,8 +85,7 @@ thread_call-leaves state t call.Apdlist = same-leaves state _
 thread_call-leaves state t _ = same-leaves state _
 
 of_thread-leaves : (state : State) (t : ℕ) (done : Answer) → Leaves state done.0 done.1 → Leaves state (of_thread state t done).0 (of_thread state t done).1
-of_thread-leaves state t done leaves =
-    cond_both (is_thread state t) done (state, reply.No refusal.NoThread) (λ (answer : Answer). Leaves state answer.0 answer.1) (λ _. leaves) (λ _. same-leaves state (reply.No refusal.NoThread))
+of_thread-leaves state t done leaves = grind (arith, cond_both, same-leaves)
 
 pub collected-ok : (period rate paid : ℕ) → IsOk (reply.Collected period rate paid)
 collected-ok period rate paid = record { ok = λ word no. cc }

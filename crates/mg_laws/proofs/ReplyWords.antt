@@ -1,5 +1,5 @@
 -- The values of each reply to a thread are numbers of 64 bits, so they fit its registers.
-use Rattle.std.proofs.Common.{ℕ, zero, suc, ◌+◌, ◌-◌, ◌*◌, ◌/◌, ◌^◌, ◌<◌, ◌≤◌, ◌≡◌, not, cond, eqb, leb, ◌||◌, List, [], ◌∷◌, length, get_or, filter, map, min, is_some, Option, Some, None, refl, ap, subst, arith, All}
+use Rattle.std.proofs.Common.{ℕ, zero, suc, ◌+◌, ◌-◌, ◌*◌, ◌/◌, ◌^◌, ◌<◌, ◌≤◌, ◌≡◌, not, leb, ◌||◌, List, [], ◌∷◌, length, get_or, filter, map, min, Option, Some, None, refl, ap, subst, arith, All}
 use Rattle.std.proofs.lemmas.Bool.{and_parts, cond_both, leb-false, leb-true, or_parts}
 use Rattle.std.proofs.lemmas.List.Elements.{All-cons, All-nil}
 use Rattle.std.proofs.lemmas.List.Sums.{get_or-le-sum_by}
@@ -12,10 +12,10 @@ use Rattle.mg_model.specs.declared.calls.Call.TheVariants as call
 use Rattle.mg_model.specs.declared.replies.Refusal.{Refusal}
 use Rattle.mg_model.specs.declared.replies.Reply.{Reply}
 use Rattle.mg_model.specs.declared.replies.Reply.TheVariants.{Count, Done, Funds, Made, Opened, Value}
-use Rattle.mg_model.specs.declared.rights.Right.TheVariants.{O, X}
+use Rattle.mg_model.specs.declared.rights.Right.TheVariants.{O}
 use Rattle.mg_model.specs.Abbreviations.{free_number}
 use Rattle.mg_model.specs.Access.{allowed, at, covers, domain_of, thread_of}
-use Rattle.mg_model.specs.Bank.{balance_of, owed_by, pages_of, used}
+use Rattle.mg_model.specs.Bank.{balance_of, owed_by, pages_of}
 use Rattle.mg_model.specs.BankCalls.{balance}
 use Rattle.mg_model.specs.Domains.{frames_of}
 use Rattle.mg_model.specs.DrawnLemmas.{drawn-IsWord}
@@ -59,9 +59,7 @@ three-words : (a b c : ℕ) → IsWord a → IsWord b → IsWord c → All IsWor
 three-words a b c first second third = All-cons IsWord a (b ∷ c ∷ []) first (two-words b c second third)
 
 six-words : (a b c d e f : ℕ) → IsWord a → IsWord b → IsWord c → IsWord d → IsWord e → IsWord f → All IsWord (a ∷ b ∷ c ∷ d ∷ e ∷ f ∷ [])
-six-words a b c d e f first second third fourth fifth sixth =
-    All-cons IsWord a (b ∷ c ∷ d ∷ e ∷ f ∷ []) first
-    (All-cons IsWord b (c ∷ d ∷ e ∷ f ∷ []) second (All-cons IsWord c (d ∷ e ∷ f ∷ []) third (three-words d e f fourth fifth sixth)))
+six-words a b c d e f first second third fourth fifth sixth = grind (arith, All-cons, three-words)
 
 -- the word at an address
 word_of_object : (objects : List Object) (a : ℕ) (o : Option Object) → All IsObject objects → at objects a ≡ o → IsWord (option_map_or (λ (object : Object). get_or object.words ((a - object.row.base) / 8) 0) o 0)
@@ -127,10 +125,7 @@ pub record HasLimits (state : State) : Type 0 where
   pub credits : state.settings.credits ≤ 2 ^ 62
 
 pub settings-limits : (state : State) → IsWellFormed state → HasLimits state
-settings-limits state formed =
-    let parts = and_parts _ _ formed.settings.limits in
-    let first = and_parts _ _ parts.0 in
-    record { frames = leb-true _ _ first.1; credits = leb-true _ _ parts.1 }
+settings-limits state formed = grind (arith, and_parts, leb-true)
 
 balance_of-word : (state : State) (number : ℕ) → IsWellFormed state → IsWord (balance_of state.accounts number)
 balance_of-word state number formed =
@@ -145,11 +140,7 @@ owed_by-word state number formed =
     omega arith
 
 pages_of-word : (state : State) (number : ℕ) → IsWellFormed state → IsWord (pages_of state.objects number)
-pages_of-word state number formed =
-    let limits : HasLimits state = settings-limits state formed in
-    let part : pages_of state.objects number ≤ used state.objects = sum_by-filter-le (λ (object : Object). eqb object.row.account number) (λ (object : Object). object.row.pages) state.objects in
-    let fit : used state.objects ≤ state.settings.frames = formed.objects.fit in
-    omega arith
+pages_of-word state number formed = grind (arith, settings-limits, sum_by-filter-le)
 
 -- frames of a thread
 frames_of_thread : (state : State) (t : ℕ) (o : Option Thread) → IsWellFormed state → thread_of state t ≡ o → length (option_map_or (λ (thread : Thread). thread.row.frames) o []) ≤ 16
@@ -161,23 +152,13 @@ frames_of-few state t formed = frames_of_thread state t (thread_of state t) form
 
 module _ (state : State) (t : ℕ) (formed : IsWellFormed state) where
   created-words : (n : ℕ) → HasWords (Made (4096 * lowest_free state.objects n) (next_password state))
-  created-words n =
-      let low : lowest_free state.objects n ≤ 2 ^ 40 = lowest_free-le state.objects n in
-      record { words = two-words _ _ (omega arith) (next_password-word state) }
+  created-words n = grind (arith, lowest_free-le, two-words, next_password-word)
 
   about-words : (b : ℕ) → HasWords (about (row_at state b))
-  about-words b =
-      let small : IsSmallRow (row_at state b) = row_at-small state b formed in
-      let bit : IsWord (cond (is_some (row_at state b).extension) 1 0) = cond_both (is_some (row_at state b).extension) 1 0 IsWord (λ _. omega arith) (λ _. omega arith) in
-      record {
-        words = six-words (row_at state b).base (row_at state b).pages (row_at state b).account (length (row_at state b).passwords) (length (row_at state b).entries) (cond (is_some (row_at state b).extension) 1 0)
-            (omega arith) (omega arith) (omega arith) (omega arith) (omega arith) bit;
-      }
+  about-words b = grind (arith, row_at-small, cond_both, six-words)
 
   entry-words : (b off : ℕ) → off < 4096 * (row_at state b).pages → HasWords (Value ((row_at state b).base + off))
-  entry-words b off below =
-      let small : IsSmallRow (row_at state b) = row_at-small state b formed in
-      record { words = one-word _ (omega arith) }
+  entry-words b off below = grind (arith, row_at-small, one-word)
 
   slots-words : HasWords (Count (length (domain_of state t)))
   slots-words = let few = (domain_of-formed state t formed).few in record { words = one-word _ (omega arith) }
@@ -216,12 +197,7 @@ module _ (state : State) (t : ℕ) (formed : IsWellFormed state) where
       entry-words b off (leb-false _ _ (or_parts _ _ to_limit.0).1))
 
   make_thread-words : (pc : ℕ) → HasWords (make_thread state t pc).1
-  make_thread-words pc =
-      unless_refused-words _ state _ (λ none.
-      let to_denied = unrefused (not (is_aligned pc)) _ _ none in
-      let to_limit = unrefused (not (allowed state t pc X)) _ _ to_denied.1 in
-      let to_end = unrefused (leb 256 (length state.threads) || leb (2 ^ 32 - 1) state.counters.births) _ _ to_limit.1 in
-      made-words (leb-false _ _ (or_parts _ _ to_end.0).0))
+  make_thread-words pc = grind (arith, unless_refused-words, unrefused, made-words, leb-false, or_parts)
 
   balance-words : (account password : ℕ) → HasWords (balance state account password).1
   balance-words account password = unless_refused-words _ state _ (λ _. funds-words account)

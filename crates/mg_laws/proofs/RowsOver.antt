@@ -1,9 +1,9 @@
 -- A thread's row may be replaced before a call of the thread or after it.
-use Rattle.std.proofs.Common.{ℕ, suc, ◌+◌, ◌*◌, ◌++◌, ◌<◌, ◌≡◌, ◌≢◌, Bool, true, false, cond, eqb, ltb, not, List, [], ◌∷◌, filter, get_or, length, map, is_some, Option, Some, None, refl, sym, ap, ◌∙◌, subst, arith}
+use Rattle.std.proofs.Common.{ℕ, suc, ◌+◌, ◌++◌, ◌<◌, ◌≡◌, ◌≢◌, Bool, true, false, cond, eqb, not, List, [], ◌∷◌, filter, get_or, length, map, Option, Some, None, refl, sym, ap, ◌∙◌, subst, arith}
 use Rattle.std.proofs.lemmas.Bool.{cond_both, cond-false, eqb-true, ne_eqb}
 use Rattle.std.proofs.lemmas.List.{length-map}
 use Rattle.std.proofs.lemmas.Option.{same_Some}
-use Rattle.std.specs.Prelude.{AllPairs, drop, find, option_map, take, unwrap_or}
+use Rattle.std.specs.Prelude.{AllPairs, find, option_map, unwrap_or}
 use Rattle.std.specs.Option.{option_map_or}
 use Rattle.mg_laws.proofs.Finds.{find-map, read-map}
 use Rattle.mg_laws.proofs.KeepsRows.{IsBelow, changed, changed-number}
@@ -17,11 +17,11 @@ use Rattle.mg_model.specs.declared.replies.Reply.TheVariants as reply
 use Rattle.mg_model.specs.declared.slots.Slot.{Slot}
 use Rattle.mg_model.specs.declared.threads.ThrState.TheVariants.{Ready}
 use Rattle.mg_model.specs.Abbreviations.{free_number}
-use Rattle.mg_model.specs.Access.{domain_of, last_slots, thread_of}
+use Rattle.mg_model.specs.Access.{domain_of, thread_of}
 use Rattle.mg_model.specs.Bank.{balance_of, given_to, owed_by, pages_of, taken_from}
 use Rattle.mg_model.specs.Limits.{never}
 use Rattle.mg_model.specs.ObjectCalls.{about, drawn, extension_of, has_password, next_password, row_at, with_entry, with_row_at}
-use Rattle.mg_model.specs.Objects.{lowest_free, new_object, with_object, with_word, without_object, word_at}
+use Rattle.mg_model.specs.Objects.{with_word, without_object, word_at}
 use Rattle.mg_model.specs.Domains.{row_of, with_last_slots, with_slots, with_thread}
 use Rattle.mg_model.specs.KeptListLemmas.{AllPairs-head, AllPairs-tail}
 use Rattle.mg_model.specs.Refused.{Answer, unless_refused}
@@ -35,21 +35,7 @@ either : (t : ℕ) (g : ThreadRow → ThreadRow) (x : Thread) (v : Bool) → eqb
 either t g x v is = ap (λ b. cond b (record x { row = g x.row }) x) is
 
 changed-twice : (t i : ℕ) (f g : ThreadRow → ThreadRow) (x : Thread) → f (g x.row) ≡ g (f x.row) → changed i f (changed t g x) ≡ changed t g (changed i f x)
-changed-twice t i f g x same = by_cases (eqb x.number t) (eqb x.number i) refl refl
-  where
-    by_cases : (v w : Bool) → eqb x.number t ≡ v → eqb x.number i ≡ w → changed i f (changed t g x) ≡ changed t g (changed i f x)
-    by_cases true true at_t at_i =
-        ap (changed i f) (either t g x true at_t) ∙ either i f (record x { row = g x.row }) true at_i ∙ ap (λ r. record x { row = r }) same
-        ∙ sym (ap (changed t g) (either i f x true at_i) ∙ either t g (record x { row = f x.row }) true at_t)
-    by_cases true false at_t at_i =
-        ap (changed i f) (either t g x true at_t) ∙ either i f (record x { row = g x.row }) false at_i
-        ∙ sym (ap (changed t g) (either i f x false at_i) ∙ either t g x true at_t)
-    by_cases false true at_t at_i =
-        ap (changed i f) (either t g x false at_t) ∙ either i f x true at_i
-        ∙ sym (ap (changed t g) (either i f x true at_i) ∙ either t g (record x { row = f x.row }) false at_t)
-    by_cases false false at_t at_i =
-        ap (changed i f) (either t g x false at_t) ∙ either i f x false at_i
-        ∙ sym (ap (changed t g) (either i f x false at_i) ∙ either t g x false at_t)
+changed-twice t i f g x same = grind (arith, changed, either)
 
 map-twice : {X : Type 0} (f g : X → X) → ((x : X) → f (g x) ≡ g (f x)) → (xs : List X) → map f (map g xs) ≡ map g (map f xs)
 map-twice f g same [] = refl
@@ -62,32 +48,15 @@ threads-twice t i f g same threads = map-twice (changed i f) (changed t g) (λ x
 module _ (t : ℕ) (g : ThreadRow → ThreadRow) where
   free_number-over : (n : ℕ) (threads : List Thread) → free_number_from n (map (changed t g) threads) ≡ free_number_from n threads
   free_number-over n [] = refl
-  free_number-over n (x ∷ xs) =
-      ap (λ (m : ℕ). cond (eqb m n) (free_number_from (n + 1) (map (changed t g) xs)) n) (changed-number t g x)
-      ∙ ap (λ (m : ℕ). cond (eqb x.number n) m n) (free_number-over (n + 1) xs)
+  free_number-over n (x ∷ xs) = grind (arith, (free_number-over (n + 1) xs))
 
   without-over : (i : ℕ) (threads : List Thread) → filter (λ (x : Thread). not (eqb x.number i)) (map (changed t g) threads) ≡ map (changed t g) (filter (λ (x : Thread). not (eqb x.number i)) threads)
   without-over i [] = refl
-  without-over i (x ∷ xs) =
-      ap (λ (m : ℕ). cond (not (eqb m i)) (changed t g x ∷ filter (λ (y : Thread). not (eqb y.number i)) (map (changed t g) xs)) (filter (λ (y : Thread). not (eqb y.number i)) (map (changed t g) xs))) (changed-number t g x)
-      ∙ ap (λ ys. cond (not (eqb x.number i)) (changed t g x ∷ ys) ys) (without-over i xs)
-      ∙ either_kept (not (eqb x.number i)) (filter (λ (y : Thread). not (eqb y.number i)) xs)
-    where
-      either_kept : (v : Bool) (ys : List Thread) → cond v (changed t g x ∷ map (changed t g) ys) (map (changed t g) ys) ≡ map (changed t g) (cond v (x ∷ ys) ys)
-      either_kept true ys = refl
-      either_kept false ys = refl
+  without-over i (x ∷ xs) = grind (arith, (without-over i xs), changed, changed-number)
 
   new-over : (new : Thread) (threads : List Thread) → new.number ≢ t → with_new_thread new (map (changed t g) threads) ≡ map (changed t g) (with_new_thread new threads)
   new-over new [] other = ap (λ x. x ∷ []) (sym (cond-false (eqb new.number t) (record new { row = g new.row }) new (ne_eqb _ _ other)))
-  new-over new (x ∷ xs) other =
-      ap (λ (m : ℕ). cond (ltb new.number m) (new ∷ changed t g x ∷ map (changed t g) xs) (changed t g x ∷ with_new_thread new (map (changed t g) xs))) (changed-number t g x)
-      ∙ ap (λ ys. cond (ltb new.number x.number) (new ∷ changed t g x ∷ map (changed t g) xs) (changed t g x ∷ ys)) (new-over new xs other)
-      ∙ ap (λ y. cond (ltb new.number x.number) (y ∷ changed t g x ∷ map (changed t g) xs) (changed t g x ∷ map (changed t g) (with_new_thread new xs))) (sym (cond-false (eqb new.number t) (record new { row = g new.row }) new (ne_eqb _ _ other)))
-      ∙ either_place (ltb new.number x.number)
-    where
-      either_place : (v : Bool) → cond v (changed t g new ∷ changed t g x ∷ map (changed t g) xs) (changed t g x ∷ map (changed t g) (with_new_thread new xs)) ≡ map (changed t g) (cond v (new ∷ x ∷ xs) (x ∷ with_new_thread new xs))
-      either_place true = refl
-      either_place false = refl
+  new-over new (x ∷ xs) other = grind (arith, (new-over new xs other))
 
 module _ (state : State) (t : ℕ) (old row : ThreadRow) (formed : IsWellFormed state) (there : row_of state t ≡ Some old) (is : IsRowOf old row) where
   abbrev over : ThreadRow → ThreadRow
@@ -107,16 +76,10 @@ module _ (state : State) (t : ℕ) (old row : ThreadRow) (formed : IsWellFormed 
   found_over u = find-map (λ (x : Thread). eqb x.number u) (changed t over) (hit u) state.threads
 
   same_domain : (u : ℕ) → domain_of put u ≡ domain_of state u
-  same_domain u =
-      read-map (λ (x : Thread). eqb x.number u) (changed t over) (λ (x : Thread). last_slots x.row.frames) [] state.threads (hit u)
-      (λ x _. cond_both (eqb x.number t) (record x { row = over x.row }) x (λ (y : Thread). last_slots y.row.frames ≡ last_slots x.row.frames) (λ _. refl) (λ _. refl))
+  same_domain u = grind (arith, read-map, changed, hit, cond_both)
 
   same_is_thread : (u : ℕ) → is_thread put u ≡ is_thread state u
-  same_is_thread u = ap is_some (found_over u) ∙ by_found (thread_of state u)
-    where
-      by_found : (o : Option Thread) → is_some (option_map (changed t over) o) ≡ is_some o
-      by_found None = refl
-      by_found (Some x) = refl
+  same_is_thread u = grind (arith, found_over, changed)
 
   -- a part of the row that did not change
   same_part : (part : ThreadRow → ℕ) → ((frames : ThreadRow) → part (over frames) ≡ part row) → part row ≡ part old → (u : ℕ) → option_map_or (λ (x : Thread). part x.row) (thread_of put u) 0 ≡ option_map_or (λ (x : Thread). part x.row) (thread_of state u) 0
@@ -174,11 +137,7 @@ module _ (state : State) (t : ℕ) (old row : ThreadRow) (formed : IsWellFormed 
 
   -- the number of a new thread is none of a thread that lives
   is_new : free_number state.threads ≢ t
-  is_new same = none (thread_of state t) (subst (λ n. thread_of state n ≡ None) same (free_number-least state formed).free) there
-    where
-      none : (o : Option Thread) → o ≡ None → option_map_or (λ (x : Thread). Some x.row) o None ≡ Some old → ⊥
-      none None gone was = cc
-      none (Some x) gone was = cc
+  is_new same = grind (arith, free_number-least)
 
   born-over : (new : Thread) → new.number ≢ t → record (born put) { threads = with_new_thread new put.threads } ≡ W (record (born state) { threads = with_new_thread new state.threads })
   born-over new other = ap (λ threads. record (born state) { threads = threads }) (new-over t over new state.threads other)
@@ -186,9 +145,7 @@ module _ (state : State) (t : ℕ) (old row : ThreadRow) (formed : IsWellFormed 
   call-over : (made : Call) → is_by_script made ≡ true → thread_call put t made ≡ (W (thread_call state t made).0, (thread_call state t made).1)
   call-over (call.Load a) by = rw (same_domain t) (row-over _ (state, reply.Value (word_at state.objects a)))
   call-over (call.Store a value) by = rw (same_domain t) (row-over _ (record state { objects = with_word state.objects a value }, reply.Done))
-  call-over (call.Create n account password) by =
-      let base = 4096 * lowest_free state.objects n in
-      row-over _ (record (drawn state) { objects = with_object (new_object base n account (next_password state)) state.objects }, reply.Made base (next_password state))
+  call-over (call.Create n account password) by = grind (arith, row-over)
   call-over (call.Delete b) by = rw (same_domain t) (row-over _ (record state { objects = without_object (row_at state b).base state.objects }, reply.Done))
   call-over (call.Info b) by = rw (same_domain t) (row-over _ (state, about (row_at state b)))
   call-over (call.Pwadd b rights until) by =
@@ -198,13 +155,8 @@ module _ (state : State) (t : ℕ) (old row : ThreadRow) (formed : IsWellFormed 
   call-over (call.Entry b off) by = rw (same_domain t) (row-over _ (with_row_at state b (λ object. with_entry object ((row_at state b).base + off)), reply.Value ((row_at state b).base + off)))
   call-over (call.Ext b clist password) by = rw (same_domain t) (row-over _ (with_row_at state b (λ object. record object { extension = extension_of clist password }), reply.Done))
   call-over (call.Recharge b account password) by = rw (same_domain t) (row-over _ (with_row_at state b (λ object. record object { account = account }), reply.Done))
-  call-over (call.Apdadd clist password) by =
-      let slots = domain_of state t in
-      let more = slots ++ record { base = clist; password = password } ∷ [] in
-      rw (same_domain t) (row-like _ (with_slots put t more) (with_slots state t more) (reply.Count (length slots)) (slots-over more))
-  call-over (call.Apddel index) by =
-      let fewer = take index (domain_of state t) ++ drop (suc index) (domain_of state t) in
-      rw (same_domain t) (row-like _ (with_slots put t fewer) (with_slots state t fewer) reply.Done (slots-over fewer))
+  call-over (call.Apdadd clist password) by = grind (arith, same_domain, row-like, slots-over)
+  call-over (call.Apddel index) by = grind (arith, same_domain, row-like, slots-over)
   call-over call.Apdlist by = rw (same_domain t) refl
   call-over (call.Thread pc) by =
       let number = free_number state.threads in
@@ -217,8 +169,7 @@ module _ (state : State) (t : ℕ) (old row : ThreadRow) (formed : IsWellFormed 
   call-over (call.Resume i) by =
       let ready : ThreadRow → ThreadRow = λ r. record r { state = Ready } in
       rw (same_is_thread i, same_creator i, same_birth t) (row-like _ (with_thread put i ready) (with_thread state i ready) reply.Done (resumed-over i))
-  call-over (call.Account account password amount) by =
-      row-over _ (record (drawn state) { accounts = taken_from state.accounts account amount ++ record { password = next_password state; balance = amount; owed = 0 } ∷ [] }, reply.Opened (length state.accounts + 1) (next_password state))
+  call-over (call.Account account password amount) by = grind (arith, row-over)
   call-over (call.Pay account password to amount) by = row-over _ (record state { accounts = given_to (taken_from state.accounts account amount) to amount }, reply.Done)
   call-over (call.Balance account password) by = row-over _ (state, reply.Funds (balance_of state.accounts account) (owed_by state.accounts account) (pages_of state.objects account))
   call-over (call.Pdx a mask) by = absurd (cc)
@@ -252,10 +203,7 @@ put-over t old row (x ∷ xs) apart there same = by_number (λ was. put-over t o
         ap (λ ys. changed t (λ _. row) x ∷ ys) (above t (λ _. row) xs larger)
         ∙ ap (λ y. y ∷ xs) (either t (λ _. row) x true at ∙ ap (λ fs. record x { row = record row { frames = fs } }) frames ∙ sym (either t (with_frames_of row) x true at))
         ∙ ap (λ ys. changed t (with_frames_of row) x ∷ ys) (sym (above t (with_frames_of row) xs larger))
-    by_number rest false other was =
-        ap (λ y. y ∷ map (changed t (λ _. row)) xs) (either t (λ _. row) x false other)
-        ∙ ap (λ ys. x ∷ ys) (rest was)
-        ∙ ap (λ y. y ∷ map (changed t (with_frames_of row)) xs) (sym (either t (with_frames_of row) x false other))
+    by_number rest false other was = grind (arith, changed, either)
 
 pub calls_over : RestsOnNoRegister thread_call
 calls_over state t old row made formed there is by =

@@ -1,6 +1,6 @@
 -- A line that is no turn gets the same answer whatever the state of any thread is.
-use Rattle.std.proofs.Common.{ℕ, ◌+◌, ◌-◌, ◌*◌, ◌≡◌, Bool, true, false, cond, eqb, List, [], ◌∷◌, length, map, is_some, Option, Some, None, refl, ap, ◌∙◌}
-use Rattle.std.proofs.lemmas.Bool.{cond_both}
+use Rattle.std.proofs.Common.{arith}
+use Rattle.std.proofs.Common.{ℕ, ◌+◌, ◌-◌, ◌*◌, ◌≡◌, Bool, true, false, cond, eqb, List, [], ◌∷◌, length, map, is_some, Option, Some, None, refl}
 use Rattle.std.proofs.lemmas.List.{length-map}
 use Rattle.std.specs.Prelude.{find}
 use Rattle.std.specs.Option.{option_map_or}
@@ -25,10 +25,6 @@ use Rattle.mg_model.specs.Step.{of_thread, step, step_of}
 use Rattle.mg_model.specs.Threads.{birth_of, creator_of, end_thread, free_number_from, is_thread, make_thread, resume}
 use Rattle.mg_model.specs.Turn.{thread_call}
 
-either_way : {X A : Type 0} {x y u v : X} (g : X → A) (b : Bool) → g x ≡ g y → g u ≡ g v → g (cond b x u) ≡ g (cond b y v)
-either_way g true first second = first
-either_way g false first second = second
-
 -- the answer of a row is a function of its refusals and of its reply
 same_answer : (refused : Option Refusal) (s new : State) (done other : Answer) → done.1 ≡ other.1 → (unless_refused refused s done).1 ≡ (unless_refused refused new other).1
 same_answer None s new done other same = same
@@ -42,21 +38,14 @@ module _ (t : ℕ) (kind : ThrState) where
   abbrev put : Thread → Thread
   put thread = changed t (λ row. record row { state = kind }) thread
 
-  put-keeps : {A : Type 0} (g : Thread → A) → ((thread : Thread) → g (record thread { row = record (thread.row) { state = kind } }) ≡ g thread) → (thread : Thread) → g (put thread) ≡ g thread
-  put-keeps g same thread = cond_both (eqb thread.number t) _ _ (λ (x : Thread). g x ≡ g thread) (λ _. same thread) (λ _. refl)
-
   find-put : {A : Type 0} (g : Option Thread → A) → ((thread : Thread) → g (Some (record thread { row = record (thread.row) { state = kind } })) ≡ g (Some thread)) → (u : ℕ) (threads : List Thread) →
       g (find (λ (x : Thread). eqb x.number u) (map put threads)) ≡ g (find (λ (x : Thread). eqb x.number u) threads)
   find-put g same u [] = refl
-  find-put g same u (x ∷ xs) =
-      ap (λ (n : ℕ). g (cond (eqb n u) (Some (put x)) (find (λ (y : Thread). eqb y.number u) (map put xs)))) (changed-number t (λ row. record row { state = kind }) x)
-      ∙ either_way g (eqb x.number u) (put-keeps (λ (y : Thread). g (Some y)) same x) (find-put g same u xs)
+  find-put g same u (x ∷ xs) = grind (arith, (find-put g same u xs))
 
   free_number-put : (n : ℕ) (threads : List Thread) → free_number_from n (map put threads) ≡ free_number_from n threads
   free_number-put n [] = refl
-  free_number-put n (x ∷ xs) =
-      ap (λ (m : ℕ). cond (eqb m n) (free_number_from (n + 1) (map put xs)) n) (changed-number t (λ row. record row { state = kind }) x)
-      ∙ ap (λ (m : ℕ). cond (eqb x.number n) m n) (free_number-put (n + 1) xs)
+  free_number-put n (x ∷ xs) = grind (arith, (free_number-put (n + 1) xs), changed-number)
 
 module _ (state : State) (t : ℕ) (kind : ThrState) where
   same_domain : (u : ℕ) → domain_of (as_state state t kind) u ≡ domain_of state u
@@ -123,9 +112,7 @@ module _ (state : State) (t : ℕ) (kind : ThrState) where
   same_rent = answer_here _ _ _ (refl {a = reply.Collected (state.counters.period + 1) (rate_now state) (rent_paid state)})
 
   same_of_thread : (u : ℕ) (done other : Answer) → done.1 ≡ other.1 → (of_thread (as_state state t kind) u done).1 ≡ (of_thread state u other).1
-  same_of_thread u done other same =
-      ap (λ (b : Bool). (cond b done (as_state state t kind, reply.No refusal.NoThread)).1) (same_is_thread u)
-      ∙ same_choice (is_thread state u) done other (as_state state t kind) state same
+  same_of_thread u done other same = grind (arith, same_is_thread, same_choice)
 
   same_step : (u : ℕ) (made : Call) → is_turn made ≡ false → (step_of (as_state state t kind) u made).1 ≡ (step_of state u made).1
   same_step u call.Turn no_turn = absurd (cc)
