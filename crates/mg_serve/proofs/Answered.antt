@@ -1,5 +1,5 @@
 -- How replies add up, and that each is one line.
-use Rattle.std.specs.Prelude.{ℕ, zero, suc, ◌+◌, ◌≡◌, ◌==◌, ◌/◌, ◌%◌, Bool, true, false, List, [], ◌∷◌, ◌++◌, if◌then◌else◌, cond, count_by, map, take}
+use Rattle.std.specs.Prelude.{ℕ, zero, suc, ◌+◌, ◌≡◌, ◌==◌, ◌/◌, ◌%◌, Bool, true, false, List, [], ◌∷◌, ◌++◌, if◌then◌else◌, cond, map, take}
 use Rattle.std.specs.Fmt.{decimal, digit_glyph, digits, digits_onto}
 use Rattle.std.proofs.Common.{refl, ap, ◌∙◌, arith}
 use Rattle.std.proofs.lemmas.Grind.{common_steps}
@@ -23,10 +23,7 @@ hex_digit_no_newline d = grind (arith, common_steps)
 
 hex_digits_no_newline : (n w : ℕ) → answered (hex_digits n w) ≡ 0
 hex_digits_no_newline zero w = refl
-hex_digits_no_newline (suc n) w =
-    answered-append (hex_digits n (w / 16)) (hex_digit (w % 16) ∷ [])
-    ∙ ap (λ v. v + count_by is_newline (hex_digit (w % 16) ∷ [])) (hex_digits_no_newline n (w / 16))
-    ∙ ap (λ v. 0 + (0 + cond v 1 0)) (hex_digit_no_newline (w % 16))
+hex_digits_no_newline (suc n) w = grind (arith, (hex_digits_no_newline n (w / 16)), answered-append, hex_digit_no_newline)
 
 pub hex_text_no_newline : (w : ℕ) → answered (hex_text w) ≡ 0
 unfolding hex_text
@@ -58,10 +55,7 @@ Quiet (one ∷ texts) = (answered one ≡ 0) × Quiet texts
 
 spaced_quiet : (texts : List (List ℕ)) → Quiet texts → answered (spaced texts) ≡ 0
 spaced_quiet [] q = refl
-spaced_quiet (one ∷ texts) q =
-    let first : answered (32 ∷ one) ≡ 0 = q.0 in
-    let rest : answered (spaced texts) ≡ 0 = spaced_quiet texts q.1 in
-    omega (arith, answered-append (32 ∷ one) (spaced texts))
+spaced_quiet (one ∷ texts) q = grind (arith, (spaced_quiet texts q.1), answered-append)
 
 ok_quiet : (texts : List (List ℕ)) → Quiet texts → answered (ok_text texts) ≡ 0
 ok_quiet texts q = spaced_quiet texts q

@@ -1,16 +1,16 @@
 -- How the lines of an input come from those of its parts.
-use Rattle.std.specs.Prelude.{ℕ, zero, suc, ◌+◌, ◌<◌, ◌≤◌, ◌≡◌, ◌||◌, Bool, true, false, List, [], ◌∷◌, ◌++◌, drop, length, take, if◌then◌else◌, nat_lt, replicate, Option, Some, None}
+use Rattle.std.specs.Prelude.{ℕ, zero, suc, ◌+◌, ◌<◌, ◌≤◌, ◌≡◌, ◌||◌, Bool, true, false, List, [], ◌∷◌, ◌++◌, drop, length, take, if◌then◌else◌, replicate, Some}
 use Rattle.std.specs.Option.{option_to_list}
 use Rattle.std.specs.List.{list_any, filter_map, cons_option}
-use Rattle.std.proofs.Common.{refl, sym, ap, ◌∙◌, append-nil, arith, length-append, rules}
+use Rattle.std.proofs.Common.{refl, sym, ap, ◌∙◌, append-nil, arith, length-append}
 use Rattle.std.proofs.lemmas.List.{length-replicate, take-append-drop, take-append-le}
 use Rattle.std.proofs.Math.Seq.{take-append_seam}
 use Rattle.std.proofs.lemmas.List.Folds.{list_any-append}
 use Rattle.mg_model.specs.declared.calls.Line.{Line}
 use Rattle.mg_model.specs.Abbreviations.{longest_line}
 use Rattle.mg_model.specs.Ended.{all_but_last, ended_lines}
-use Rattle.mg_model.specs.Words.{split_at, onto_first, is_newline, words}
-use Rattle.mg_model.specs.Lines.{bad_line, line_of, line_of_words, lines}
+use Rattle.mg_model.specs.Words.{split_at, onto_first, is_newline}
+use Rattle.mg_model.specs.Lines.{bad_line, line_of, lines}
 
 -- bytes go to the front of the first piece
 abbrev pub all_onto_first : List ℕ → List (List ℕ) → List (List ℕ)
@@ -29,12 +29,7 @@ onto_then b bytes (piece ∷ pieces) = refl
 
 nothing_onto : (cuts : ℕ → Bool) (bytes : List ℕ) → all_onto_first [] (split_at cuts bytes) ≡ split_at cuts bytes
 nothing_onto cuts [] = refl
-nothing_onto cuts (b ∷ bytes) = elim (cuts b) as (λ v. all_onto_first [] (if v then [] ∷ split_at cuts bytes else onto_first b (split_at cuts bytes)) ≡ (if v then [] ∷ split_at cuts bytes else onto_first b (split_at cuts bytes)))
-    [ true ↦ refl | false ↦ onto_none b (split_at cuts bytes) ]
-  where
-    onto_none : (b : ℕ) (pieces : List (List ℕ)) → all_onto_first [] (onto_first b pieces) ≡ onto_first b pieces
-    onto_none b [] = refl
-    onto_none b (piece ∷ pieces) = refl
+nothing_onto cuts (b ∷ bytes) = grind arith
 
 any-head : (x y : Bool) → (x || y) ≡ false → x ≡ false
 any-head true y h = h
@@ -69,8 +64,7 @@ split_at-some cuts (b ∷ bytes) = elim (cuts b) as (λ v. (piece : List ℕ) ×
     first (piece ∷ pieces) = (b ∷ piece, pieces, refl)
 
 onto_last-cons : (piece bytes next : List ℕ) (pieces all : List (List ℕ)) → all ≡ next ∷ pieces → onto_last (piece ∷ all) bytes ≡ piece ∷ onto_last all bytes
-onto_last-cons piece bytes next pieces all e =
-    ap (λ v. onto_last (piece ∷ v) bytes) e ∙ ap (λ v. piece ∷ onto_last v bytes) (sym e)
+onto_last-cons piece bytes next pieces all e = grind arith
 
 onto_last-first : (b : ℕ) (bytes : List ℕ) (pieces : List (List ℕ)) → onto_first b (onto_last pieces bytes) ≡ onto_last (onto_first b pieces) bytes
 onto_last-first b bytes [] = refl
@@ -91,42 +85,20 @@ split_at-more cuts (b ∷ bytes) rest none =
 
 -- a line that is ended
 pub lines-ended : (bytes rest : List ℕ) → list_any is_newline bytes ≡ false → lines (bytes ++ 10 ∷ rest) ≡ option_to_list (line_of bytes) ++ lines rest
-lines-ended bytes rest none =
-    ap (filter_map line_of) (split_at-append is_newline bytes (10 ∷ rest) none ∙ ap (λ v. v ∷ split_at is_newline rest) (append-nil bytes))
-    ∙ one (line_of bytes)
-  where
-    one : (o : Option Line) → cons_option o (lines rest) ≡ option_to_list o ++ lines rest
-    one None = refl
-    one (Some x) = refl
+lines-ended bytes rest none = grind (arith, split_at-append, append-nil)
 
 -- a line that is not ended
 pub lines-last : (bytes : List ℕ) → list_any is_newline bytes ≡ false → lines bytes ≡ option_to_list (line_of bytes)
-lines-last bytes none = ap (filter_map line_of) (split_at-whole is_newline bytes none) ∙ one (line_of bytes)
-  where
-    one : (o : Option Line) → cons_option o [] ≡ option_to_list o
-    one None = refl
-    one (Some x) = refl
+lines-last bytes none = grind (arith, split_at-whole)
 
 -- a line that is too long is bad, whatever it holds
 pub line_of-long : (bytes : List ℕ) → longest_line < length bytes → line_of bytes ≡ Some bad_line
-line_of-long bytes long =
-    let yes : nat_lt longest_line (length bytes) ≡ true = search rules in
-    ap (λ v. if v then Some bad_line else line_of_words (words bytes)) yes
+line_of-long bytes long = grind arith
 
 -- so its further bytes change nothing
 pub lines-long : (bytes : List ℕ) (b : ℕ) (rest : List ℕ) → list_any is_newline bytes ≡ false → is_newline b ≡ false → longest_line < length bytes
     → lines (bytes ++ b ∷ rest) ≡ lines (bytes ++ rest)
-lines-long bytes b rest none off long =
-    ap (filter_map line_of) (split_at-append is_newline bytes (b ∷ rest) none ∙ ap (λ v. all_onto_first bytes (if v then [] ∷ split_at is_newline rest else onto_first b (split_at is_newline rest))) off)
-    ∙ dropped (split_at is_newline rest)
-    ∙ sym (ap (filter_map line_of) (split_at-append is_newline bytes rest none))
-  where
-    longer : (more : List ℕ) → longest_line < length (bytes ++ more)
-    longer more = omega (arith, length-append bytes more)
-
-    dropped : (pieces : List (List ℕ)) → filter_map line_of (all_onto_first bytes (onto_first b pieces)) ≡ filter_map line_of (all_onto_first bytes pieces)
-    dropped [] = ap (λ o. cons_option o []) (line_of-long (bytes ++ b ∷ []) (longer (b ∷ [])) ∙ sym (line_of-long bytes long))
-    dropped (piece ∷ pieces) = ap (λ o. cons_option o (filter_map line_of pieces)) (line_of-long (bytes ++ b ∷ piece) (longer (b ∷ piece)) ∙ sym (line_of-long (bytes ++ piece) (longer piece)))
+lines-long bytes b rest none off long = grind (arith, split_at-append, length-append, line_of-long)
 
 -- a row of bytes that is no line of any call: too long, and with no newline
 abbrev long_row : List ℕ
@@ -143,12 +115,7 @@ behind_row bytes = line_of-long (bytes ++ long_row) (omega (arith, length-append
 rows : (pieces : List (List ℕ)) → length (filter_map line_of (onto_last pieces long_row)) ≡ length (filter_map line_of (all_but_last pieces)) + 1
 rows [] = ap (λ o. length (cons_option o [])) (behind_row [])
 rows (piece ∷ []) = ap (λ o. length (cons_option o [])) (behind_row piece)
-rows (piece ∷ next ∷ pieces) = by_option (line_of piece) (rows (next ∷ pieces))
-  where
-    by_option : (o : Option Line) → length (filter_map line_of (onto_last (next ∷ pieces) long_row)) ≡ length (filter_map line_of (all_but_last (next ∷ pieces))) + 1
-        → length (cons_option o (filter_map line_of (onto_last (next ∷ pieces) long_row))) ≡ length (cons_option o (filter_map line_of (all_but_last (next ∷ pieces)))) + 1
-    by_option None h = h
-    by_option (Some x) h = omega arith
+rows (piece ∷ next ∷ pieces) = grind (arith, (rows (next ∷ pieces)))
 
 -- so a row after some bytes adds one line to those that are ended
 with_row : (bytes : List ℕ) → length (lines (bytes ++ long_row)) ≡ length (ended_lines bytes) + 1
@@ -156,22 +123,13 @@ with_row bytes = ap (λ v. length (filter_map line_of v)) (split_at-more is_newl
 
 -- what comes before any other bytes are calls of ended lines
 pub ended_lines-most : (bytes behind : List ℕ) (ls : List Line) → ((rest : List ℕ) → lines (bytes ++ rest) ≡ ls ++ lines (behind ++ rest)) → length ls ≤ length (ended_lines bytes)
-ended_lines-most bytes behind ls cuts =
-    let all : length (lines (bytes ++ long_row)) ≡ length (ended_lines bytes) + 1 = with_row bytes in
-    let others : length (lines (behind ++ long_row)) ≡ length (ended_lines behind) + 1 = with_row behind in
-    let both : length (lines (bytes ++ long_row)) ≡ length ls + length (lines (behind ++ long_row)) = ap length (cuts long_row) ∙ length-append ls (lines (behind ++ long_row)) in
-    omega arith
+ended_lines-most bytes behind ls cuts = grind (arith, with_row, length-append)
 
 -- the ended lines are the first of the lines
 lines-begin : (pieces : List (List ℕ)) → (last : List Line) × (filter_map line_of pieces ≡ filter_map line_of (all_but_last pieces) ++ last)
 lines-begin [] = ([], refl)
 lines-begin (piece ∷ []) = (filter_map line_of (piece ∷ []), refl)
-lines-begin (piece ∷ next ∷ pieces) = by_option (line_of piece) (lines-begin (next ∷ pieces))
-  where
-    by_option : (o : Option Line) → (last : List Line) × (filter_map line_of (next ∷ pieces) ≡ filter_map line_of (all_but_last (next ∷ pieces)) ++ last)
-        → (last : List Line) × (cons_option o (filter_map line_of (next ∷ pieces)) ≡ cons_option o (filter_map line_of (all_but_last (next ∷ pieces))) ++ last)
-    by_option None (last, is) = (last, is)
-    by_option (Some x) (last, is) = (last, ap (λ v. x ∷ v) is)
+lines-begin (piece ∷ next ∷ pieces) = grind (arith, (lines-begin (next ∷ pieces)))
 
 -- when lines are first ones of those of some bytes, and no more than are ended, they are first ones of the ended lines
 pub ended_lines-first : (bytes : List ℕ) (ls more : List Line) → lines bytes ≡ ls ++ more → length ls ≤ length (ended_lines bytes) → (later : List Line) × (ended_lines bytes ≡ ls ++ later)
@@ -186,9 +144,4 @@ ended_lines-first bytes ls more are enough =
 -- what comes before a part without a newline are the calls of the ended lines
 pub ended_lines-exact : (bytes part : List ℕ) (ls : List Line) → ((rest : List ℕ) → lines (bytes ++ rest) ≡ ls ++ lines (part ++ rest)) → list_any is_newline part ≡ false
     → length (ended_lines bytes) ≡ length ls
-ended_lines-exact bytes part ls cuts none =
-    let all : length (lines (bytes ++ long_row)) ≡ length (ended_lines bytes) + 1 = with_row bytes in
-    let whole : list_any is_newline (part ++ long_row) ≡ false = list_any-append is_newline part long_row ∙ ap (λ v. v || list_any is_newline long_row) none ∙ row_whole 257 in
-    let last : length (lines (part ++ long_row)) ≡ 1 = ap length (lines-last (part ++ long_row) whole ∙ ap (λ o. option_to_list o) (behind_row part)) in
-    let both : length (lines (bytes ++ long_row)) ≡ length ls + length (lines (part ++ long_row)) = ap length (cuts long_row) ∙ length-append ls (lines (part ++ long_row)) in
-    omega arith
+ended_lines-exact bytes part ls cuts none = grind (arith, with_row, list_any-append, row_whole, lines-last, behind_row, length-append)

@@ -15,7 +15,7 @@ use Rattle.mg_serve.specs.Readings.{Finishes, Stops}
 use Rattle.mg_serve.specs.Machines.{Entry, Point}
 use Rattle.mg_serve.specs.Serving.{Broken, Serves, Session, Traces}
 use Rattle.mg_serve.specs.Waiting.{Waiting}
-use Rattle.mg_serve.proofs.Outcomes.{disk_exactly, disk_lines, finishes_all, finishes_kept, finishes_stops, finishes_traces, finishes_within, not_more, sink_one, source_exactly, source_few, source_lines, source_within, stops_bound, stops_held, stops_moments, stops_prefix, stops_traces, too_long_exactly, too_long_few, too_long_lines, too_long_more, within_more}
+use Rattle.mg_serve.proofs.Outcomes.{disk_exactly, exactly, few_of, finishes_all, finishes_kept, finishes_stops, finishes_traces, finishes_within, not_more, sink_one, source_within, stops_bound, stops_held, stops_moments, stops_prefix, stops_traces, too_long_more, whole_lines, within_more}
 
 -- at another status
 not_taking : (r : Status) → r ≢ status.Source → r ≢ status.TooLong → EndsTaking r → ⊥
@@ -99,12 +99,12 @@ module _ {M D S K : Type 0} (is : machines.Ghosts M) (d : DiskUse D) (i : Source
   answers_early ended.Disk w = λ image seen. record {
     prefix = stops_prefix is facts entry limit batch (limit + 4096) ended.Disk left left' p w image seen;
     done = λ h. absurd (cc);
-    first_lines = λ h. disk_lines is facts entry limit batch (limit + 4096) left left' p w image seen;
+    first_lines = λ h. whole_lines is facts entry limit batch (limit + 4096) ended.Disk left left' p w (λ said h. h) image seen;
   }
   answers_early ended.Source w = λ image seen. record {
     prefix = stops_prefix is facts entry limit batch (limit + 4096) ended.Source left left' p w image seen;
     done = λ h. absurd (cc);
-    first_lines = λ h. source_lines is facts entry limit batch (limit + 4096) left left' p w image seen;
+    first_lines = λ h. whole_lines is facts entry limit batch (limit + 4096) ended.Source left left' p w (λ said h. h) image seen;
   }
   answers_early ended.Sink w = λ image seen. record {
     prefix = stops_prefix is facts entry limit batch (limit + 4096) ended.Sink left left' p w image seen;
@@ -114,13 +114,13 @@ module _ {M D S K : Type 0} (is : machines.Ghosts M) (d : DiskUse D) (i : Source
   answers_early ended.TooLong w = λ image seen. record {
     prefix = stops_prefix is facts entry limit batch (limit + 4096) ended.TooLong left left' p w image seen;
     done = λ h. absurd (cc);
-    first_lines = λ h. too_long_lines is facts entry limit batch (limit + 4096) left left' p w image seen;
+    first_lines = λ h. whole_lines is facts entry limit batch (limit + 4096) ended.TooLong left left' p w (λ said h. h) image seen;
   }
 
   exactly_early : (e : Ended) → Early e → ForSome (facts.seen entry.disk) (λ image. HoldsExactly (is.kept entry.machine image) (status_at e) d i o)
   exactly_early ended.Disk w = λ image seen. record { held_taking = λ h. absurd (not_taking status.Disk (λ e. cc) (λ e. cc) h); held_sink = λ h. absurd (cc) }
   exactly_early ended.Source w = λ image seen. record {
-    held_taking = λ h. source_exactly is facts entry limit batch (limit + 4096) left left' p w image seen;
+    held_taking = λ h. exactly is facts entry limit batch (limit + 4096) ended.Source left left' p w (λ kept c h. h) image seen;
     held_sink = λ h. absurd (cc);
   }
   exactly_early ended.Sink w = λ image seen. record {
@@ -128,7 +128,7 @@ module _ {M D S K : Type 0} (is : machines.Ghosts M) (d : DiskUse D) (i : Source
     held_sink = λ h. sink_one is facts entry limit batch (limit + 4096) left left' p w image seen;
   }
   exactly_early ended.TooLong w = λ image seen. record {
-    held_taking = λ h. too_long_exactly is facts entry limit batch (limit + 4096) left left' p w image seen;
+    held_taking = λ h. exactly is facts entry limit batch (limit + 4096) ended.TooLong left left' p w (λ kept c h. h) image seen;
     held_sink = λ h. absurd (cc);
   }
 
@@ -189,7 +189,7 @@ module _ {M D S K : Type 0} (is : machines.Ghosts M) (d : DiskUse D) (i : Source
     bounded = stops_bound is facts entry limit batch (limit + 4096) ended.Disk left left' p w;
   }
   ends_early ended.Source w source_rose sink_rose = record {
-    few = λ h. source_few is facts entry limit batch (limit + 4096) left left' p w;
+    few = λ h. few_of is facts entry limit batch (limit + 4096) ended.Source left left' p w w.few;
     memory = λ h. absurd (cc);
     source_failed = λ h. source_rose refl;
     sink_failed = λ h. absurd (cc);
@@ -207,7 +207,7 @@ module _ {M D S K : Type 0} (is : machines.Ghosts M) (d : DiskUse D) (i : Source
     bounded = stops_bound is facts entry limit batch (limit + 4096) ended.Sink left left' p w;
   }
   ends_early ended.TooLong w source_rose sink_rose = record {
-    few = λ h. too_long_few is facts entry limit batch (limit + 4096) left left' p w;
+    few = λ h. few_of is facts entry limit batch (limit + 4096) ended.TooLong left left' p w w.few;
     memory = λ h. absurd (cc);
     source_failed = λ h. absurd (cc);
     sink_failed = λ h. absurd (cc);
@@ -235,9 +235,7 @@ module _ {M D S K : Type 0} (is : machines.Ghosts M) (d : DiskUse D) (i : Source
       → (r ≡ Err ended.Disk → DiskRose d) → (r ≡ Err ended.Source → SourceRose i) → (r ≡ Err ended.Sink → SinkRose o)
       → (DiskRose d → ⊥) → (SourceRose i → ⊥) → (SinkRose o → ⊥)
       → IsWithin limit left (IsOk r)
-  session_done r f w disk_rose source_rose sink_rose =
-      session_complete r limit left left' (DiskRose d) (SourceRose i) (SinkRose o)
-      disk_rose source_rose sink_rose (session_ends r f w source_rose sink_rose).too_long
+  session_done r f w disk_rose source_rose sink_rose = grind (arith, session_complete, session_ends)
 
   -- the record of a session that ended so
   pub session_serves : {T : Type 0} (r : Result T Ended) → OnOk r (Finishes (Session is facts) entry left limit p left') → OnOk r (NothingPending facts p.disk) → IfErr r Early

@@ -1,6 +1,5 @@
 -- How bytes that come one after another add up.
 use Rattle.std.specs.Prelude.{ℕ, ◌+◌, ◌%◌, ◌^◌, ◌≡◌, false, List, [], ◌∷◌, ◌++◌, Some, None, Result, Ok, Err}
-use Rattle.std.specs.Option.{option_to_list}
 use Rattle.std.specs.List.{list_any}
 use Rattle.std.proofs.Common.{refl, sym, ap, ◌∙◌, append_assoc, append-nil, arith, subst}
 use Rattle.mg_disk.specs.Stops.{CountGoes}
@@ -48,26 +47,21 @@ module _ {M D : Type 0} (Session : Entry M D → List Line → Point M D → Typ
   pub Goes-then : (p : Point M D) (part xs : List ℕ) (q : Point M D) (part' ys : List ℕ) (r : Point M D) (part'' : List ℕ) → Goes Session p part xs q part' → Goes Session q part' ys r part'' → Goes Session p part (xs ++ ys) r part''
   Goes-then p part xs q part' ys r part'' g h = record {
     ls = g.ls ++ h.ls;
-    cuts = λ rest. ap (λ v. lines (part ++ v)) (append_assoc xs ys rest) ∙ g.cuts (ys ++ rest) ∙ ap (λ v. g.ls ++ v) (h.cuts rest)
-        ∙ sym (append_assoc g.ls h.ls (lines (part'' ++ rest)));
+    cuts = λ rest. grind (arith, append_assoc);
     steps = Runs-then p g.ls q h.ls r g.steps h.steps;
   }
 
   -- all of a piece
   pub Goes-all : (p : Point M D) (part bytes done rest : List ℕ) (q : Point M D) (part' part'' : List ℕ) → done ++ rest ≡ bytes → Goes Session p part done q part' → ((more : List ℕ) → lines (part' ++ (rest ++ more)) ≡ lines (part'' ++ more))
       → Goes Session p part bytes q part''
-  Goes-all p part bytes done rest q part' part'' split g same =
-      subst (λ (v : List ℕ). Goes Session p part v q part'') split (Goes-then p part done q part' rest q part'' g (Goes-on q part' rest part'' same))
+  Goes-all p part bytes done rest q part' part'' split g same = grind (arith, Goes-then, Goes-on)
 
   -- the last part, which no newline ends
   pub Runs-last : (p : Point M D) (part : List ℕ) (q : Point M D) (line : Line) → list_any is_newline part ≡ false → line_of part ≡ Some line → Runs Session p (line ∷ []) q → Runs Session p (lines part) q
-  Runs-last p part q line whole some g =
-      subst (λ (v : List Line). Runs Session p v q) (sym (lines-last part whole ∙ ap (λ o. option_to_list o) some)) g
+  Runs-last p part q line whole some g = grind (arith, lines-last)
 
   pub Runs-note : (p : Point M D) (part : List ℕ) (q : Point M D) → list_any is_newline part ≡ false → line_of part ≡ None → Closes Session p q → Runs Session p (lines part) q
-  Runs-note p part q whole none g =
-      subst (λ (v : List Line). Runs Session p v q) (sym (lines-last part whole ∙ ap (λ o. option_to_list o) none))
-      (λ entry sofar a. subst (λ (v : List Line). Session entry v q) (sym (append-nil sofar)) (g entry sofar a))
+  Runs-note p part q whole none g = grind (arith, lines-last, append-nil)
 
 module _ {M D : Type 0} (Session : Entry M D → List Line → Point M D → Type 0) (Broken : Ended → Entry M D → List Line → List ℕ → Point M D → Type 0) where
   Runs-halts : (e : Ended) (p : Point M D) (xs : List Line) (q : Point M D) (ys : List Line) (r : Point M D) → Runs Session p xs q → Halts Session Broken e q ys r → Halts Session Broken e p (xs ++ ys) r
@@ -86,8 +80,7 @@ module _ {M D : Type 0} (Session : Entry M D → List Line → Point M D → Typ
   Goes-breaks e p part xs q part' ys r g h = record {
     ls = g.ls ++ h.ls;
     behind = h.behind;
-    cuts = λ rest. ap (λ v. lines (part ++ v)) (append_assoc xs ys rest) ∙ g.cuts (ys ++ rest) ∙ ap (λ v. g.ls ++ v) (h.cuts rest)
-        ∙ sym (append_assoc g.ls h.ls (lines (h.behind ++ rest)));
+    cuts = λ rest. grind (arith, append_assoc);
     halts = Runs-halts e p g.ls q h.ls r g.steps h.halts;
   }
 
@@ -108,13 +101,10 @@ module _ {M D : Type 0} (Session : Entry M D → List Line → Point M D → Typ
 
   pub Halts-last : (e : Ended) (p : Point M D) (part : List ℕ) (q : Point M D) (line : Line) → list_any is_newline part ≡ false → line_of part ≡ Some line → Halts Session Broken e p (line ∷ []) q
       → Halts Session Broken e p (lines part) q
-  Halts-last e p part q line whole some h =
-      subst (λ (v : List Line). Halts Session Broken e p v q) (sym (lines-last part whole ∙ ap (λ o. option_to_list o) some)) h
+  Halts-last e p part q line whole some h = grind (arith, lines-last)
 
   pub Halts-note : (e : Ended) (p : Point M D) (part : List ℕ) (q : Point M D) → list_any is_newline part ≡ false → line_of part ≡ None → FailsToClose Session Broken e p q → Halts Session Broken e p (lines part) q
-  Halts-note e p part q whole none h =
-      subst (λ (v : List Line). Halts Session Broken e p v q) (sym (lines-last part whole ∙ ap (λ o. option_to_list o) none))
-      (λ entry sofar a. subst (λ (v : List Line). (put : List ℕ) × Broken e entry v put q) (sym (append-nil sofar)) (h entry sofar a))
+  Halts-note e p part q whole none h = grind (arith, lines-last, append-nil)
 
 -- what a call keeps after others that kept their counts
 pub keeps_then : {M D K T : Type 0} (is : machines.Ghosts M) (facts : Ghosts D) (to : sinks.Ghosts K) (m0 m1 m2 : M) (d0 d1 d2 : D) (k0 k1 k2 : K) (n0 n1 n2 : ℕ) (result : Result T Ended)
@@ -124,22 +114,11 @@ keeps_then is facts to m0 m1 m2 d0 d1 d2 k0 k1 k2 n0 n1 n2 result counted blocks
   live = keeps.live;
   stands = keeps.stands;
   counted = alike_then (is.words_in m0) (is.words_in m1) (is.words_in m2) n0 n1 n2 counted keeps.counted;
-  calls = record {
-    count = count_then _ _ _ _ _ _ disk_count keeps.calls.count;
-    blocks = keeps.calls.blocks ∙ blocks;
-    cause = λ h. then_rose _ _ _ _ _ _ disk_count (keeps.calls.cause h);
-  };
+  calls = grind arith;
   sink_count = count_then _ _ _ _ _ _ sink_count keeps.sink_count;
   sink_cause = λ h. then_rose _ _ _ _ _ _ sink_count (keeps.sink_cause h);
 }
 
 -- what a call kept is kept if the input ends the session after it
 pub on_end : {M D K T U : Type 0} {is : machines.Ghosts M} {facts : Ghosts D} {to : sinks.Ghosts K} {m m' : M} {d d' : D} {k k' : K} {n n' : ℕ} {x : T} → Keeps is facts to m d k n (Ok x) m' d' k' n' → Keeps {T = U} is facts to m d k n (Err ended.TooLong) m' d' k' n'
-on_end keeps = record {
-  live = keeps.live;
-  stands = keeps.stands;
-  counted = keeps.counted;
-  calls = record { count = keeps.calls.count; blocks = keeps.calls.blocks; cause = λ h. absurd (cc) };
-  sink_count = keeps.sink_count;
-  sink_cause = λ h. absurd (cc);
-}
+on_end keeps = grind arith

@@ -1,5 +1,5 @@
 -- Where the first of the bytes that pass a test is.
-use Rattle.std.specs.Prelude.{ℕ, suc, ◌+◌, ◌<◌, ◌≤◌, ◌≡◌, ◌||◌, Bool, true, false, List, [], ◌∷◌, ◌++◌, drop, length, not, take}
+use Rattle.std.specs.Prelude.{ℕ, ◌+◌, ◌<◌, ◌≤◌, ◌≡◌, Bool, true, false, List, [], ◌∷◌, ◌++◌, drop, length, not, take}
 use Rattle.std.specs.List.{list_any, prefix_len}
 use Rattle.std.proofs.Common.{refl, sym, ap, subst, ◌∙◌, arith, cond}
 use Rattle.std.proofs.lemmas.Bool.{eqb-true}
@@ -27,9 +27,7 @@ module _ (cuts : ℕ → Bool) where
     where
       by_cut : (v : Bool) → cuts x ≡ v → list_any cuts (take (before xs) xs) ≡ false → list_any cuts (take (cond (not v) (1 + before xs) 0) (x ∷ xs)) ≡ false
       by_cut true is others = refl
-      by_cut false is others =
-          let next : 1 + before xs ≡ suc (before xs) = omega arith in
-          ap (λ k. list_any cuts (take k (x ∷ xs))) next ∙ ap (λ w. w || list_any cuts (take (before xs) xs)) is ∙ others
+      by_cut false is others = grind arith
 
   -- the bytes are these, the one, and those after it
   pub front-split : (xs : List ℕ) → before xs < length xs → (d : ℕ) × (cuts d ≡ true) × (xs ≡ (take (before xs) xs ++ d ∷ []) ++ drop (before xs + 1) xs)
@@ -40,16 +38,7 @@ module _ (cuts : ℕ → Bool) where
           → (before xs < length xs → (d : ℕ) × (cuts d ≡ true) × (xs ≡ (take (before xs) xs ++ d ∷ []) ++ drop (before xs + 1) xs))
           → (d : ℕ) × (cuts d ≡ true) × (x ∷ xs ≡ (take (cond (not v) (1 + before xs) 0) (x ∷ xs) ++ d ∷ []) ++ drop (cond (not v) (1 + before xs) 0 + 1) (x ∷ xs))
       by_cut true is within others = (x, is, refl)
-      by_cut false is within others =
-          let found = others (omega arith) in
-          let next : suc (before xs) ≡ 1 + before xs = omega arith in
-          let behind : suc (before xs + 1) ≡ 1 + before xs + 1 = omega arith in (
-            found.0,
-            found.1,
-            ap (λ v. x ∷ v) found.2
-                ∙ ap (λ k. (take k (x ∷ xs) ++ found.0 ∷ []) ++ drop (suc (before xs + 1)) (x ∷ xs)) next
-                ∙ ap (λ k. (take (1 + before xs) (x ∷ xs) ++ found.0 ∷ []) ++ drop k (x ∷ xs)) behind,
-          )
+      by_cut false is within others = grind arith
 
   -- when all are before it, there is none
   pub front-all : (xs : List ℕ) → length xs ≤ before xs → list_any cuts xs ≡ false
@@ -57,9 +46,7 @@ module _ (cuts : ℕ → Bool) where
 
 -- the bytes before a newline, and those after it
 pub newline-split : (xs : List ℕ) (n : ℕ) → n ≡ before is_newline xs → n < length xs → xs ≡ (take n xs ++ 10 ∷ []) ++ drop (n + 1) xs
-newline-split xs n is within =
-    let (d, cut, split) = front-split is_newline xs (subst (λ k. k < length xs) is within) in
-    split ∙ ap (λ b. (take (before is_newline xs) xs ++ b ∷ []) ++ drop (before is_newline xs + 1) xs) (eqb-true d 10 cut) ∙ ap (λ k. (take k xs ++ 10 ∷ []) ++ drop (k + 1) xs) (sym is)
+newline-split xs n is within = grind (arith, front-split, eqb-true)
 
 pub newline-before : (xs : List ℕ) (n : ℕ) → n ≡ before is_newline xs → list_any is_newline (take n xs) ≡ false
 newline-before xs n is = ap (λ k. list_any is_newline (take k xs)) is ∙ front-whole is_newline xs

@@ -52,9 +52,7 @@ put_is before now put is = ap (λ v. drop (length before) v) is ∙ drop-append_
 -- the lines that were stepped are first ones of those that a newline ended
 ended_first : (input rest bytes : List ℕ) (ls : List Line) → input ≡ bytes ++ rest → (more : List Line) × (lines bytes ≡ ls ++ more) → length ls ≤ length (ended_lines bytes) → ls ≡ take (length ls) (lines input)
     → (more : List Line) × (ended_lines (taken_of input rest) ≡ take (length ls) (lines input) ++ more)
-ended_first input rest bytes ls is came enough are =
-    let (later, first) = ended_lines-first bytes ls came.0 came.1 enough in
-    (later, ap (λ v. ended_lines v) (came_are bytes rest input is) ∙ first ∙ ap (λ v. v ++ later) are)
+ended_first input rest bytes ls is came enough are = grind (arith, ended_lines-first, came_are)
 
 -- a last line that no newline ended comes only if the source was read to its end
 cut_not : (e : Ended) (result : Status) (rest : List ℕ) → IsInside e × IsAtEnd (Some rest) → status_at e ≡ result → IsCut result rest → ⊥
@@ -65,8 +63,7 @@ cut_not ended.TooLong result rest (inside, at_end) same cut = absurd inside
 
 -- some first lines of those that were stepped are first lines of all
 first_of : (kept : List Line → State) (k : ℕ) (ls more all : List Line) (c : Image) → all ≡ ls ++ more → k ≤ length ls → volume c ≡ Is (kept (take k ls)) → volume c ≡ Is (kept (take k all))
-first_of kept k ls more all c cut few spelled =
-    spelled ∙ ap (λ v. Is (kept v)) (sym (ap (λ v. take k v) cut ∙ take-append-le k ls more few))
+first_of kept k ls more all c cut few spelled = grind (arith, take-append-le)
 
 held_between : (e : Ended) (alive : Bool) (low : ℕ) (kept : List Line → State) (ls : List Line) (c : Image) → low ≤ length ls → Held e alive low kept ls c → IsBetween low kept ls c
 held_between ended.Disk false low kept ls c few h = h
@@ -87,10 +84,7 @@ count_is (Some before) (Some now) put h = ap answered (put_is before now put h)
 
 is_answered : (input rest bytes : List ℕ) (ls : List Line) (taken taken' : Option (List ℕ)) (put : List ℕ) (k : ℕ) → input ≡ bytes ++ rest → (more : List Line) × (lines bytes ≡ ls ++ more)
     → Appends taken taken' put → answered put ≤ k → k ≤ length ls → IsAnswered input rest taken taken' k
-is_answered input rest bytes ls taken taken' put k read came sink least few = record {
-  all_answered = answered_in taken taken' put k sink least;
-  came = omega (arith, ap (λ v. length (lines v)) (came_are bytes rest input read), ap length came.1, length-append ls came.0);
-}
+is_answered input rest bytes ls taken taken' put k read came sink least few = grind (arith, answered_in, came_are, length-append)
 
 module _ {M D : Type 0} (is : machines.Ghosts M) (facts : Ghosts D) (entry : Entry M D) (limit batch most : ℕ) where
   -- the lines that were stepped are first lines of all
@@ -138,7 +132,7 @@ module _ {M D : Type 0} (is : machines.Ghosts M) (facts : Ghosts D) (entry : Ent
         first_of (is.kept entry.machine image) b.0 w.ls cut.0 (lines input) c cut.1 b.2 b.3,
       )
 
-  exactly : (e : Ended) (left left' : Option (List ℕ)) (p : Point M D) (w : Stops (Broken is facts batch) e entry left limit batch most p left')
+  pub exactly : (e : Ended) (left left' : Option (List ℕ)) (p : Point M D) (w : Stops (Broken is facts batch) e entry left limit batch most p left')
       → ((kept : List Line → State) (c : Image) → Held e (is.is_live p.machine) (answered w.put) kept w.ls c → volume c ≡ Is (kept (take (answered w.put) w.ls)))
       → ForSome (facts.seen entry.disk) (λ image. KeepsExactly (facts.left_since p.disk (facts.moment p.disk)) (is.kept entry.machine image) left entry.taken p.taken)
   exactly e None left' p w held = λ image seen. tt
@@ -155,7 +149,7 @@ module _ {M D : Type 0} (is : machines.Ghosts M) (facts : Ghosts D) (entry : Ent
           ∙ ap (λ v. Is (is.kept entry.machine image (take (answered v) (lines input)))) (sym (put_is before now w.put took))
 
   -- whole lines are answered
-  whole_lines : (e : Ended) (left left' : Option (List ℕ)) (p : Point M D) (w : Stops (Broken is facts batch) e entry left limit batch most p left')
+  pub whole_lines : (e : Ended) (left left' : Option (List ℕ)) (p : Point M D) (w : Stops (Broken is facts batch) e entry left limit batch most p left')
       → ((said : List Line → List ℕ) → PutsWhole e said w.ls w.put → w.put ≡ said (take (answered w.put) w.ls))
       → ForSome (facts.seen entry.disk) (λ image. AnswersLines (is.said entry.machine image) left entry.taken p.taken)
   whole_lines e None left' p w whole = λ image seen. tt
@@ -171,53 +165,21 @@ module _ {M D : Type 0} (is : machines.Ghosts M) (facts : Ghosts D) (entry : Ent
         subst (λ (v : List ℕ). Appends entry.taken p.taken v) put w.broken.sink,
       )
 
-  few_of : (e : Ended) (left left' : Option (List ℕ)) (p : Point M D) (w : Stops (Broken is facts batch) e entry left limit batch most p left')
+  pub few_of : (e : Ended) (left left' : Option (List ℕ)) (p : Point M D) (w : Stops (Broken is facts batch) e entry left limit batch most p left')
       → length (ended_lines (take limit w.bytes)) < answered w.put + batch → FewUnanswered batch limit left left' entry.taken p.taken
   few_of e None left' p w few = tt
   few_of e (Some input) None p w few = absurd w.read
-  few_of e (Some input) (Some rest) p w few = by_sink entry.taken p.taken w.broken.sink
-    where
-      by_sink : (before now : Option (List ℕ)) → Appends before now w.put → FewUnanswered batch limit (Some input) (Some rest) before now
-      by_sink None now took = tt
-      by_sink (Some before) None took = absurd took
-      by_sink (Some before) (Some now) took =
-          omega (arith, ap (λ v. length (ended_lines (take limit v))) (came_are w.bytes rest input w.read), ap answered (put_is before now w.put took))
+  few_of e (Some input) (Some rest) p w few = grind (arith, came_are, put_is)
 
   pub stops_bound : (e : Ended) (left left' : Option (List ℕ)) (p : Point M D) → Stops (Broken is facts batch) e entry left limit batch most p left' → TakesAtMost most left left'
   stops_bound e None left' p w = tt
   stops_bound e (Some input) None p w = absurd w.read
   stops_bound e (Some input) (Some rest) p w = let b = w.bound in omega (arith, ap length w.read, length-append w.bytes rest)
 
-  pub source_exactly : (left left' : Option (List ℕ)) (p : Point M D) → Stops (Broken is facts batch) ended.Source entry left limit batch most p left'
-      → ForSome (facts.seen entry.disk) (λ image. KeepsExactly (facts.left_since p.disk (facts.moment p.disk)) (is.kept entry.machine image) left entry.taken p.taken)
-  source_exactly left left' p w = exactly ended.Source left left' p w (λ kept c h. h)
-
-  pub too_long_exactly : (left left' : Option (List ℕ)) (p : Point M D) → Stops (Broken is facts batch) ended.TooLong entry left limit batch most p left'
-      → ForSome (facts.seen entry.disk) (λ image. KeepsExactly (facts.left_since p.disk (facts.moment p.disk)) (is.kept entry.machine image) left entry.taken p.taken)
-  too_long_exactly left left' p w = exactly ended.TooLong left left' p w (λ kept c h. h)
-
   -- the disk failed, and no commit of it
   pub disk_exactly : (left left' : Option (List ℕ)) (p : Point M D) → is.is_live p.machine ≡ true → Stops (Broken is facts batch) ended.Disk entry left limit batch most p left'
       → ForSome (facts.seen entry.disk) (λ image. KeepsExactly (facts.left_since p.disk (facts.moment p.disk)) (is.kept entry.machine image) left entry.taken p.taken)
   disk_exactly left left' p live w = exactly ended.Disk left left' p w (λ kept c h. subst (λ (v : Bool). Held ended.Disk v (answered w.put) kept w.ls c) live h)
-
-  pub disk_lines : (left left' : Option (List ℕ)) (p : Point M D) → Stops (Broken is facts batch) ended.Disk entry left limit batch most p left'
-      → ForSome (facts.seen entry.disk) (λ image. AnswersLines (is.said entry.machine image) left entry.taken p.taken)
-  disk_lines left left' p w = whole_lines ended.Disk left left' p w (λ said h. h)
-
-  pub source_lines : (left left' : Option (List ℕ)) (p : Point M D) → Stops (Broken is facts batch) ended.Source entry left limit batch most p left'
-      → ForSome (facts.seen entry.disk) (λ image. AnswersLines (is.said entry.machine image) left entry.taken p.taken)
-  source_lines left left' p w = whole_lines ended.Source left left' p w (λ said h. h)
-
-  pub too_long_lines : (left left' : Option (List ℕ)) (p : Point M D) → Stops (Broken is facts batch) ended.TooLong entry left limit batch most p left'
-      → ForSome (facts.seen entry.disk) (λ image. AnswersLines (is.said entry.machine image) left entry.taken p.taken)
-  too_long_lines left left' p w = whole_lines ended.TooLong left left' p w (λ said h. h)
-
-  pub source_few : (left left' : Option (List ℕ)) (p : Point M D) → Stops (Broken is facts batch) ended.Source entry left limit batch most p left' → FewUnanswered batch limit left left' entry.taken p.taken
-  source_few left left' p w = few_of ended.Source left left' p w w.few
-
-  pub too_long_few : (left left' : Option (List ℕ)) (p : Point M D) → Stops (Broken is facts batch) ended.TooLong entry left limit batch most p left' → FewUnanswered batch limit left left' entry.taken p.taken
-  too_long_few left left' p w = few_of ended.TooLong left left' p w w.few
 
   pub source_within : (left left' : Option (List ℕ)) (p : Point M D) → Stops (Broken is facts batch) ended.Source entry left limit batch most p left' → TakesAtMost limit left left'
   source_within None left' p w = tt
@@ -336,10 +298,7 @@ module _ {M D : Type 0} (is : machines.Ghosts M) (facts : Ghosts D) (entry : Ent
         broken = record {
           sink = a.sink;
           fewer = let count = a.answers in omega (arith, ap length a.split, length-append a.done a.waiting);
-          near =
-              let answers = a.answers in
-              let count = a.count in
-              omega (arith, ap length a.split, length-append a.done a.waiting);
+          near = grind (arith, length-append);
           told = λ image seen.
               let st = stood (lines f.bytes) p a none image seen in record {
                 replies = said_behind (lines f.bytes) p a none f.empty image seen;
@@ -391,8 +350,7 @@ module _ {M D : Type 0} (is : machines.Ghosts M) (facts : Ghosts D) (entry : Ent
       let a : Session is facts entry (lines f.bytes) p = f.session in
       let none : p.owed.count ≡ 0 = ap (λ (v : Waiting). v.count) f.empty in
       let whole : f.bytes ≡ input = sym (f.read ∙ ap (λ v. f.bytes ++ v) f.at_end ∙ append-nil f.bytes) in
-      let are : lines f.bytes ≡ take (length (lines f.bytes)) (lines input) =
-      sym (take_all (length (lines f.bytes)) (lines f.bytes) (omega arith)) ∙ ap (λ v. take (length (lines f.bytes)) (lines v)) whole in
+      let are : lines f.bytes ≡ take (length (lines f.bytes)) (lines input) = grind (arith, take_all) in
       let all : answered a.put ≡ length (lines f.bytes) = a.answers ∙ ap length (all_done a.done a.waiting (lines f.bytes) p.owed.count a.split a.count none) in record {
         stepped = length (lines f.bytes);
         count = answered a.put;

@@ -2,7 +2,7 @@
 use Rattle.std.specs.Prelude.{ℕ, ◌≡◌, false, List, [], ◌∷◌, ◌++◌, length, Option, Result, Ok, Err, OnOk, OnErr}
 use Rattle.std.specs.Option.{option_to_list}
 use Rattle.std.specs.List.{list_any}
-use Rattle.std.proofs.Common.{sym, ap, ◌∙◌, append_assoc, arith}
+use Rattle.std.proofs.Common.{ap, append_assoc, arith}
 use Rattle.mg_serve.proofs.Cutting.{lines-ended, lines-long}
 use Rattle.mg_model.specs.declared.calls.Line.{Line}
 use Rattle.mg_model.specs.Lines.{line_of, lines}
@@ -11,17 +11,13 @@ use Rattle.mg_model.specs.Words.{is_newline}
 -- it is kept, or the line is too long already
 pub added : {E : Type 0} (result : Result (Unit {0}) E) (old new : List ℕ) (b : ℕ) → OnOk result (new ≡ old ++ b ∷ []) → OnErr result (new ≡ old) → OnErr result (length old ≡ 257)
     → list_any is_newline old ≡ false → is_newline b ≡ false → (rest : List ℕ) → lines (old ++ b ∷ rest) ≡ lines (new ++ rest)
-added (Ok u) old new b ok err full none off rest =
-    sym (ap (λ v. lines (v ++ rest)) ok ∙ ap (λ v. lines v) (append_assoc old (b ∷ []) rest))
-added (Err e) old new b ok err full none off rest =
-    lines-long old b rest none off (omega arith) ∙ sym (ap (λ v. lines (v ++ rest)) err)
+added (Ok u) old new b ok err full none off rest = grind (arith, append_assoc)
+added (Err e) old new b ok err full none off rest = grind (arith, lines-long)
 
 -- the rest of a line that has begun, and its newline
 pub ended : (old part new bytes : List ℕ) (line : Option Line) → ((rest : List ℕ) → lines (old ++ (bytes ++ rest)) ≡ lines (part ++ rest)) → list_any is_newline part ≡ false → line ≡ line_of part → new ≡ []
     → (rest : List ℕ) → lines (old ++ ((bytes ++ 10 ∷ []) ++ rest)) ≡ option_to_list line ++ lines (new ++ rest)
-ended old part new bytes line same whole spells empty rest =
-    ap (λ v. lines (old ++ v)) (append_assoc bytes (10 ∷ []) rest) ∙ same (10 ∷ rest) ∙ lines-ended part rest whole
-    ∙ ap (λ o. option_to_list o ++ lines rest) (sym spells) ∙ ap (λ v. option_to_list line ++ lines (v ++ rest)) (sym empty)
+ended old part new bytes line same whole spells empty rest = grind (arith, append_assoc, lines-ended)
 
 -- a line that comes whole, and its newline
 pub ended_whole : (old bytes : List ℕ) (line : Option Line) → old ≡ [] → list_any is_newline bytes ≡ false → line ≡ line_of bytes

@@ -2,7 +2,7 @@
 use Rattle.std.specs.Prelude.{ℕ, ◌+◌, ◌-◌, ◌<◌, ◌≤◌, ◌≡◌, false, List, [], ◌++◌, length, take, drop, Option, Some, None}
 use Rattle.std.specs.List.{list_any}
 use Rattle.std.specs.Io.KnownBytes.{Consumes, IsAtEnd, Keeps}
-use Rattle.std.proofs.Common.{refl, sym, ap, inl, inr, ◌∙◌, append_assoc, append-nil, arith, length-append, subst}
+use Rattle.std.proofs.Common.{refl, sym, ap, inl, ◌∙◌, append_assoc, append-nil, arith, length-append, subst}
 use Rattle.std.proofs.lemmas.Grind.{common_steps}
 use Rattle.std.proofs.lemmas.List.{length-take-le, take-append-drop, take_all}
 use Rattle.std.proofs.Math.Seq.{take-append-add}
@@ -41,8 +41,7 @@ front_and_back : (n w : ℕ) (piece : List ℕ) → w ≤ n → take w piece ++ 
 front_and_back n w piece h = ap (λ v. v ++ drop w (take n piece)) (sym (front_of n w piece h)) ∙ take-append-drop w (take n piece)
 
 none_more : (left left' left'' : Option (List ℕ)) (bytes piece : List ℕ) (n : ℕ) → Consumes left left' bytes → Consumes left' left'' (take n piece) → n ≡ 0 → Consumes left left'' bytes
-none_more left left' left'' bytes piece n h k zero_is =
-    subst (λ (v : List ℕ). Consumes left left'' v) (append-nil bytes) (Consumes-then left left' left'' bytes [] h (subst (λ (v : ℕ). Consumes left' left'' (take v piece)) zero_is k))
+none_more left left' left'' bytes piece n h k zero_is = grind (arith, append-nil)
 
 -- the last line is one of the whole input
 cut_last : (bytes part : List ℕ) (ls : List Line) → ((rest : List ℕ) → lines (bytes ++ rest) ≡ ls ++ lines (part ++ rest)) → lines bytes ≡ ls ++ lines part
@@ -71,8 +70,7 @@ module _ {M D : Type 0} (Session : Entry M D → List Line → Point M D → Typ
   -- how a piece more is cut
   cut_more : (bytes part piece : List ℕ) (ls : List Line) (p q : Point M D) (part' : List ℕ) → ((rest : List ℕ) → lines (bytes ++ rest) ≡ ls ++ lines (part ++ rest)) → (g : Goes Session p part piece q part')
       → (rest : List ℕ) → lines ((bytes ++ piece) ++ rest) ≡ (ls ++ g.ls) ++ lines (part' ++ rest)
-  cut_more bytes part piece ls p q part' cut g rest =
-      ap (λ v. lines v) (append_assoc bytes piece rest) ∙ cut (piece ++ rest) ∙ ap (λ v. ls ++ v) (g.cuts rest) ∙ sym (append_assoc ls g.ls (lines (part' ++ rest)))
+  cut_more bytes part piece ls p q part' cut g rest = grind (arith, append_assoc)
 
   -- a piece more
   pub Reading-more : (entry : Entry M D) (left left' left'' : Option (List ℕ)) (total n : ℕ) (p q : Point M D) (part part' piece : List ℕ)
@@ -92,14 +90,7 @@ module _ {M D : Type 0} (Session : Entry M D → List Line → Point M D → Typ
   pub Finishes-last : (entry : Entry M D) (left left' left'' : Option (List ℕ)) (total limit n : ℕ) (p q : Point M D) (part piece : List ℕ)
       → Reading Session entry left total p part left' → total ≤ limit → Consumes left' left'' (take n piece) → n ≡ 0 → IsAtEnd left''
       → Runs Session p (lines part) q → q.owed ≡ no_replies → Finishes Session entry left limit q left''
-  Finishes-last entry left left' left'' total limit n p q part piece r within read zero_is ended_is g none = record {
-    bytes = r.bytes;
-    read = none_more left left' left'' r.bytes piece n r.read read zero_is;
-    at_end = ended_is;
-    within = let e = r.count in omega arith;
-    session = subst (λ (v : List Line). Session entry v q) (sym (cut_last r.bytes part r.ls r.cut)) (g entry r.ls r.session);
-    empty = none;
-  }
+  Finishes-last entry left left' left'' total limit n p q part piece r within read zero_is ended_is g none = grind (arith, none_more, cut_last)
 
 module _ {M D : Type 0} (Session : Entry M D → List Line → Point M D → Type 0) (Broken : Ended → Entry M D → List Line → List ℕ → Point M D → Type 0) where
   -- a take failed: the line that is not ended is left as it was
@@ -133,17 +124,13 @@ module _ {M D : Type 0} (Session : Entry M D → List Line → Point M D → Typ
   Stops-too_long entry left left' left'' total limit batch most n p q part part' piece r within small read short more g whole off =
       let all : length (r.bytes ++ take n piece) ≡ total + n = length-append r.bytes (take n piece) ∙ ap (λ v. v + length (take n piece)) r.count ∙ ap (λ v. total + v) (length-take-le n piece short) in
       let sum : limit ≡ length r.bytes + (limit - total) = let e = r.count in omega arith in
-      let front : take limit (r.bytes ++ take n piece) ≡ r.bytes ++ take (limit - total) piece =
-      ap (λ v. take v (r.bytes ++ take n piece)) sum ∙ take-append-add r.bytes (take n piece) (limit - total) ∙ ap (λ v. r.bytes ++ v) (front_of n (limit - total) piece (omega arith)) in
+      let front : take limit (r.bytes ++ take n piece) ≡ r.bytes ++ take (limit - total) piece = grind (arith, take-append-add, front_of) in
       let cut : (rest : List ℕ) → lines ((r.bytes ++ take (limit - total) piece) ++ rest) ≡ (r.ls ++ g.ls) ++ lines (part' ++ rest) =
       cut_more Session r.bytes part (take (limit - total) piece) r.ls p q part' r.cut g in
       let parts : r.bytes ++ take n piece ≡ (r.bytes ++ take (limit - total) piece) ++ drop (limit - total) (take n piece) =
-      ap (λ v. r.bytes ++ v) (sym (front_and_back n (limit - total) piece (omega arith)))
-      ∙ sym (append_assoc r.bytes (take (limit - total) piece) (drop (limit - total) (take n piece))) in
-      let later : (rest : List ℕ) → lines ((r.bytes ++ take n piece) ++ rest) ≡ (r.ls ++ g.ls) ++ lines (part' ++ (drop (limit - total) (take n piece) ++ rest)) =
-      λ rest. ap (λ v. lines (v ++ rest)) parts
-      ∙ ap (λ v. lines v) (append_assoc (r.bytes ++ take (limit - total) piece) (drop (limit - total) (take n piece)) rest)
-      ∙ cut (drop (limit - total) (take n piece) ++ rest) in
+      grind (arith, front_and_back, append_assoc) in
+      let later : (rest : List ℕ) → lines ((r.bytes ++ take n piece) ++ rest) ≡ (r.ls ++ g.ls) ++ lines (part' ++ (drop (limit - total) (take n piece) ++ rest)) = λ rest.
+      grind (arith, append_assoc) in
       let o : (put : List ℕ) × Broken ended.TooLong entry (r.ls ++ g.ls) put q × (length (r.ls ++ g.ls) < answered put + batch) = off (r.ls ++ g.ls) (g.steps entry r.ls r.session) in record {
         bytes = r.bytes ++ take n piece;
         ls = r.ls ++ g.ls;
@@ -191,20 +178,4 @@ module _ {M D : Type 0} (Session : Entry M D → List Line → Point M D → Typ
       → IsInside e → Halts Session Broken e p (lines part) q → Stops Broken e entry left limit batch most q left''
   Stops-last e entry left left' left'' total limit batch most n p q part piece r within small read zero_is ended_is inside h =
       let o : (put : List ℕ) × Broken e entry (r.ls ++ lines part) put q = h entry r.ls r.session in
-      let cut : lines r.bytes ≡ r.ls ++ lines part = cut_last r.bytes part r.ls r.cut in record {
-        bytes = r.bytes;
-        ls = r.ls ++ lines part;
-        read = none_more left left' left'' r.bytes piece n r.read read zero_is;
-        size = inside_size e limit (length r.bytes) inside;
-        bound = let e = r.count in omega arith;
-        came = ([], cut ∙ sym (append-nil (r.ls ++ lines part)));
-        whole = inr (inside, ended_is);
-        will = λ rest here. (
-          [],
-          ap (λ v. lines (r.bytes ++ v)) (some_nil left'' rest ended_is here) ∙ ap (λ v. lines v) (append-nil r.bytes) ∙ cut ∙ sym (append-nil (r.ls ++ lines part)),
-        );
-        put = o.0;
-        broken = o.1;
-        few = inside_few e (length (ended_lines (take limit r.bytes))) (answered o.0) batch inside;
-        open_batch = inside_few e (length (r.ls ++ lines part)) (answered o.0) batch inside;
-      }
+      let cut : lines r.bytes ≡ r.ls ++ lines part = cut_last r.bytes part r.ls r.cut in (grind (arith, none_more, inside_size, append-nil, some_nil, inside_few))

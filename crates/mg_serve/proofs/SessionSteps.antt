@@ -2,11 +2,11 @@
 use Rattle.std.specs.Prelude.{ℕ, ◌≡◌, ◌<◌, ◌≤◌, ◌+◌, ◌⊎◌, Bool, false, true, List, [], ◌∷◌, ◌++◌, length, take, Option, Some}
 use Rattle.std.specs.Io.KnownBytes.{Appends}
 use Rattle.std.specs.Option.{ForSome}
-use Rattle.std.proofs.Common.{refl, sym, ap, ◌∙◌, append_assoc, append-nil, arith, inl, inr, length-append, subst, ⊎_elim}
+use Rattle.std.proofs.Common.{refl, sym, ap, ◌∙◌, append_assoc, append-nil, arith, inl, inr, length-append, subst}
 use Rattle.std.proofs.lemmas.List.{take_all, take-append-le}
 use Rattle.std.proofs.Math.Seq.{take-append_seam}
 use Rattle.mg_disk.specs.Disk.{Image}
-use Rattle.mg_disk.specs.Runs.{leaves_quiet, leaves_then, leaves_wider, leaves_yet}
+use Rattle.mg_disk.specs.Runs.{leaves_quiet, leaves_then, leaves_wider}
 use Rattle.mg_disk.specs.Stops.{Leaves, NothingPending, WritesNothing}
 use Rattle.mg_disk.specs.declared.disk.Disk.{Ghosts}
 use Rattle.mg_io.specs.Known.{Appends-none, Appends-then, AppendsPrefix}
@@ -45,20 +45,7 @@ first_lines n done waiting ls split count = ap (λ v. take v ls) count ∙ ap (�
 -- what a commit may leave is the state after the lines that were kept, or after all
 commit_leaves : (kept : List Line → State) (done waiting : List Line) (x c : Image) (now : State) → volume x ≡ Is (kept done) → kept (done ++ waiting) ≡ now
     → (volume c ≡ volume x) ⊎ (volume c ≡ Is now) → IsBetween (length done) kept (done ++ waiting) c
-commit_leaves kept done waiting x c now spelled is left = ⊎_elim
-    (λ (old : volume c ≡ volume x). (
-      length done,
-      omega arith,
-      omega (arith, length-append done waiting),
-      old ∙ spelled ∙ ap (λ v. Is (kept v)) (sym (take-append_seam done waiting)),
-    ))
-    (λ (new : volume c ≡ Is now). (
-      length (done ++ waiting),
-      omega (arith, length-append done waiting),
-      omega arith,
-      new ∙ ap (λ v. Is v) (sym is) ∙ ap (λ v. Is (kept v)) (sym (take_all (length (done ++ waiting)) (done ++ waiting) (omega arith))),
-    ))
-    left
+commit_leaves kept done waiting x c now spelled is left = grind (arith, length-append, take-append_seam, take_all)
 
 -- when the answered lines are kept and no others, a fault of the disk leaves them so
 held_yet : (alive : Bool) (low : ℕ) (kept : List Line → State) (ls : List Line) (c : Image) → low ≤ length ls → volume c ≡ Is (kept (take low ls)) → Held ended.Disk alive low kept ls c
@@ -90,17 +77,7 @@ module _ {M D : Type 0} (is : machines.Ghosts M) (facts : Ghosts D) where
     answers = refl;
     owes = ap (λ (v : Waiting). answered v.text) empty;
     count = ap (λ (v : Waiting). v.count) empty;
-    told = λ image seen. record {
-      image = image;
-      seen = seen;
-      spelled = spelled image seen;
-      says = λ ls. ap (λ (v : Waiting). v.text ++ is.said m image ls) (sym empty);
-      keeps = λ ls. refl;
-      replies = sym (none image);
-      owed = ap (λ (v : Waiting). v.text) empty ∙ sym (none image);
-      leaves = leaves_yet facts d (IsPrefix (is.kept m image) []) been (λ c left. no_lines (is.kept m image) [] c (left_spells facts d image c (is.kept m image []) only seen (spelled image seen) left));
-      stepped = begins image n;
-    };
+    told = λ image seen. grind (arith, no_lines, left_spells);
   }
 
   -- what a machine keeps now is what its lines keep
@@ -123,12 +100,8 @@ module _ {M D : Type 0} (is : machines.Ghosts M) (facts : Ghosts D) where
     split = ap (λ v. v ++ line ∷ []) a.split ∙ append_assoc a.done a.waiting (line ∷ []);
     sink = a.sink;
     answers = a.answers;
-    owes =
-        let before : answered o.text ≡ length a.waiting = a.owes in
-        omega (arith, ap (λ (v : Waiting). answered v.text) added, answered-append o.text (reply_line reply), reply_answers reply, length-append a.waiting (line ∷ []));
-    count =
-        let before : o.count ≡ length a.waiting = a.count in
-        omega (arith, ap (λ (v : Waiting). v.count) added, length-append a.waiting (line ∷ []));
+    owes = grind (arith, answered-append, reply_answers, length-append);
+    count = grind (arith, length-append);
     told = λ first told.
         let st : Stands is facts entry first a.done a.waiting a.put (record { machine = m; disk = d; owed = o; taken = t; steps = n }) = a.told first told in
         let s : Says (is.said m st.image) (is.said m' st.image) line reply = says st.image st.seen in
@@ -175,10 +148,7 @@ module _ {M D : Type 0} (is : machines.Ghosts M) (facts : Ghosts D) where
     put = a.put ++ o.text;
     split = a.split ∙ sym (append-nil (a.done ++ a.waiting));
     sink = Appends-then entry.taken t t' a.put o.text a.sink put;
-    answers =
-        let before : answered a.put ≡ length a.done = a.answers in
-        let owes : answered o.text ≡ length a.waiting = a.owes in
-        omega (arith, answered-append a.put o.text, length-append a.done a.waiting);
+    answers = grind (arith, answered-append, length-append);
     owes = ap (λ (v : Waiting). answered v.text) empty;
     count = ap (λ (v : Waiting). v.count) empty;
     told = λ first told.
@@ -188,8 +158,7 @@ module _ {M D : Type 0} (is : machines.Ghosts M) (facts : Ghosts D) where
           image = h.image;
           seen = h.seen;
           spelled = h.spelled ∙ ap (λ v. Is v) (sym (now_of entry first a.done a.waiting a.put (record { machine = m; disk = d; owed = o; taken = t; steps = n }) st));
-          says = λ more. ap (λ v. is.said entry.machine first (v ++ more)) (append-nil (a.done ++ a.waiting)) ∙ st.says more ∙ ap (λ v. (a.put ++ o.text) ++ v) (sym (h.says more))
-              ∙ ap (λ v. v ++ is.said m' h.image more) bare;
+          says = λ more. grind (arith, append-nil);
           keeps = λ more. ap (λ v. is.kept entry.machine first (v ++ more)) (append-nil (a.done ++ a.waiting)) ∙ st.keeps more ∙ sym (h.keeps more);
           replies = st.owed;
           owed = sym bare ∙ st.owed ∙ ap (λ v. is.said entry.machine first v) (sym (append-nil (a.done ++ a.waiting)));
@@ -202,8 +171,7 @@ module _ {M D : Type 0} (is : machines.Ghosts M) (facts : Ghosts D) where
   -- what is said after the lines that were stepped
   said_on : (entry : Entry M D) (first : Image) (ls done waiting : List Line) (put : List ℕ) (p : Point M D) (st : Stands is facts entry first done waiting put p) → ls ≡ done ++ waiting
       → (later : List Line) → is.said entry.machine first (ls ++ later) ≡ put ++ (p.owed.text ++ is.said p.machine st.image later)
-  said_on entry first ls done waiting put p st split later =
-      ap (λ v. is.said entry.machine first (v ++ later)) split ∙ st.says later ∙ append_assoc put p.owed.text (is.said p.machine st.image later)
+  said_on entry first ls done waiting put p st split later = grind (arith, append_assoc)
 
   -- the replies that were sent are those to the answered lines
   whole_put : (entry : Entry M D) (first : Image) (ls done waiting : List Line) (put : List ℕ) → put ≡ is.said entry.machine first done → ls ≡ done ++ waiting → answered put ≡ length done
@@ -225,10 +193,7 @@ module _ {M D : Type 0} (is : machines.Ghosts M) (facts : Ghosts D) where
         record {
           sink = a.sink;
           fewer = few;
-          near =
-              let answers : answered a.put ≡ length a.done = a.answers in
-              let count : o.count ≡ length a.waiting = a.count in
-              omega (arith, ap length split, length-append a.done (a.waiting ++ line ∷ []), length-append a.waiting (line ∷ []));
+          near = grind (arith, length-append);
           told = λ first told.
               let st : Stands is facts entry first a.done a.waiting a.put (record { machine = m; disk = d; owed = o; taken = t; steps = n }) = a.told first told in record {
                 replies = λ later. (
@@ -237,13 +202,8 @@ module _ {M D : Type 0} (is : machines.Ghosts M) (facts : Ghosts D) where
                       ∙ said_on entry first ls a.done a.waiting a.put (record { machine = m; disk = d; owed = o; taken = t; steps = n }) st a.split (line ∷ later),
                 );
                 whole = whole_put entry first (ls ++ line ∷ []) a.done (a.waiting ++ line ∷ []) a.put st.replies split a.answers;
-                leaves = leaves_quiet facts entry.disk d d' (IsPrefix (is.kept entry.machine first) (ls ++ line ∷ []))
-                    (leaves_wider facts entry.disk d (IsPrefix (is.kept entry.machine first) (a.done ++ a.waiting)) (IsPrefix (is.kept entry.machine first) (ls ++ line ∷ [])) st.leaves
-                    (λ c f. prefix_longer (is.kept entry.machine first) ls (line ∷ []) c (subst (λ (v : List Line). IsPrefix (is.kept entry.machine first) v c) (sym a.split) f)))
-                    writes.stops;
-                held = λ c left. held_yet (is.is_live m') (answered a.put) (is.kept entry.machine first) (ls ++ line ∷ []) c few
-                    (left_spells facts d' st.image c (is.kept entry.machine first a.done) only (writes.same ∙ st.seen) st.spelled left
-                    ∙ ap (λ v. Is (is.kept entry.machine first v)) (sym first_are));
+                leaves = grind (arith, prefix_longer);
+                held = λ c left. grind (arith, held_yet, left_spells);
                 stepped = inr (
                   (let count = a.answers in omega (arith, ap length split, length-append a.done (a.waiting ++ line ∷ []), length-append a.waiting (line ∷ []))),
                   subst (λ (v : List Line). is.StoppedIn entry.machine first (v ++ line ∷ []) entry.steps n' m') (sym a.split)
@@ -265,10 +225,7 @@ module _ {M D : Type 0} (is : machines.Ghosts M) (facts : Ghosts D) where
         record {
           sink = a.sink;
           fewer = few;
-          near =
-              let answers : answered a.put ≡ length a.done = a.answers in
-              let count : o.count ≡ length a.waiting = a.count in
-              omega (arith, ap length a.split, length-append a.done a.waiting);
+          near = grind (arith, length-append);
           told = λ first told.
               let st : Stands is facts entry first a.done a.waiting a.put (record { machine = m; disk = d; owed = o; taken = t; steps = n }) = a.told first told in
               let among : (c : Image) → (volume c ≡ volume st.image) ⊎ (volume c ≡ Is (is.kept m st.image [])) → IsBetween (answered a.put) (is.kept entry.machine first) ls c = λ c left.
@@ -280,12 +237,8 @@ module _ {M D : Type 0} (is : machines.Ghosts M) (facts : Ghosts D) where
                   said_on entry first ls a.done a.waiting a.put (record { machine = m; disk = d; owed = o; taken = t; steps = n }) st a.split later,
                 );
                 whole = whole_put entry first ls a.done a.waiting a.put st.replies a.split a.answers;
-                leaves = subst (λ (v : List Line). Leaves facts entry.disk d' (IsPrefix (is.kept entry.machine first) v)) (sym a.split)
-                    (committed entry first a.done a.waiting a.put m d d' o t n st leaves);
-                held = λ c left. subst (λ (v : Bool). Held ended.Disk v (answered a.put) (is.kept entry.machine first) ls c) (sym dead) (⊎_elim
-                    (λ (before : facts.left_since d (facts.moment d) c). among c (inl (ap volume (some_image st.image c (sym st.seen ∙ only c before)))))
-                    (λ fresh. among c fresh)
-                    ((leaves st.image st.seen).time.now c left));
+                leaves = grind (arith, committed);
+                held = λ c left. grind (arith, some_image);
                 stepped = inl (subst (λ (v : List Line). is.Stepped entry.machine first v entry.steps n m') (sym a.split) (same entry.machine first (a.done ++ a.waiting) entry.steps n st.stepped));
               };
         },
@@ -302,14 +255,8 @@ module _ {M D : Type 0} (is : machines.Ghosts M) (facts : Ghosts D) where
     a.put ++ part,
     record {
       sink = Appends-then entry.taken t t' a.put part a.sink put;
-      fewer =
-          let before : answered a.put ≡ length a.done = a.answers in
-          let owes : answered o.text ≡ length a.waiting = a.owes in
-          omega (arith, answered-append a.put part, ap answered parts, answered-append part more, ap length a.split, length-append a.done a.waiting);
-      near =
-          let before : answered a.put ≡ length a.done = a.answers in
-          let count : o.count ≡ length a.waiting = a.count in
-          omega (arith, answered-append a.put part, ap length a.split, length-append a.done a.waiting);
+      fewer = grind (arith, answered-append, length-append);
+      near = grind (arith, answered-append, length-append);
       told = λ first told.
           let st : Stands is facts entry first a.done a.waiting a.put (record { machine = m; disk = d; owed = o; taken = t; steps = n }) = a.told first told in
           let h : Commits (is.said m st.image) (is.kept m st.image) (is.said m') (is.kept m') (facts.seen d') = commits st.image st.seen in record {
@@ -332,8 +279,7 @@ module _ {M D : Type 0} (is : machines.Ghosts M) (facts : Ghosts D) where
   -- what is held if an open batch is left as it is
   open_held : (entry : Entry M D) (first : Image) (ls done waiting : List Line) (put : List ℕ) (p : Point M D) (c : Image) → Stands is facts entry first done waiting put p → ls ≡ done ++ waiting
       → answered put ≡ length done → NothingPending facts p.disk → facts.left_since p.disk (facts.moment p.disk) c → volume c ≡ Is (is.kept entry.machine first (take (answered put) ls))
-  open_held entry first ls done waiting put p c st split answers only left =
-      left_spells facts p.disk st.image c (is.kept entry.machine first done) only st.seen st.spelled left ∙ ap (λ v. Is (is.kept entry.machine first v)) (sym (first_lines (answered put) done waiting ls split answers))
+  open_held entry first ls done waiting put p c st split answers only left = grind (arith, left_spells, first_lines)
 
   -- the input ended the session, and the open batch is left as it is
   Broken-open : (e : Ended) (batch : ℕ) → ((n : ℕ) (kept : List Line → State) (alive : Bool) (ls : List Line) (c : Image) → volume c ≡ Is (kept (take n ls)) → Held e alive n kept ls c)
@@ -346,10 +292,7 @@ module _ {M D : Type 0} (is : machines.Ghosts M) (facts : Ghosts D) where
     record {
       sink = a.sink;
       fewer = let count = a.answers in omega (arith, ap length a.split, length-append a.done a.waiting);
-      near =
-          let count = a.count in
-          let answers = a.answers in
-          omega (arith, ap length a.split, length-append a.done a.waiting);
+      near = grind (arith, length-append);
       told = λ first told.
           let st : Stands is facts entry first a.done a.waiting a.put p = a.told first told in record {
             replies = λ later. (p.owed.text ++ is.said p.machine st.image later, said_on entry first ls a.done a.waiting a.put p st a.split later);

@@ -3,11 +3,10 @@ use Rattle.std.specs.Prelude.{ℕ, ◌≡◌, ◌≢◌, ◌⊎◌, ◌<◌, ◌
 use Rattle.std.specs.Io.KnownBytes.{Appends}
 use Rattle.std.specs.Option.{ForSome}
 use Rattle.mg_disk.specs.Disk.{Image}
-use Rattle.mg_disk.specs.Stops.{CountRose, DiskCallsBy, Leaves}
+use Rattle.mg_disk.specs.Stops.{DiskCallsBy, Leaves}
 use Rattle.mg_disk.specs.declared.disk.Disk as disks
 use Rattle.mg_faults.specs.Faults.{CountGoesOn, Rose}
 use Rattle.mg_io.specs.declared.traits.Sink as sinks
-use Rattle.mg_io.specs.declared.traits.Source as sources
 use Rattle.mg_model.specs.declared.calls.Line.{Line}
 use Rattle.mg_model.specs.Counts.{CountsAlike}
 use Rattle.mg_model.specs.Ended.{ended_lines}
