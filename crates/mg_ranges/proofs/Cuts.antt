@@ -111,35 +111,13 @@ module _ (before behind : List (ℕ × ℕ)) (first pages : ℕ) (lie : LieFrom 
     gap-is n d is = let p = place in ap (λ gaps. get_or gaps n d) old-is ∙ get_or_at front (end, begin - end) back d n (omega arith)
 
     pub gap-end : (n : ℕ) (gap : ℕ × ℕ) → n + 1 ≡ i → gap ≡ get_or old n gap → gap.0 + gap.1 ≡ begin
-    gap-end n gap is at =
-        let e = at ∙ gap-is n gap is in
-        let a = ap (λ (g : ℕ × ℕ). g.0) e in
-        let b = ap (λ (g : ℕ × ℕ). g.1) e in
-        let l = low in
-        let s = some in
-        let h = high in
-        omega arith
+    gap-end n gap is at = grind (arith, gap-is, low, some, high)
 
     -- the gaps without it
     pub cut-gaps :
         (n : ℕ) (gap : ℕ × ℕ) (x y z : List (ℕ × ℕ)) → n + 1 ≡ i → gap ≡ get_or old n gap → x ≡ remove old n → y ≡ take n x ++ piece (first + pages) (gap.0 + gap.1) ++ drop n x
         → z ≡ take n y ++ piece gap.0 first ++ drop n y → AreTaken (before ++ (first, pages) ∷ behind) → AreGapsOf (before ++ (first, pages) ∷ behind) z
-    cut-gaps n gap x y z is at x_is y_is z_is more =
-        let p = place in
-        let n_is : length front ≡ n = omega arith in
-        let start : gap.0 ≡ end = ap (λ (g : ℕ × ℕ). g.0) (at ∙ gap-is n gap is) in
-        let x_now : x ≡ front ++ back = x_is ∙ ap (λ gaps. remove gaps n) old-is ∙ remove-at front (end, begin - end) back n n_is in
-        let y_now : y ≡ front ++ (piece (first + pages) begin ++ back) =
-        y_is
-        ∙ ap (λ e. take n x ++ piece (first + pages) e ++ drop n x) (gap-end n gap is at)
-        ∙ ap (λ gaps. take n gaps ++ piece (first + pages) begin ++ drop n gaps) x_now
-        ∙ put-at front (piece (first + pages) begin) back n n_is in
-        let z_now : z ≡ front ++ (piece end first ++ (piece (first + pages) begin ++ back)) =
-        z_is
-        ∙ ap (λ e. take n y ++ piece e first ++ drop n y) start
-        ∙ ap (λ gaps. take n gaps ++ piece end first ++ drop n gaps) y_now
-        ∙ put-at front (piece end first) (piece (first + pages) begin ++ back) n n_is in
-        record { taken = more; are = z_now ∙ sym with-gaps }
+    cut-gaps n gap x y z is at x_is y_is z_is more = grind (arith, place, gap-is, old-is, remove-at, gap-end, put-at, with-gaps)
 
     pub cut-high : first + pages ≤ page_end
     cut-high = let h = high in let t = top in omega arith
@@ -177,17 +155,7 @@ module _ (before behind : List (ℕ × ℕ)) (first pages : ℕ) (lie : LieFrom 
     behind-joined stop x joined apart = ⊎_elim there none (cases_lt (first + pages) begin)
       where
         there : first + pages < begin → Joined stop x
-        there free =
-            let gap : ℕ × ℕ = (first + pages, begin - (first + pages)) in
-            let is : old ≡ ahead ++ gap ∷ back = old-parts ∙ ap (λ p. ahead ++ (p ++ back)) (piece-some (first + pages) begin free) in
-            let at : nth old i ≡ gap = ap (λ gaps. nth gaps i) is ∙ get_or_at ahead gap back (0, 0) i ahead-place in
-            let a = ap (λ (g : ℕ × ℕ). g.0) at in
-            let b = ap (λ (g : ℕ × ℕ). g.1) at in
-            let long = ap length is ∙ length-append ahead (gap ∷ back) in
-            let p = ahead-place in
-            let both = joined (omega arith) a in
-            let e = both.0 in
-            record { stop_is = omega arith; left = both.1 ∙ ap (λ gaps. remove gaps i) is ∙ remove-at ahead gap back i ahead-place }
+        there free = grind (arith, old-parts, piece-some, get_or_at, ahead-place, length-append, remove-at)
 
         none : begin ≤ first + pages → Joined stop x
         none full =
@@ -218,20 +186,7 @@ module _ (before behind : List (ℕ × ℕ)) (first pages : ℕ) (lie : LieFrom 
     before-joined x y spot left joined apart = ⊎_elim there none (cases_lt end first)
       where
         there : end < first → Met spot.0 spot.1 y
-        there free =
-            let gap : ℕ × ℕ = (end, first - end) in
-            let one = piece-some end first free in
-            let p = sym (ap (λ g. length (front ++ g)) one) ∙ ahead-place in
-            let long = length-append front (gap ∷ []) in
-            let n_is : length front ≡ i - 1 = omega arith in
-            let is : x ≡ front ++ gap ∷ back = left ∙ ap (λ g. (front ++ g) ++ back) one ∙ append_assoc front (gap ∷ []) back in
-            let at : nth x (i - 1) ≡ gap = ap (λ gaps. nth gaps (i - 1)) is ∙ get_or_at front gap back (0, 0) (i - 1) n_is in
-            let a = ap (λ (g : ℕ × ℕ). g.0) at in
-            let b = ap (λ (g : ℕ × ℕ). g.1) at in
-            let both = joined (omega arith) (omega arith) in
-            let k = ap (λ (g : ℕ × ℕ). g.0) both.0 in
-            let s = ap (λ (g : ℕ × ℕ). g.1) both.0 in
-            record { n_is = omega arith; start_is = omega arith; rest = both.1 ∙ ap (λ gaps. remove gaps (i - 1)) is ∙ remove-at front gap back (i - 1) n_is }
+        there free = grind (arith, piece-some, ahead-place, length-append, left, append_assoc, get_or_at, remove-at)
 
         none : first ≤ end → Met spot.0 spot.1 y
         none full =
@@ -278,12 +233,7 @@ module _ (before behind : List (ℕ × ℕ)) (first pages : ℕ) (lie : LieFrom 
           few = omega arith;
           left = λ z is. record {
             taken = record { few = omega arith; apart = lie-without first_page before (first, pages) behind lie };
-            are = is
-                ∙ ap (λ e. take spot.0 y ++ piece e stop ++ drop spot.0 y) two.start_is
-                ∙ ap (λ e. take spot.0 y ++ piece end e ++ drop spot.0 y) one.stop_is
-                ∙ ap (λ gaps. take spot.0 gaps ++ piece end begin ++ drop spot.0 gaps) two.rest
-                ∙ put-at front (piece end begin) back spot.0 n_is
-                ∙ sym without-gaps;
+            are = grind (arith, put-at, n_is, without-gaps);
           };
         }
 

@@ -1,8 +1,8 @@
 -- The first gap with at least n pages begins at the lowest page from which on n pages are free.
 use Rattle.std.specs.Prelude.{◌≡◌, ◌+◌, ◌-◌, ◌<◌, ◌≤◌, ◌⊎◌, ◌||◌, ℕ, Bool, true, false, List, [], ◌++◌, ◌∷◌, Option, None, Some, find, nat_le}
 use Rattle.std.specs.List.{list_all}
-use Rattle.std.proofs.Common.{refl, sym, ap, ◌∙◌, inl, inr, ⊎_elim, arith}
-use Rattle.std.proofs.lemmas.Bool.{and_from, and_parts, cases_Bool, cases_lt, cond-false, cond-true, le-leb, leb-true, or_cases, or_left, or_right}
+use Rattle.std.proofs.Common.{refl, sym, ap, ◌∙◌, inl, ⊎_elim, arith}
+use Rattle.std.proofs.lemmas.Bool.{cases_Bool, cases_lt, cond-false, cond-true, le-leb, leb-true}
 use Rattle.mg_model.specs.Limits.{page_end}
 use Rattle.mg_ranges.specs.Gaps.{LieFrom, gaps_from, piece}
 use Rattle.mg_ranges.proofs.Spans.{piece-none, piece-some}
@@ -33,11 +33,7 @@ pub record IsLowest (n page : ℕ) (spans : List (ℕ × ℕ)) (result : ℕ) : 
 -- pages before all ranges are none of them
 before-all : (n page at : ℕ) (spans : List (ℕ × ℕ)) → page + n ≤ at → LieFrom at spans → are_beside n page spans ≡ true
 before-all n page at [] order lie = refl
-before-all n page at (span ∷ spans) order lie =
-    let here = lie.0 in
-    let some = lie.1 in
-    and_from (is_beside n page span) (are_beside n page spans) (or_left (nat_le (page + n) span.0) (nat_le (span.0 + span.1) page) (le-leb (page + n) span.0 (omega arith)))
-    (before-all n page (span.0 + span.1) spans (omega arith) lie.2)
+before-all n page at (span ∷ spans) order lie = grind (arith, (before-all n page (span.0 + span.1) spans (omega arith) lie.2))
 
 find-here : (n : ℕ) (gap : ℕ × ℕ) (gaps : List (ℕ × ℕ)) → n ≤ gap.1 → find (fits n) (gap ∷ gaps) ≡ Some gap
 find-here n gap gaps enough = cond-true (fits n gap) (Some gap) (find (fits n) gaps) (le-leb n gap.1 enough)
@@ -74,16 +70,7 @@ fit-lowest n page [] gap some lie is = ⊎_elim small large (cases_lt (page_end 
         nil_end (x ∷ xs) = ap (λ l. x ∷ l) (nil_end xs)
 
     large : n ≤ page_end - page → IsLowest n page [] gap.0
-    large enough =
-        let l : page ≤ page_end = lie in
-        let e = the_one gap (page, page_end - page) (sym is ∙ ap (find (fits n)) (piece-some page page_end (omega arith)) ∙ find-here n (page, page_end - page) [] enough) in
-        record {
-          low = omega arith;
-          high = omega arith;
-          place = inl e;
-          free = refl;
-          lowest = λ other low high free. omega arith;
-        }
+    large enough = grind (arith, the_one, piece-some, find-here)
 fit-lowest n page (span ∷ spans) gap some lie is = ⊎_elim (small (fit-lowest n (span.0 + span.1) spans gap some lie.2)) large (cases_lt (span.0 - page) n)
   where
     order : page ≤ span.0
@@ -93,21 +80,7 @@ fit-lowest n page (span ∷ spans) gap some lie is = ⊎_elim (small (fit-lowest
     has = lie.1
 
     small : (find (fits n) (gaps_from (span.0 + span.1) spans) ≡ Some gap → IsLowest n (span.0 + span.1) spans gap.0) → span.0 - page < n → IsLowest n page (span ∷ spans) gap.0
-    small again less =
-        let rest = again (sym (find-past n page span.0 (gaps_from (span.0 + span.1) spans) some less) ∙ is) in
-        let low = rest.low in
-        let o = order in
-        let h = has in
-        record {
-          low = omega arith;
-          high = rest.high;
-          place = ⊎_elim (λ e. inr (inl e)) (λ e. inr (inr e)) rest.place;
-          free = and_from (is_beside n gap.0 span) (are_beside n gap.0 spans) (or_right (nat_le (gap.0 + n) span.0) (nat_le (span.0 + span.1) gap.0) (le-leb (span.0 + span.1) gap.0 low)) rest.free;
-          lowest = λ other from high free.
-              let parts = and_parts (is_beside n other span) (are_beside n other spans) free in
-              ⊎_elim (λ b. absurd (let l = leb-true (other + n) span.0 b in omega arith)) (λ b. rest.lowest other (leb-true (span.0 + span.1) other b) high parts.1)
-              (or_cases (nat_le (other + n) span.0) (nat_le (span.0 + span.1) other) parts.0);
-        }
+    small again less = grind arith
 
     large : n ≤ span.0 - page → IsLowest n page (span ∷ spans) gap.0
     large enough =

@@ -2,7 +2,7 @@
 use Rattle.std.specs.Prelude.{◌≡◌, ◌+◌, ◌-◌, ◌<◌, ◌≤◌, ℕ, suc, List, [], ◌++◌, ◌∷◌, All, drop, length, take}
 use Rattle.std.specs.List.{AllWithin, remove}
 use Rattle.std.specs.List.Sorted.{IsNonDecreasingBy}
-use Rattle.std.proofs.Common.{refl, sym, ap, ◌∙◌, subst, ⊎_elim, arith, append_assoc, get_or, length-append}
+use Rattle.std.proofs.Common.{refl, sym, ap, ◌∙◌, subst, ⊎_elim, arith, append_assoc, length-append}
 use Rattle.mg_ranges.specs.Kept.{Ascends}
 use Rattle.std.proofs.lemmas.Bool.{cases_lt}
 use Rattle.std.proofs.lemmas.List.{drop_at, get_or-append_right, get_or_append_left, length-drop, length-take-le, take_at}
@@ -13,8 +13,7 @@ drop-past [] x ys = refl
 drop-past (y ∷ xs) x ys = drop-past xs x ys
 
 pub remove-at : {X : Type 0} (xs : List X) (x : X) (ys : List X) (i : ℕ) → length xs ≡ i → remove (xs ++ x ∷ ys) i ≡ xs ++ ys
-remove-at xs x ys i is =
-    ap (λ p. p ++ drop (suc i) (xs ++ x ∷ ys)) (take_at xs (x ∷ ys) i is) ∙ ap (λ n. xs ++ drop (suc n) (xs ++ x ∷ ys)) (sym is) ∙ ap (λ q. xs ++ q) (drop-past xs x ys)
+remove-at xs x ys i is = grind (arith, take_at, drop-past)
 
 -- a part added between two others
 pub put-at : {X : Type 0} (xs ys zs : List X) (i : ℕ) → length xs ≡ i → (take i (xs ++ zs) ++ ys) ++ drop i (xs ++ zs) ≡ xs ++ (ys ++ zs)
@@ -44,10 +43,7 @@ module _ {X : Type 0} (f : X → ℕ) (v : ℕ) (xs ys : List X) (i : ℕ) (low 
 
 -- what rises does not fall
 pub no-falls : (gaps : List (ℕ × ℕ)) → Ascends gaps → IsNonDecreasingBy (λ (gap : ℕ × ℕ). gap.0) gaps
-no-falls gaps up i j d order under =
-    ⊎_elim (λ before. let l = up i j d before under in omega arith)
-    (λ le. let e : i ≡ j = omega arith in let P : ℕ → Type 0 = λ n. (get_or gaps i d).0 ≤ (get_or gaps n d).0 in subst P e (omega arith))
-    (cases_lt i j)
+no-falls gaps up i j d order under = grind (arith, cases_lt)
 
 -- the same of a list that is known to be both parts
 pub part-ends :
@@ -59,8 +55,4 @@ part-ends {X} f v xs ys zs i is low high =
 
 -- one element less
 pub length-removed : {X : Type 0} (xs : List X) (i : ℕ) → i < length xs → length (remove xs i) + 1 ≡ length xs
-length-removed xs i under =
-    let a = length-append (take i xs) (drop (suc i) xs) in
-    let t = length-take-le i xs (omega arith) in
-    let d = length-drop (suc i) xs in
-    omega arith
+length-removed xs i under = grind (arith, length-append, length-take-le, length-drop)

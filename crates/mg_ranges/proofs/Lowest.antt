@@ -39,9 +39,7 @@ among-filter p m (x ∷ xs) there passes = ⊎_elim here (later (λ a. among-fil
     here is = subst (λ l. IsAmong m l) (sym (cond-true (p x) (x ∷ filter p xs) (filter p xs) (ap p (sym is) ∙ passes))) (inl is)
 
     later : (IsAmong m xs → IsAmong m (filter p xs)) → IsAmong m xs → IsAmong m (filter p (x ∷ xs))
-    later again a =
-        ⊎_elim (λ yes. subst (λ l. IsAmong m l) (sym (cond-true (p x) (x ∷ filter p xs) (filter p xs) yes)) (inr (again a)))
-        (λ no. subst (λ l. IsAmong m l) (sym (cond-false (p x) (x ∷ filter p xs) (filter p xs) no)) (again a)) (cases_Bool (p x))
+    later again a = grind (arith, cond-true, cond-false, cases_Bool)
 
 filter-among : (p : ℕ → Bool) (m : ℕ) (ms : List ℕ) → IsAmong m (filter p ms) → IsAmong m ms × (p m ≡ true)
 filter-among p m [] there = absurd there
@@ -88,9 +86,7 @@ fit-lowest_free n objects gaps gap some leave is = same over under
     place at = ⊎_elim (λ e. inl e) (λ e. inr (end-among objects gap.0 e)) at
 
     under : lowest_free objects n ≤ gap.0
-    under =
-        least-below page_end gap.0 (filter (λ page. is_free objects n page) (first_page ∷ map (λ (object : Object). page_behind object.row) objects))
-        (among-filter (λ page. is_free objects n page) gap.0 (first_page ∷ map (λ (object : Object). page_behind object.row) objects) (place is_lowest.place) (free-beside objects n gap.0 ∙ is_lowest.free))
+    under = grind (arith, least-below, among-filter, place, is_lowest, free-beside)
 
     least_of : (m : ℕ) → IsAmong m (filter (λ page. is_free objects n page) (first_page ∷ map (λ (object : Object). page_behind object.row) objects)) → gap.0 ≤ m
     least_of m there =
@@ -100,9 +96,7 @@ fit-lowest_free n objects gaps gap some leave is = same over under
         ⊎_elim (λ out. omega arith) (λ inside. is_lowest.lowest m low inside (sym (free-beside objects n m) ∙ r.1)) (cases_lt page_end (m + n))
 
     over : gap.0 ≤ lowest_free objects n
-    over =
-        let h = is_lowest.high in
-        least-above gap.0 page_end (filter (λ page. is_free objects n page) (first_page ∷ map (λ (object : Object). page_behind object.row) objects)) (omega arith) least_of
+    over = grind (arith, is_lowest, least-above, least_of)
 
 -- the pages that were found meet no range
 pub beside-all : (n page : ℕ) (spans : List (ℕ × ℕ)) → are_beside n page spans ≡ true → All (λ (span : ℕ × ℕ). (page + n ≤ span.0) ⊎ (span.0 + span.1 ≤ page)) spans
@@ -129,11 +123,4 @@ small-sum n (gap ∷ gaps) few none = ⊎_elim yes (no (small-sum n gaps few)) (
         omega arith
 
 pub some-fits : (n : ℕ) (gaps : List (ℕ × ℕ)) → n ≤ 1024 → HasRoom gaps → find (fits n) gaps ≡ None → ⊥
-some-fits n gaps few room none =
-    let small = small-sum n gaps few none in
-    let count = left-count room.taken gaps room.leave in
-    let some = room.leave.taken.few in
-    let used = room.few in
-    let all = gaps-sum first_page room.taken room.leave.taken.apart in
-    let e = ap (sum_by (λ (gap : ℕ × ℕ). gap.1)) room.leave.are in
-    omega arith
+some-fits n gaps few room none = grind (arith, small-sum, left-count, gaps-sum)

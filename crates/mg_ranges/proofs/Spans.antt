@@ -1,12 +1,10 @@
 -- Ranges that lie one after another, and the gaps between them.
 use Rattle.std.specs.Prelude.{◌≡◌, ◌+◌, ◌-◌, ◌<◌, ◌≤◌, ℕ, zero, suc, Bool, List, [], ◌++◌, ◌∷◌, All, drop, if◌then◌else◌, length, sum_by, take}
-use Rattle.std.proofs.Common.{refl, sym, ap, ◌∙◌, subst, ⊎_elim, arith, append_assoc, length-append}
+use Rattle.std.proofs.Common.{refl, sym, ap, ◌∙◌, ⊎_elim, arith, append_assoc, length-append}
 use Rattle.std.proofs.lemmas.Bool.{cases_lt, le-ltb, lt-ltb}
 use Rattle.std.proofs.lemmas.List.{append-nil, length-take, take-append-drop}
-use Rattle.std.proofs.lemmas.List.Elements.{All-append, All-cons, All-nil}
-use Rattle.std.proofs.lemmas.List.Kept.{AllPairs-cons}
+use Rattle.std.proofs.lemmas.List.Elements.{All-append, All-nil}
 use Rattle.std.proofs.lemmas.List.Sums.{sum_by-append, sum_by-cons}
-use Rattle.mg_model.specs.KeptListLemmas.{AllPairs-nil}
 use Rattle.mg_model.specs.Limits.{first_page, page_end}
 use Rattle.mg_ranges.specs.Gaps.{AreTaken, LieFrom, gaps_from, piece}
 use Rattle.mg_ranges.specs.Kept.{Ascends}
@@ -19,21 +17,16 @@ pub piece-none : (a b : ℕ) → b ≤ a → piece a b ≡ []
 piece-none a b none = ap (λ (t : Bool). if t then (a, b - a) ∷ [] else []) (le-ltb a b none)
 
 pub all-piece : (P : ℕ × ℕ → Type 0) (a b : ℕ) → (a < b → P (a, b - a)) → All P (piece a b)
-all-piece P a b each =
-    ⊎_elim (λ some. subst (All P) (sym (piece-some a b some)) (All-cons P (a, b - a) [] (each some) (All-nil P))) (λ none. subst (All P) (sym (piece-none a b none)) (All-nil P)) (cases_lt a b)
+all-piece P a b each = grind arith
 
 sum-piece : (a b : ℕ) → a ≤ b → sum_by (λ (gap : ℕ × ℕ). gap.1) (piece a b) + a ≡ b
-sum-piece a b order =
-    ⊎_elim (λ some. let e = ap (sum_by (λ (gap : ℕ × ℕ). gap.1)) (piece-some a b some) in omega arith) (λ none. let e = ap (sum_by (λ (gap : ℕ × ℕ). gap.1)) (piece-none a b none) in omega arith)
-    (cases_lt a b)
+sum-piece a b order = grind (arith, piece-some, piece-none, cases_lt)
 
 pub length-piece : (a b : ℕ) → length (piece a b) ≤ 1
 length-piece a b = ⊎_elim (λ some. let e = ap length (piece-some a b some) in omega arith) (λ none. let e = ap length (piece-none a b none) in omega arith) (cases_lt a b)
 
 pairs-piece : (a b : ℕ) (gaps : List (ℕ × ℕ)) → All (λ (gap : ℕ × ℕ). a < gap.0) gaps → Ascends gaps → Ascends (piece a b ++ gaps)
-pairs-piece a b gaps above up =
-    ⊎_elim (λ some. subst (λ p. Ascends (p ++ gaps)) (sym (piece-some a b some)) (AllPairs-cons (λ (x y : ℕ × ℕ). x.0 < y.0) (a, b - a) gaps above up))
-    (λ none. subst (λ p. Ascends (p ++ gaps)) (sym (piece-none a b none)) up) (cases_lt a b)
+pairs-piece a b gaps above up = grind arith
 
 -- where ranges end from a page on and where they begin, and the gaps before that end and after that begin
 abbrev pub end_of : ℕ → List (ℕ × ℕ) → ℕ
@@ -94,19 +87,11 @@ lie-without page (first ∷ before) span behind lie = (lie.0, lie.1, lie-without
 -- the gaps before an end end before it, those after a begin begin after it
 pub up_to-before : (page : ℕ) (before behind : List (ℕ × ℕ)) → LieFrom page (before ++ behind) → All (λ (gap : ℕ × ℕ). gap.0 + gap.1 < end_of page before) (up_to page before)
 up_to-before page [] behind lie = All-nil (λ (gap : ℕ × ℕ). gap.0 + gap.1 < page)
-up_to-before page (span ∷ before) behind lie =
-    let P : ℕ × ℕ → Type 0 = λ gap. gap.0 + gap.1 < end_of (span.0 + span.1) before in
-    let up = lie-up (span.0 + span.1) before behind lie.2 in
-    let low = lie.0 in
-    let some = lie.1 in
-    All-append P (piece page span.0) (up_to (span.0 + span.1) before) (all-piece P page span.0 (λ here. omega arith)) (up_to-before (span.0 + span.1) before behind lie.2)
+up_to-before page (span ∷ before) behind lie = grind (arith, (up_to-before (span.0 + span.1) before behind lie.2), lie-up, All-append, all-piece)
 
 gaps-above : (low page : ℕ) (spans : List (ℕ × ℕ)) → low < page → LieFrom page spans → All (λ (gap : ℕ × ℕ). low < gap.0) (gaps_from page spans)
 gaps-above low page [] order lie = all-piece (λ gap. low < gap.0) page page_end (λ some. order)
-gaps-above low page (span ∷ spans) order lie =
-    let P : ℕ × ℕ → Type 0 = λ gap. low < gap.0 in
-    let here = lie.0 in
-    All-append P (piece page span.0) (gaps_from (span.0 + span.1) spans) (all-piece P page span.0 (λ some. order)) (gaps-above low (span.0 + span.1) spans (omega arith) lie.2)
+gaps-above low page (span ∷ spans) order lie = grind (arith, (gaps-above low (span.0 + span.1) spans (omega arith) lie.2))
 
 pub rest-above : (page : ℕ) (spans : List (ℕ × ℕ)) → LieFrom page spans → All (λ (gap : ℕ × ℕ). start_of spans < gap.0) (rest_of spans)
 rest-above page [] lie = All-nil (λ (gap : ℕ × ℕ). page_end < gap.0)
@@ -115,15 +100,11 @@ rest-above page (span ∷ spans) lie = let some = lie.1 in gaps-above span.0 (sp
 -- all gaps end by the end of the pages
 pub gaps-high : (page : ℕ) (spans : List (ℕ × ℕ)) → LieFrom page spans → All (λ (gap : ℕ × ℕ). gap.0 + gap.1 ≤ page_end) (gaps_from page spans)
 gaps-high page [] lie = all-piece (λ gap. gap.0 + gap.1 ≤ page_end) page page_end (λ some. omega arith)
-gaps-high page (span ∷ spans) lie =
-    let P : ℕ × ℕ → Type 0 = λ gap. gap.0 + gap.1 ≤ page_end in
-    let within = lie-within (span.0 + span.1) spans lie.2 in
-    All-append P (piece page span.0) (gaps_from (span.0 + span.1) spans) (all-piece P page span.0 (λ some. omega arith)) (gaps-high (span.0 + span.1) spans lie.2)
+gaps-high page (span ∷ spans) lie = grind (arith, (gaps-high (span.0 + span.1) spans lie.2), lie-within, All-append, all-piece)
 
 -- they ascend
 pub gaps-ascend : (page : ℕ) (spans : List (ℕ × ℕ)) → LieFrom page spans → Ascends (gaps_from page spans)
-gaps-ascend page [] lie =
-    subst Ascends (append-nil (piece page page_end)) (pairs-piece page page_end [] (All-nil (λ (gap : ℕ × ℕ). page < gap.0)) (AllPairs-nil (λ (x y : ℕ × ℕ). x.0 < y.0)))
+gaps-ascend page [] lie = grind arith
 gaps-ascend page (span ∷ spans) lie =
     let low = lie.0 in
     let some = lie.1 in
@@ -132,11 +113,7 @@ gaps-ascend page (span ∷ spans) lie =
 -- there is at most one more of them than there are ranges
 pub gaps-count : (page : ℕ) (spans : List (ℕ × ℕ)) → length (gaps_from page spans) ≤ length spans + 1
 gaps-count page [] = length-piece page page_end
-gaps-count page (span ∷ spans) =
-    let more = gaps-count (span.0 + span.1) spans in
-    let l = length-append (piece page span.0) (gaps_from (span.0 + span.1) spans) in
-    let p = length-piece page span.0 in
-    omega arith
+gaps-count page (span ∷ spans) = grind (arith, (gaps-count (span.0 + span.1) spans))
 
 -- with the ranges they make up all pages
 pub gaps-sum : (page : ℕ) (spans : List (ℕ × ℕ)) → LieFrom page spans → sum_by (λ (gap : ℕ × ℕ). gap.1) (gaps_from page spans) + sum_by (λ (span : ℕ × ℕ). span.1) spans + page ≡ page_end
