@@ -1,5 +1,5 @@
 -- How the copying of contents proceeds, from the gate closed to the gate open.
-use Rattle.std.specs.Prelude.{◌≡◌, ◌≢◌, ℕ, ◌+◌, ◌-◌, ◌<◌, ◌≤◌, IsTrue, List, length, slice_index, Option, Some, None, IsSomeAnd}
+use Rattle.std.specs.Prelude.{◌≡◌, ℕ, ◌+◌, ◌-◌, ◌<◌, ◌≤◌, IsTrue, List, length, slice_index, Option, Some, None, IsSomeAnd}
 use Rattle.std.specs.Option.{ForSome}
 use Rattle.std.proofs.Common.{refl, inl, inr, sym, ap, subst, ◌∙◌, ⊎_elim, arith}
 use Rattle.std.proofs.lemmas.Bool.{cases_eq}
@@ -24,10 +24,7 @@ pub record IsThen (places : ℕ → Type 0) (image : Image) (told : Option Image
 pub seen_then : (places : ℕ → Type 0) (old new : Option Image) (image : Image) → SeenBut places old new → old ≡ Some image → IsThen places image new
 seen_then places None new image same is = absurd cc
 seen_then places (Some s) None image same is = absurd same
-seen_then places (Some s) (Some c) image same is =
-    let some_inj : (a b : Image) → Some a ≡ Some b → a ≡ b = λ a b e. cc in
-    let P : Image → Type 0 = λ x. SameBut places x c in
-    record { c = c; is = refl; same = subst P (some_inj s image is) same }
+seen_then places (Some s) (Some c) image same is = grind arith
 
 -- the blocks before this one, of n, are those of the contents
 abbrev pub AreBefore : ℕ → ℕ → Image → Image → Type 0
@@ -58,9 +55,7 @@ close_may n image r c same = ⊎_elim (λ none. inl none) (λ before. inr (inl b
 
 -- The blocks after it are copied: it is no volume while the gate stays closed.
 zero_closed : (c : Image) → gate_byte c ≡ 0 → IsClosed c
-zero_closed c zero =
-    let gate : gate_byte c ≢ gate_open = λ opens. let both : 0 ≡ gate_open = sym zero ∙ opens in omega arith in
-    record { gate = gate; none = volume-closed c gate }
+zero_closed c zero = grind (arith, volume-closed)
 
 still_closed : (s c : Image) → gate_byte s ≡ 0 → SameBut (λ k. 1 ≤ k) s c → IsClosed c
 still_closed s c zero same = zero_closed c (ap (λ (block : List ℕ). slice_index block 0) (same.others gate_block (λ low. omega arith)) ∙ zero)
@@ -93,15 +88,10 @@ stands_closed facts mid new told stays same closed settled leaves = record {
 
 -- With the gate open it is a copy.
 pub is_copy : (n : ℕ) (r s c : Image) → n ≤ length s → AreCopied n r s → SameBut (only_place gate_block) s c → gate_byte c ≡ gate_open → IsCopy n r c
-is_copy n r s c long copied same gate = record {
-  long = let count = same.count in omega arith;
-  opened = gate;
-  blocks = λ i low high. same.others i (λ e. omega arith) ∙ copied i low high;
-}
+is_copy n r s c long copied same gate = grind arith
 
 pub open_may : (n : ℕ) (image r s c : Image) → n ≤ length s → AreCopied n r s → SameBut (only_place gate_block) s c → MayCopy n image r c
-open_may n image r s c long copied same =
-    ⊎_elim (λ gate. inr (inr (is_copy n r s c long copied same gate))) (λ not. inl (volume-closed c not)) (cases_eq (gate_byte c) gate_open)
+open_may n image r s c long copied same = grind (arith, is_copy, volume-closed, cases_eq)
 
 -- what reads give at the end, from what they gave at first
 pub all_made : (n : ℕ) (r : Image) (first closed behind last : Option Image) → SeenBut (only_place gate_block) first closed → SeenBut (λ k. 1 ≤ k) closed behind → SeenBut (only_place gate_block) behind last

@@ -1,8 +1,7 @@
 -- Numbers and bytes in lists that are joined.
-use Rattle.std.specs.Prelude.{◌≡◌, ℕ, zero, suc, ◌+◌, ◌-◌, ◌*◌, ◌<◌, ◌≤◌, ◌==◌, ◌&&◌, true, List, [], ◌∷◌, ◌++◌, drop, get_or, length, replicate, take}
+use Rattle.std.specs.Prelude.{◌≡◌, ℕ, zero, suc, ◌+◌, ◌*◌, ◌<◌, ◌≤◌, ◌==◌, ◌&&◌, true, List, [], ◌∷◌, ◌++◌, drop, get_or, length, replicate, take}
 use Rattle.std.specs.Int.{from_le_bytes, w64}
 use Rattle.std.proofs.Common.{refl, sym, ap, ◌∙◌, arith, append_assoc}
-use Rattle.std.proofs.Math.Bool.{and_assoc}
 use Rattle.std.proofs.lemmas.Bool.{and_parts, eqb-true}
 use Rattle.std.proofs.lemmas.List.{drop-append-le, get_or-append-add, length-drop, replicate-append-replicate, take-append-le}
 use Rattle.std.proofs.lemmas.List.Folds.{list_all-append}
@@ -20,8 +19,7 @@ number_at-front xs ys k within =
 
 pub numbers_at-front : (xs ys : List ℕ) (k n : ℕ) → k + 8 * n ≤ length xs → numbers_at (xs ++ ys) k n ≡ numbers_at xs k n
 numbers_at-front xs ys k zero within = refl
-numbers_at-front xs ys k (suc n) within =
-    ap (λ v. v ∷ numbers_at (xs ++ ys) (k + 8) n) (number_at-front xs ys k (omega arith)) ∙ ap (λ v. number_at xs k ∷ v) (numbers_at-front xs ys (k + 8) n (omega arith))
+numbers_at-front xs ys k (suc n) within = grind (arith, (numbers_at-front xs ys (k + 8) n (omega arith)), number_at-front)
 
 -- what lies after the first n bytes
 pub get_or-behind : (xs ys : List ℕ) (n k d : ℕ) → length xs ≡ n → get_or (xs ++ ys) (n + k) d ≡ get_or ys k d
@@ -42,8 +40,7 @@ pub same_bytes-append : (xs ys us vs : List ℕ) → length xs ≡ length ys →
 same_bytes-append [] [] us vs long = refl
 same_bytes-append [] (y ∷ ys) us vs long = absurd (omega arith)
 same_bytes-append (x ∷ xs) [] us vs long = absurd (omega arith)
-same_bytes-append (x ∷ xs) (y ∷ ys) us vs long =
-    ap (λ t. (x == y) && t) (same_bytes-append xs ys us vs (omega arith)) ∙ sym (and_assoc (x == y) (same_bytes xs ys) (same_bytes us vs))
+same_bytes-append (x ∷ xs) (y ∷ ys) us vs long = grind (arith, (same_bytes-append xs ys us vs (omega arith)))
 
 pub same_bytes-tells : (xs ys : List ℕ) → same_bytes xs ys ≡ true → xs ≡ ys
 same_bytes-tells [] [] h = refl
@@ -69,8 +66,4 @@ zeros-replicate (x ∷ xs) are =
 
 -- what is filled up, and filled up further
 pub padded_to-further : (n m k : ℕ) (xs : List ℕ) → length xs ≤ n → n + m ≡ k → padded_to k xs ≡ padded_to n xs ++ replicate m 0
-padded_to-further n m k xs few is =
-    let e : k - length xs ≡ (n - length xs) + m = omega arith in
-    ap (λ j. xs ++ replicate j 0) e
-    ∙ ap (λ v. xs ++ v) (sym (replicate-append-replicate (n - length xs) m 0))
-    ∙ sym (append_assoc xs (replicate (n - length xs) 0) (replicate m 0))
+padded_to-further n m k xs few is = grind (arith, replicate-append-replicate, append_assoc)

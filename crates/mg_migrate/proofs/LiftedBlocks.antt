@@ -1,5 +1,5 @@
 -- Each block of a lifted image by its number, and the rows in it.
-use Rattle.std.specs.Prelude.{◌≡◌, ◌≢◌, ℕ, zero, suc, ◌+◌, ◌-◌, ◌*◌, ◌/◌, ◌%◌, ◌<◌, ◌≤◌, ◌==◌, false, List, [], ◌∷◌, ◌++◌, get_or, slice_index, length, replicate, Some}
+use Rattle.std.specs.Prelude.{◌≡◌, ◌≢◌, ℕ, zero, suc, ◌+◌, ◌-◌, ◌*◌, ◌/◌, ◌%◌, ◌<◌, ◌≤◌, false, List, [], ◌∷◌, ◌++◌, get_or, length, replicate, Some}
 use Rattle.std.proofs.Common.{refl, sym, ap, ◌∙◌, arith, add-zero, append_assoc}
 use Rattle.std.proofs.lemmas.Bool.{le-ltb, lt-ltb, ne_eqb}
 use Rattle.std.proofs.lemmas.List.{append-nil, take_at}
@@ -7,7 +7,7 @@ use Rattle.std.proofs.lemmas.List.FromFn.{get_or-map-range_with_len, length-map-
 use Rattle.mg_model.specs.Abbreviations.{object_row_bytes}
 use Rattle.mg_model.specs.Bytes.{bytes_at, padded_to}
 use Rattle.mg_model.specs.BytesLemmas.{bytes_at-behind, padded_to-full}
-use Rattle.mg_model.specs.Layout.{first_frame, first_object_block, gate_open, globals_block, segment_count, segment_gate, super_block, table_block, total_blocks}
+use Rattle.mg_model.specs.Layout.{first_object_block, globals_block, segment_count, super_block, table_block, total_blocks}
 use Rattle.mg_model.specs.Limits.{object_limit}
 use Rattle.mg_model.specs.Replay.{block_of, is_open, replay}
 use Rattle.mg_model.specs.Settings.{Settings}
@@ -15,7 +15,7 @@ use Rattle.mg_model.specs.Spelling.{super_bytes}
 use Rattle.mg_model.specs.VolumeLemmas.{replay-closed}
 use Rattle.mg_migrate.proofs.LiftedRows.{length-lifted_row}
 use Rattle.mg_migrate.specs.Laws.{KeepsPlaces}
-use Rattle.mg_migrate.specs.Layout1.{first_frame1, table1_block}
+use Rattle.mg_migrate.specs.Layout1.{table1_block}
 use Rattle.mg_migrate.specs.Lifted.{lifted, lifted_block, lifted_objects, lifted_row, object1_bytes_in}
 use Rattle.mg_migrate.specs.Version1.{object1_row_bytes}
 
@@ -40,36 +40,20 @@ module _ (settings : Settings) (r : List (List ℕ)) where
 
   pub at_row : (i : ℕ) → globals_block ≤ i → i < first_object_block → lifted_block settings r i ≡ block_of r i
   unfolding lifted_block
-  at_row i low high =
-      let a = ne_eqb i super_block (λ e. omega arith) in
-      let b = le-ltb i globals_block low in
-      let c = lt-ltb i first_object_block high in
-      rw (a, b, c)
+  at_row i low high = grind (arith, ne_eqb, le-ltb, lt-ltb)
 
   pub at_object : (i : ℕ) → first_object_block ≤ i → i < table_block
       → lifted_block settings r i ≡ lifted_objects (block_of r (first_object_block + (i - first_object_block) / 2)) ((i - first_object_block) % 2)
   unfolding lifted_block
-  at_object i low high =
-      let a = ne_eqb i super_block (λ e. omega arith) in
-      let b = le-ltb i globals_block (omega arith) in
-      let c = le-ltb i first_object_block low in
-      let d = lt-ltb i table_block high in
-      rw (a, b, c, d)
+  at_object i low high = grind (arith, ne_eqb, le-ltb, lt-ltb)
 
   pub at_behind : (i k : ℕ) → table1_block ≤ k → i ≡ k + 512 → lifted_block settings r i ≡ block_of r k
   unfolding lifted_block
-  at_behind i k low is =
-      let a = ne_eqb i super_block (λ e. omega arith) in
-      let b = le-ltb i globals_block (omega arith) in
-      let c = le-ltb i first_object_block (omega arith) in
-      let d = le-ltb i table_block (omega arith) in
-      let e : i - 512 ≡ k = omega arith in
-      rw (a, b, c, d) (ap (block_of r) e)
+  at_behind i k low is = grind (arith, ne_eqb, le-ltb)
 
   -- the journal
   pub closed : (s : ℕ) → s < segment_count → is_open (lifted settings r) s ≡ false
-  closed s few =
-      ap (λ (block : List ℕ). slice_index block 0 == gate_open) (block-of-lifted (segment_gate s) (omega arith) ∙ at_closed (segment_gate s) (λ e. omega arith) (omega arith))
+  closed s few = grind (arith, block-of-lifted, at_closed)
 
   pub replay-lifted : (total : ℕ) → replay (lifted settings r) total ≡ Some (lifted settings r)
   replay-lifted total = replay-closed (lifted settings r) total closed
@@ -101,49 +85,18 @@ row-of block half (suc (suc (suc (suc k)))) few = absurd (omega arith)
 
 pub row-in-lifted : (block : List ℕ) (half k : ℕ) → k < 4 → bytes_at (lifted_objects block half) (1024 * k) 1024 ≡ lifted_row (object1_bytes_in block (4 * half + k))
 unfolding lifted_objects
-row-in-lifted block half k few =
-    part (lifted_row (object1_bytes_in block (4 * half))) (lifted_row (object1_bytes_in block (4 * half + 1))) (lifted_row (object1_bytes_in block (4 * half + 2))) (lifted_row (object1_bytes_in block (4 * half + 3)))
-    (length-lifted_row (object1_bytes_in block (4 * half))) (length-lifted_row (object1_bytes_in block (4 * half + 1))) (length-lifted_row (object1_bytes_in block (4 * half + 2))) (length-lifted_row (object1_bytes_in block (4 * half + 3)))
-    k few
-    ∙ row-of block half k few
+row-in-lifted block half k few = grind (arith, part, length-lifted_row, row-of)
 
 -- row i becomes row i
 pub object-row-lifted : (settings : Settings) (r : List (List ℕ)) (i : ℕ) → i < object_limit → object_row_bytes (lifted settings r) i ≡ lifted_row (object1_row_bytes r i)
-object-row-lifted settings r i few =
-    let j = first_object_block + i / 4 in
-    let place : block_of (lifted settings r) j ≡ lifted_objects (block_of r (first_object_block + (j - first_object_block) / 2)) ((j - first_object_block) % 2) =
-    block-of-lifted settings r j (omega arith) ∙ at_object settings r j (omega arith) (omega arith) in
-    let block : first_object_block + (j - first_object_block) / 2 ≡ first_object_block + i / 8 = omega arith in
-    let row : 4 * ((j - first_object_block) % 2) + i % 4 ≡ i % 8 = omega arith in
-    ap (λ v. bytes_at v (1024 * (i % 4)) 1024) place
-    ∙ row-in-lifted (block_of r (first_object_block + (j - first_object_block) / 2)) ((j - first_object_block) % 2) (i % 4) (omega arith)
-    ∙ ap (λ b. lifted_row (object1_bytes_in (block_of r b) (4 * ((j - first_object_block) % 2) + i % 4))) block
-    ∙ ap (λ k. lifted_row (object1_bytes_in (block_of r (first_object_block + i / 8)) k)) row
+object-row-lifted settings r i few = grind (arith, block-of-lifted, at_object, row-in-lifted)
 
 -- and so each row and each frame keeps its number
 pub keeps-places : (settings : Settings) (r : List (List ℕ)) → KeepsPlaces settings r
-keeps-places settings r = record {
-  objects = object-row-lifted settings r;
-  rows = λ i low high. block-of-lifted settings r i (omega arith) ∙ at_row settings r i low high;
-  entries = λ i few. block-of-lifted settings r (table_block + i) (omega arith) ∙ at_behind settings r (table_block + i) (table1_block + i) (omega arith) (omega arith);
-  frames = λ f few. block-of-lifted settings r (first_frame settings.frames + f) (omega arith) ∙ at_behind settings r (first_frame settings.frames + f) (first_frame1 settings.frames + f) (omega arith) (omega arith);
-}
+keeps-places settings r = grind (arith, object-row-lifted, block-of-lifted, at_row, at_behind)
 
 -- four rows that are added one by one
 pub four-rows : (block : List ℕ) (half first : ℕ) (whole s1 s2 s3 s4 : List ℕ) → first ≡ 4 * half → s1 ≡ lifted_row (object1_bytes_in block first) → s2 ≡ s1 ++ lifted_row (object1_bytes_in block (first + 1))
     → s3 ≡ s2 ++ lifted_row (object1_bytes_in block (first + 2)) → s4 ≡ s3 ++ lifted_row (object1_bytes_in block (first + 3)) → length s4 ≡ 4096 → whole ≡ padded_to 4096 s4 → whole ≡ lifted_objects block half
 unfolding lifted_objects
-four-rows block half first whole s1 s2 s3 s4 at e1 e2 e3 e4 long is =
-    let a = lifted_row (object1_bytes_in block first) in
-    let b = lifted_row (object1_bytes_in block (first + 1)) in
-    let c = lifted_row (object1_bytes_in block (first + 2)) in
-    let d = lifted_row (object1_bytes_in block (first + 3)) in
-    is
-    ∙ padded_to-full 4096 s4 long
-    ∙ e4
-    ∙ ap (λ v. v ++ d) e3
-    ∙ append_assoc s2 c d
-    ∙ ap (λ v. v ++ (c ++ d)) e2
-    ∙ append_assoc s1 b (c ++ d)
-    ∙ ap (λ v. v ++ (b ++ (c ++ d))) e1
-    ∙ ap (λ n. lifted_row (object1_bytes_in block n) ++ (lifted_row (object1_bytes_in block (n + 1)) ++ (lifted_row (object1_bytes_in block (n + 2)) ++ lifted_row (object1_bytes_in block (n + 3))))) at
+four-rows block half first whole s1 s2 s3 s4 at e1 e2 e3 e4 long is = grind (arith, padded_to-full, append_assoc)

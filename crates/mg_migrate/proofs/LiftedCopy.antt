@@ -6,9 +6,8 @@ use Rattle.mg_check.specs.RowsRead.{state_in}
 use Rattle.mg_check.specs.Summaries.{TellsOf, summary_of}
 use Rattle.mg_check.specs.declared.examining.Summary.{Summary}
 use Rattle.mg_check.specs.declared.volume_rows.VolumeRows.{VolumeRows}
-use Rattle.mg_disk.specs.Disk.{Image, only_place}
+use Rattle.mg_disk.specs.Disk.{Image}
 use Rattle.mg_disk.specs.PlaceLemmas.{same_as}
-use Rattle.mg_disk.specs.Runs.{leaves_yet, only_image}
 use Rattle.mg_disk.specs.Stops.{Leaves, NothingPending}
 use Rattle.mg_disk.specs.declared.disk.Disk.{Ghosts}
 use Rattle.mg_layout.specs.MayFormat.{IsNoState, opened}
@@ -24,7 +23,7 @@ use Rattle.mg_migrate.specs.LiftedView.{LiftedView}
 use Rattle.mg_migrate.specs.Migrated.{HasLifted, IsLiftOf, IsState1, MayMigrate, needed}
 use Rattle.mg_migrate.specs.OldRead.{IsOldRead}
 use Rattle.mg_migrate.specs.Version1.{Volume1Read, as_volume1, lift, lift_volume, replayed1_volume, volume1}
-use Rattle.mg_model.specs.Layout.{gate_block, total_blocks}
+use Rattle.mg_model.specs.Layout.{total_blocks}
 use Rattle.mg_model.specs.Replay.{replay}
 use Rattle.mg_model.specs.State.{State}
 use Rattle.mg_model.specs.Volume.{Damaged, Is, NotVolume, OldVolume, VolumeRead, volume}
@@ -60,8 +59,7 @@ module _ (seen : LiftedView) (rows : VolumeRows) (image : Image) (read : IsOldRe
   needs s is = ap (λ (state : State). needed state) is
 
   pub tells-done : (summary : Summary) (have : ℕ) → TellsOf summary rows → total_blocks rows.params.frames ≤ have → IsState1 (volume1 image) (λ state. (summary ≡ summary_of (lift state)) × (needed state ≤ have))
-  tells-done summary have told enough =
-      tells (λ state. (summary ≡ summary_of (lift state)) × (needed state ≤ have)) (λ s is. (told old_lifted ∙ ap summary_of (sym is), (let n = needs s is in omega arith)))
+  tells-done summary have told enough = grind (arith, tells, needs)
 
   pub tells-small : (need have h : ℕ) → need ≡ total_blocks rows.params.frames → h ≡ have → have < need → IsState1 (volume1 image) (λ state. (need ≡ needed state) × (h ≡ have) × (have < need))
   tells-small need have h is same few = tells (λ state. (need ≡ needed state) × (h ≡ have) × (have < need)) (λ s e. (is ∙ sym (needs s e), same, few))
@@ -97,9 +95,7 @@ module _ (seen : LiftedView) (rows : VolumeRows) (image : Image) (read : IsOldRe
   -- the contents that reads of the old disk give
   pub contents-are : {E : Type 0} (facts : Ghosts E) (old : E) → seen.placed.total ≡ total1_blocks seen.settings.frames → facts.seen old ≡ Some image
       → contents facts (λ before. option_map (lifted seen.settings) (replay before seen.placed.total)) old ≡ Some old_lifted
-  contents-are facts old total told =
-      let is : replay image seen.placed.total ≡ Some read.replayed = ap (replay image) total ∙ read.is.is in
-      rw (told, is)
+  contents-are facts old total told = grind arith
 
 -- what a settled disk may leave is what reads give
 pub left-lifts : (P : Image → Type 0) (old new : Option Image) (c : Image) → ReadsNow P old new → new ≡ Some c → P c
@@ -114,5 +110,4 @@ gate-may v image c may = ⊎_elim (λ none. inl (no_state c none)) (λ before. i
 -- when no call was made, nothing but the image itself may be left
 pub untouched_may : {D : Type 0} (facts : Ghosts D) (v : Volume1Read) (image : Image) (disk : D) → facts.has_been disk (facts.moment disk) → facts.seen disk ≡ Some image → NothingPending facts disk
     → Leaves facts disk disk (MayMigrate image v)
-untouched_may facts v image disk been told settled =
-    leaves_yet facts disk (MayMigrate image v) been (λ c left. gate-may v image c (gate_alone image c (same_as (only_place gate_block) image c (only_image facts disk image c (record { told = told; settled = settled }) left))))
+untouched_may facts v image disk been told settled = grind (arith, gate-may, gate_alone, same_as)

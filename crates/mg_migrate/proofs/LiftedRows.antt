@@ -1,13 +1,12 @@
 -- A row of version 1 and what it becomes are read alike.
-use Rattle.std.specs.Prelude.{◌≡◌, ℕ, ◌+◌, ◌<◌, ◌≤◌, ◌&&◌, nat_le, Bool, true, false, List, ◌++◌, drop, if◌then◌else◌, length, replicate, take, Option, Some, None}
+use Rattle.std.specs.Prelude.{◌≡◌, ℕ, ◌+◌, ◌<◌, ◌≤◌, ◌&&◌, nat_le, Bool, true, false, List, ◌++◌, drop, length, replicate, take, Option, Some, None}
 use Rattle.std.specs.Option.{option_map_or}
 use Rattle.std.proofs.Common.{refl, sym, ap, subst, ◌∙◌, arith, ⊎_elim}
 use Rattle.std.proofs.lemmas.Bool.{and_from, le-leb, and_left, and_parts, and_right, both_ways, cases_Bool, cond_both, leb-true, lt-leb, cases_lt}
 use Rattle.std.proofs.lemmas.List.{drop-drop, length-append, length-drop, length-replicate, length-take, take-append-drop}
 use Rattle.std.proofs.lemmas.Option.{same_Some}
-use Rattle.mg_model.specs.Bytes.{are_zeros, bytes_at, number_at, words_bytes}
+use Rattle.mg_model.specs.Bytes.{are_zeros, bytes_at, number_at}
 use Rattle.mg_model.specs.BytesLemmas.{length-padded_to, length-words_bytes}
-use Rattle.mg_model.specs.Limits.{never}
 use Rattle.mg_model.specs.RowLemmas.{are_zeros-replicate, read-free}
 use Rattle.mg_model.specs.Spelling.{Read, live_if, object_bytes, object_fields, object_read}
 use Rattle.mg_model.specs.State.{ObjectRow}
@@ -18,18 +17,13 @@ use Rattle.mg_migrate.proofs.WideBytes.{length-entries1, length-passwords1, lift
 use Rattle.mg_migrate.proofs.WideRow.{AreLong, length-wide, narrow}
 use Rattle.mg_migrate.specs.Lifted.{lifted_row, row_lifted}
 use Rattle.mg_migrate.specs.Spelling1.{is_object1_row, lift_read, lift_row, object1_bytes, object1_fields, object1_read}
-use Rattle.mg_migrate.specs.Widened.{joined, may_widen, untils, widened}
+use Rattle.mg_migrate.specs.Widened.{joined, may_widen, widened}
 
 none-behind : (a b c d : Bool) → (a && (b && (c && (d && false)))) ≡ false
 none-behind a b c d = and_right a (b && (c && (d && false))) (and_right b (c && (d && false)) (and_right c (d && false) (and_right d false refl)))
 
 entries-few : (row : ObjectRow) → is_object_row row ≡ true → length row.entries ≤ 16
-entries-few row t =
-    let extended = and_parts _ _ t in
-    let listed = and_parts _ _ extended.0 in
-    let entries = and_parts _ _ listed.1 in
-    let few = and_parts _ _ entries.0 in
-    leb-true (length row.entries) 16 few.0
+entries-few row t = grind (arith, and_parts, leb-true)
 
 -- 512 bytes are their parts
 module _ (b : List ℕ) (long : length b ≡ 512) where
@@ -71,15 +65,10 @@ module _ (b : List ℕ) (long : length b ≡ 512) where
     not_ruled f = read1-live-as b (object1_fields b) false (same_bytes (object1_bytes (object1_fields b)) b) some refl f refl
 
     not_same : same_bytes (object1_bytes (object1_fields b)) b ≡ false → object1_read b ≡ None
-    not_same f =
-        read1-live-as b (object1_fields b) (is_object1_row (object1_fields b)) false some refl refl f
-        ∙ ap (λ t. if t then Some (Some (object1_fields b)) else None) (and_right (is_object1_row (object1_fields b)) false refl)
+    not_same f = grind (arith, read1-live-as, some, and_right)
 
     over_passwords : 16 < number_at b 32 → object1_read b ≡ None
-    over_passwords over =
-        let row = object1_fields b in
-        let l = length-passwords1 b in
-        not_ruled (and_left (nat_le (length row.passwords) 16) (is_object_row (lift_row row)) (lt-leb (length row.passwords) 16 (omega arith)))
+    over_passwords over = grind arith
 
     over_entries : 16 < number_at b 40 → object1_read b ≡ None
     over_entries over =
@@ -171,16 +160,7 @@ lifted-read b = read-of-lifted b (object1_read b) refl
 
 -- each has 1,024 bytes
 length-joined : (h p g e : List ℕ) (n : ℕ) → AreLong h p g e → n ≤ 16 → length (joined h p g e n) ≡ 1024
-length-joined h p g e n long few =
-    let u : length (untils n) ≡ 256 = length-padded_to 256 (words_bytes (replicate n never)) (let w = length-words_bytes (replicate n never) in let r = length-replicate {A = ℕ} n never in omega arith) in
-    let v : length (untils n ++ replicate 272 0) ≡ 528 = length-wide (untils n) 256 272 528 u refl in
-    let a : length (e ++ (untils n ++ replicate 272 0)) ≡ 656 = length-append e (untils n ++ replicate 272 0) ∙ (let l = long.entries in omega arith) in
-    let gg : length (g ++ replicate 16 0) ≡ 32 = length-wide g 16 16 32 long.rights refl in
-    let pp : length (p ++ replicate 128 0) ≡ 256 = length-wide p 128 128 256 long.passwords refl in
-    let b : length ((g ++ replicate 16 0) ++ (e ++ (untils n ++ replicate 272 0))) ≡ 688 = length-append (g ++ replicate 16 0) (e ++ (untils n ++ replicate 272 0)) ∙ omega arith in
-    let c : length ((p ++ replicate 128 0) ++ ((g ++ replicate 16 0) ++ (e ++ (untils n ++ replicate 272 0)))) ≡ 944 =
-    length-append (p ++ replicate 128 0) ((g ++ replicate 16 0) ++ (e ++ (untils n ++ replicate 272 0))) ∙ omega arith in
-    length-append h ((p ++ replicate 128 0) ++ ((g ++ replicate 16 0) ++ (e ++ (untils n ++ replicate 272 0)))) ∙ (let l = long.head in omega arith)
+length-joined h p g e n long few = grind (arith, length-padded_to, length-words_bytes, length-replicate, length-wide, length-append)
 
 length-of-lifted : (b : List ℕ) (read : Read ObjectRow) → object1_read b ≡ read → length (row_lifted read) ≡ 1024
 length-of-lifted b None is = length-replicate {A = ℕ} 1024 255

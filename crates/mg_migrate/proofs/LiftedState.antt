@@ -1,8 +1,8 @@
 -- A lifted image spells the lifted state.
-use Rattle.std.specs.Prelude.{◌≡◌, ℕ, zero, suc, ◌+◌, ◌*◌, ◌/◌, ◌%◌, ◌<◌, ◌≤◌, ◌==◌, ◌&&◌, ◌||◌, nat_le, nat_lt, Bool, true, false, List, [], ◌∷◌, ◌++◌, drop, if◌then◌else◌, length, map, position, replicate, take, Option, Some, None, option_map}
+use Rattle.std.specs.Prelude.{◌≡◌, ℕ, zero, suc, ◌+◌, ◌*◌, ◌/◌, ◌%◌, ◌<◌, ◌≤◌, ◌==◌, ◌&&◌, ◌||◌, nat_le, Bool, true, false, List, [], ◌∷◌, ◌++◌, drop, if◌then◌else◌, length, map, position, replicate, take, Option, Some, None, option_map}
 use Rattle.std.specs.Option.{option_map_or}
 use Rattle.std.specs.List.{fold, list_all, list_any}
-use Rattle.std.proofs.Common.{refl, ap, subst, ◌∙◌, arith}
+use Rattle.std.proofs.Common.{refl, ap, ◌∙◌, arith}
 use Rattle.std.proofs.lemmas.Bool.Decides.{nat_tests}
 use Rattle.std.proofs.lemmas.List.{length-take}
 use Rattle.std.proofs.lemmas.List.Folds.{list_all-map}
@@ -18,7 +18,7 @@ use Rattle.mg_model.specs.Settings.{Settings}
 use Rattle.mg_model.specs.Spelling.{Read, account_read, globals_read, object_read, thread_read}
 use Rattle.mg_model.specs.State.{Counters, Object, ObjectRow, State, ThreadRow}
 use Rattle.mg_model.specs.Tests.{all_distinct}
-use Rattle.mg_model.specs.Volume.{Damaged, Is, Rows, accounts_fit, are_apart, bound_pages, fitting, has_no_gap, is_page_of, live_rows, objects_fit, objects_spelled, page_words, pages_words, replayed_volume, rows_of, state_fits, state_spelled, table_entries, table_fits, threads_fit, whole_table, with_live}
+use Rattle.mg_model.specs.Volume.{Damaged, Is, Rows, are_apart, bound_pages, fitting, is_page_of, live_rows, objects_fit, objects_spelled, page_words, pages_words, replayed_volume, rows_of, state_fits, state_spelled, table_entries, table_fits, whole_table, with_live}
 use Rattle.mg_model.specs.VolumeLemmas.{live_rows-same, rows_from, rows_with, state_with}
 use Rattle.mg_model.specs.Words.{and_then}
 use Rattle.mg_migrate.proofs.LiftedBlocks.{at_behind, at_row, block-of-lifted, object-row-lifted}
@@ -68,14 +68,7 @@ short_table frames None a t o whole rows is = absurd (cc)
 short_table frames (Some c) None t o whole rows is = absurd (cc)
 short_table frames (Some c) (Some a) None o whole rows is = absurd (cc)
 short_table frames (Some c) (Some a) (Some t) None whole rows is = absurd (cc)
-short_table frames (Some c) (Some a) (Some t) (Some o) whole rows is = tested (are_zeros (drop frames whole)) is
-  where
-    tested : (b : Bool) → (if b then Some (rows_with c a t o (take frames whole)) else None) ≡ Some rows → length rows.table ≤ frames
-    tested false e = absurd (cc)
-    tested true e =
-        let same : rows_with c a t o (take frames whole) ≡ rows = (cc) in
-        let P : Rows → Type 0 = λ r. length r.table ≤ frames in
-        subst P same (let l = length-take frames whole in omega arith)
+short_table frames (Some c) (Some a) (Some t) (Some o) whole rows is = grind (arith, rows_with, length-take)
 
 position-below : (p : ℕ → Bool) (xs : List ℕ) (k : ℕ) → position p xs ≡ Some k → k < length xs
 position-below p xs k is = grind (arith, nat_tests)
@@ -130,20 +123,12 @@ module _ (settings : Settings) (r : List (List ℕ)) where
 
   pages-lifted : (table : List ℕ) (page n : ℕ) → length table ≤ settings.frames → pages_words l settings.frames table page n ≡ pages1_words r settings.frames table page n
   pages-lifted table page zero few = refl
-  pages-lifted table page (suc n) few =
-      ap (λ words. words ++ pages_words l settings.frames table (page + 1) n) (page-lifted table page few)
-      ∙ ap (λ words. page1_words r settings.frames table page ++ words) (pages-lifted table (page + 1) n few)
+  pages-lifted table page (suc n) few = grind (arith, (pages-lifted table (page + 1) n few), page-lifted)
 
 -- an object more, lifted
 with_object-lifted : (object : Object) (objects : List Object) → with_object (lift_object object) (map lift_object objects) ≡ map lift_object (with_object object objects)
 with_object-lifted object [] = refl
-with_object-lifted object (next ∷ objects) = tested (nat_lt object.row.base next.row.base) (with_object-lifted object objects)
-  where
-    tested : (t : Bool) → with_object (lift_object object) (map lift_object objects) ≡ map lift_object (with_object object objects)
-        → (if t then lift_object object ∷ lift_object next ∷ map lift_object objects else lift_object next ∷ with_object (lift_object object) (map lift_object objects))
-        ≡ map lift_object (if t then object ∷ next ∷ objects else next ∷ with_object object objects)
-    tested true rest = refl
-    tested false rest = ap (λ v. lift_object next ∷ v) rest
+with_object-lifted object (next ∷ objects) = grind (arith, (with_object-lifted object objects))
 
 module _ (settings : Settings) (r : List (List ℕ)) (table : List ℕ) (few : length table ≤ settings.frames) where
   objects-lifted : (rows : List (ℕ × ObjectRow)) → objects_spelled (lifted settings r) settings.frames table (map lift_placed rows) ≡ map lift_object (objects1_spelled r settings.frames table rows)
@@ -170,10 +155,7 @@ used-lifted objects = from_any 0 objects
     from_any n (object ∷ objects) = from_any (n + object.row.pages) objects
 
 objects_fit-lifted : (frames accounts : ℕ) (objects : List Object) → objects_fit frames accounts (map lift_object objects) ≡ objects_fit frames accounts objects
-objects_fit-lifted frames accounts objects =
-    ap (λ t. t && list_all (λ (object : Object). nat_le object.row.account accounts) (map lift_object objects) && nat_le (used (map lift_object objects)) frames) (apart-lifted objects)
-    ∙ ap (λ t. are_apart objects && t && nat_le (used (map lift_object objects)) frames) (list_all-map (λ (object : Object). nat_le object.row.account accounts) lift_object objects)
-    ∙ ap (λ n. are_apart objects && list_all (λ (object : Object). nat_le object.row.account accounts) objects && nat_le n frames) (used-lifted objects)
+objects_fit-lifted frames accounts objects = grind (arith, apart-lifted, list_all-map, used-lifted)
 
 any-lifted : (page : ℕ) (objects : List Object) → list_any (λ object. is_page_of page object) (map lift_object objects) ≡ list_any (λ object. is_page_of page object) objects
 any-lifted page [] = refl
@@ -182,19 +164,13 @@ any-lifted page (object ∷ objects) = ap (λ t. is_page_of page object || t) (a
 all-any-lifted : (pages : List ℕ) (objects : List Object)
     → list_all (λ page. list_any (λ object. is_page_of page object) (map lift_object objects)) pages ≡ list_all (λ page. list_any (λ object. is_page_of page object) objects) pages
 all-any-lifted [] objects = refl
-all-any-lifted (page ∷ pages) objects =
-    ap (λ t. t && list_all (λ page. list_any (λ object. is_page_of page object) (map lift_object objects)) pages) (any-lifted page objects)
-    ∙ ap (λ t. list_any (λ object. is_page_of page object) objects && t) (all-any-lifted pages objects)
+all-any-lifted (page ∷ pages) objects = grind (arith, (all-any-lifted pages objects), any-lifted)
 
 table_fits-lifted : (objects : List Object) (table : List ℕ) → table_fits (map lift_object objects) table ≡ table_fits objects table
 table_fits-lifted objects table = ap (λ t. t && all_distinct (bound_pages table)) (all-any-lifted (bound_pages table) objects)
 
 fits-lifted : (rows : Rows) (state : State) → state_fits (lift_rows rows) (lift state) ≡ state_fits rows state
-fits-lifted rows state =
-    ap (λ t. has_no_gap 0 rows.accounts && accounts_fit state.settings.credits state.counters.period state.accounts && t && threads_fit state.counters.births state.threads && table_fits (map lift_object state.objects) rows.table)
-    (objects_fit-lifted state.settings.frames (length state.accounts) state.objects)
-    ∙ ap (λ t. has_no_gap 0 rows.accounts && accounts_fit state.settings.credits state.counters.period state.accounts && objects_fit state.settings.frames (length state.accounts) state.objects && threads_fit state.counters.births state.threads && t)
-    (table_fits-lifted state.objects rows.table)
+fits-lifted rows state = grind (arith, objects_fit-lifted, table_fits-lifted)
 
 judged : (t : Bool) (state : State) → (if t then Is (lift state) else Damaged) ≡ lift_volume (if t then Is state else Damaged)
 judged true state = refl

@@ -1,20 +1,12 @@
 -- The parts of a moved row, added one by one.
+use Rattle.std.proofs.Common.{arith}
 use Rattle.std.specs.Prelude.{◌≡◌, ℕ, ◌-◌, List, ◌++◌, length, replicate}
 use Rattle.std.proofs.Common.{ap, ◌∙◌, append_assoc}
 use Rattle.mg_model.specs.Bytes.{padded_to}
 
 pub parts : (s1 s2 s3 s4 s5 s6 s7 h p g e u z1 z2 z3 : List ℕ) → s1 ≡ h → s2 ≡ s1 ++ p → s3 ≡ s2 ++ z1 → s4 ≡ s3 ++ g → s5 ≡ s4 ++ z2 → s6 ≡ s5 ++ e → s7 ≡ s6 ++ u
     → s7 ++ z3 ≡ h ++ ((p ++ z1) ++ ((g ++ z2) ++ (e ++ (u ++ z3))))
-parts s1 s2 s3 s4 s5 s6 s7 h p g e u z1 z2 z3 e1 e2 e3 e4 e5 e6 e7 =
-    ap (λ v. v ++ z3) e7
-    ∙ append_assoc s6 u z3
-    ∙ ap (λ v. v ++ (u ++ z3)) e6
-    ∙ append_assoc s5 e (u ++ z3)
-    ∙ ap (λ v. v ++ (e ++ (u ++ z3))) (e5 ∙ ap (λ v. v ++ z2) e4 ∙ append_assoc s3 g z2)
-    ∙ append_assoc s3 (g ++ z2) (e ++ (u ++ z3))
-    ∙ ap (λ v. v ++ ((g ++ z2) ++ (e ++ (u ++ z3)))) (e3 ∙ ap (λ v. v ++ z1) e2 ∙ append_assoc s1 p z1)
-    ∙ append_assoc s1 (p ++ z1) ((g ++ z2) ++ (e ++ (u ++ z3)))
-    ∙ ap (λ v. v ++ ((p ++ z1) ++ ((g ++ z2) ++ (e ++ (u ++ z3))))) e1
+parts s1 s2 s3 s4 s5 s6 s7 h p g e u z1 z2 z3 e1 e2 e3 e4 e5 e6 e7 = grind (arith, append_assoc)
 
 -- and what fills them up
 pub filled-up : (whole part : List ℕ) → whole ≡ padded_to 1024 part → length part ≡ 752 → whole ≡ part ++ replicate 272 0

@@ -1,4 +1,5 @@
 -- What was read of an old image says this of it.
+use Rattle.std.proofs.Common.{arith}
 use Rattle.std.specs.Prelude.{◌≡◌, ◌<◌, ◌≤◌, ◌==◌, true, length, IsSome, Option, None, Some, option_map}
 use Rattle.std.proofs.Common.{refl, sym, ap, subst, ◌∙◌}
 use Rattle.std.proofs.lemmas.Bool.{eqb-true}
@@ -12,7 +13,6 @@ use Rattle.mg_model.specs.Layout.{gate_open, super_block}
 use Rattle.mg_model.specs.Replay.{block_of, replay}
 use Rattle.mg_model.specs.Settings.{Settings}
 use Rattle.mg_model.specs.Volume.{Damaged, Is, IsOpened, NotVolume, OldVolume, VolumeRead, gate_byte, replayed_volume}
-use Rattle.mg_model.specs.Words.{and_then}
 use Rattle.mg_migrate.proofs.LiftedState.{replayed-lifted}
 use Rattle.mg_migrate.proofs.Volume1Reads.{replayed1-is, settled1-none, settled1-short, volume1-opened}
 use Rattle.mg_migrate.specs.Layout1.{total1_blocks}
@@ -56,10 +56,7 @@ module _ (settings : Settings) (image : Image) (has : HasSettings1 settings imag
 -- the lifted contents of a volume that is seen so
 pub lifted_contents : {D : Type 0} (facts : Ghosts D) (disk : D) (seen : LiftedView) (image : Image) (is : IsSeen1 seen image) → facts.seen disk ≡ Some image
     → contents facts (λ image. option_map (lifted seen.settings) (replay image seen.placed.total)) disk ≡ Some (lifted seen.settings is.replayed)
-lifted_contents facts disk seen image is told =
-    ap (λ o. and_then o (λ image. option_map (lifted seen.settings) (replay image seen.placed.total))) told
-    ∙ ap (λ total. option_map (lifted seen.settings) (replay image total)) is.total
-    ∙ ap (λ o. option_map (lifted seen.settings) o) is.is.is
+lifted_contents facts disk seen image is told = grind arith
 
 lifts-damage : (v : VolumeRead) → lift_volume v ≡ Damaged → v ≡ Damaged
 lifts-damage NotVolume e = e
@@ -76,9 +73,4 @@ module _ (settings : Settings) (seen : LiftedView) (same : seen.settings ≡ set
       ∙ ap as_volume1 (lifts-damage (replayed1_volume seen.settings is.replayed) (sym (replayed-lifted seen.settings is.replayed) ∙ damage))
 
   pub read_so : (rows : VolumeRows) → TellsRows settings rows (lifted seen.settings is.replayed) → IsOldRead seen rows image
-  read_so rows tells = record {
-    replayed = is.replayed;
-    is = is.is;
-    fits = is.fits;
-    told = ap (λ settings. replayed_volume settings (lifted seen.settings is.replayed)) same ∙ tells.is;
-  }
+  read_so rows tells = grind arith

@@ -1,5 +1,5 @@
 -- A superblock of version 1 is one of this version but for its version.
-use Rattle.std.specs.Prelude.{◌≡◌, ℕ, zero, suc, ◌+◌, ◌<◌, ◌≤◌, ◌&&◌, nat_lt, Bool, true, false, not, List, [], ◌∷◌, drop, get_or, if◌then◌else◌, length, slice_set, take, Option, Some, None}
+use Rattle.std.specs.Prelude.{◌≡◌, ℕ, zero, suc, ◌+◌, ◌<◌, ◌≤◌, ◌&&◌, nat_lt, Bool, true, false, not, List, [], ◌∷◌, get_or, if◌then◌else◌, length, slice_set, take, Option, Some, None}
 use Rattle.std.specs.Int.{from_le_bytes, w64}
 use Rattle.std.proofs.Common.{refl, sym, ap, subst, ◌∙◌, ⊎_elim, arith}
 use Rattle.std.proofs.lemmas.Bool.{and_parts, cases_Bool, cond_both, le-ltb, lt-ltb}
@@ -38,10 +38,7 @@ number_at-set bytes v k behind = ap (from_le_bytes w64) (bytes_at-set bytes v k 
 
 steps_at-set : (bytes : List ℕ) (v k n : ℕ) → 8 < k → steps_at (slice_set bytes 8 v) k n ≡ steps_at bytes k n
 steps_at-set bytes v k zero behind = refl
-steps_at-set bytes v k (suc n) behind =
-    ap (λ a. (a, number_at (slice_set bytes 8 v) (k + 8)) ∷ steps_at (slice_set bytes 8 v) (k + 16) n) (number_at-set bytes v k behind)
-    ∙ ap (λ b. (number_at bytes k, b) ∷ steps_at (slice_set bytes 8 v) (k + 16) n) (number_at-set bytes v (k + 8) (omega arith))
-    ∙ ap (λ rest. (number_at bytes k, number_at bytes (k + 8)) ∷ rest) (steps_at-set bytes v (k + 16) n (omega arith))
+steps_at-set bytes v k (suc n) behind = grind (arith, (steps_at-set bytes v (k + 16) n (omega arith)), number_at-set)
 
 fields-set : (bytes : List ℕ) (v : ℕ) → super_fields (slice_set bytes 8 v) ≡ super_fields bytes
 fields-set bytes v =
@@ -107,18 +104,7 @@ module _ (b : List ℕ) (first : get_or b 8 0 ≡ 1) where
 
 -- the byte of version 1
 pub first-byte : (b : List ℕ) → ((i : ℕ) → get_or b i 0 < 256) → number_at b 8 ≡ 1 → get_or b 8 0 ≡ 1
-first-byte b bytes is =
-    let each : (i : ℕ) → i < 8 → get_or (bytes_at b 8 8) i 0 ≡ get_or b (8 + i) 0 = λ i within. get_or-take 8 (drop 8 b) i 0 within ∙ get_or-drop 8 b i 0 in
-    let e0 = each 0 (omega arith) in
-    let e1 = each 1 (omega arith) in
-    let e2 = each 2 (omega arith) in
-    let e3 = each 3 (omega arith) in
-    let e4 = each 4 (omega arith) in
-    let e5 = each 5 (omega arith) in
-    let e6 = each 6 (omega arith) in
-    let e7 = each 7 (omega arith) in
-    let b0 = bytes 8 in
-    omega arith
+first-byte b bytes is = grind (arith, get_or-take, get_or-drop)
 
 pub super1-old : (bytes : List ℕ) → same_bytes magic (bytes_at bytes 0 8) ≡ true → number_at bytes 8 < 1 → super1_read bytes ≡ OldSuper1
 super1-old bytes begins older = let e = lt-ltb (number_at bytes 8) 1 older in rw (begins, e)

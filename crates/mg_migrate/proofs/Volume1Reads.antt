@@ -1,7 +1,8 @@
 -- What an image spells as a volume of version 1, case by case.
-use Rattle.std.specs.Prelude.{◌≡◌, ◌≢◌, ℕ, ◌<◌, ◌≤◌, ◌==◌, nat_le, Bool, true, List, length, if◌then◌else◌, Option, Some, None}
+use Rattle.std.proofs.Common.{arith}
+use Rattle.std.specs.Prelude.{◌≡◌, ◌≢◌, ℕ, ◌<◌, ◌≤◌, Bool, List, length, if◌then◌else◌, Option, Some, None}
 use Rattle.std.specs.Option.{option_map_or}
-use Rattle.std.proofs.Common.{ap, ◌∙◌}
+use Rattle.std.proofs.Common.{ap}
 use Rattle.std.proofs.lemmas.Bool.{and_left, and_right, eq-eqb, le-leb, lt-leb, ne_eqb}
 use Rattle.mg_model.specs.Layout.{gate_open, super_block}
 use Rattle.mg_model.specs.Replay.{block_of, replay}
@@ -14,22 +15,15 @@ use Rattle.mg_migrate.specs.Version1.{NotVolume1, as_volume1, replayed1_volume, 
 
 pub volume1-closed : (image : List (List ℕ)) → gate_byte image ≢ gate_open → volume1 image ≡ NotVolume1
 unfolding volume1
-volume1-closed image closed =
-    ap (λ b. if b then volume1_behind image (super1_read (block_of image super_block)) else NotVolume1)
-    (and_right (nat_le 2 (length image)) (gate_byte image == gate_open) (ne_eqb (gate_byte image) gate_open closed))
+volume1-closed image closed = grind (arith, and_right, ne_eqb)
 
 pub volume1-short : (image : List (List ℕ)) → length image < 2 → volume1 image ≡ NotVolume1
 unfolding volume1
-volume1-short image short =
-    ap (λ b. if b then volume1_behind image (super1_read (block_of image super_block)) else NotVolume1)
-    (and_left (nat_le 2 (length image)) (gate_byte image == gate_open) (lt-leb 2 (length image) short))
+volume1-short image short = grind (arith, and_left, lt-leb)
 
 pub volume1-opened : (image : List (List ℕ)) → IsOpened image → volume1 image ≡ volume1_behind image (super1_read (block_of image super_block))
 unfolding volume1
-volume1-opened image is =
-    let long = le-leb 2 (length image) is.long in
-    let gate = eq-eqb (gate_byte image) gate_open is.gate in
-    rw (long, gate)
+volume1-opened image is = grind (arith, le-leb, eq-eqb)
 
 -- of an image with a superblock of version 1: too short, with a journal that gives none, or with one that gives an image
 abbrev gives : Settings → Bool → Option (List (List ℕ)) → VolumeRead
@@ -39,14 +33,11 @@ pub settled1-short : (settings : Settings) (image : List (List ℕ)) → length 
 settled1-short settings image short = ap (λ t. gives settings t (replay image (total1_blocks settings.frames))) (lt-leb (total1_blocks settings.frames) (length image) short)
 
 pub settled1-none : (settings : Settings) (image : List (List ℕ)) → total1_blocks settings.frames ≤ length image → replay image (total1_blocks settings.frames) ≡ None → settled1_volume image settings ≡ Damaged
-settled1-none settings image long none =
-    ap (λ t. gives settings t (replay image (total1_blocks settings.frames))) (le-leb (total1_blocks settings.frames) (length image) long) ∙ ap (λ r. gives settings true r) none
+settled1-none settings image long none = grind (arith, le-leb)
 
 pub settled1-some : (settings : Settings) (image replayed : List (List ℕ)) → total1_blocks settings.frames ≤ length image → replay image (total1_blocks settings.frames) ≡ Some replayed
     → settled1_volume image settings ≡ replayed1_volume settings replayed
-settled1-some settings image replayed long is =
-    ap (λ t. gives settings t (replay image (total1_blocks settings.frames))) (le-leb (total1_blocks settings.frames) (length image) long) ∙ ap (λ r. gives settings true r) is
+settled1-some settings image replayed long is = grind (arith, le-leb)
 
 pub replayed1-is : (settings : Settings) (image replayed : List (List ℕ)) → IsReplayed1 settings image replayed → volume1 image ≡ as_volume1 (replayed1_volume settings replayed)
-replayed1-is settings image replayed is =
-    volume1-opened image is.opened ∙ ap (volume1_behind image) is.super ∙ ap as_volume1 (settled1-some settings image replayed is.long is.is)
+replayed1-is settings image replayed is = grind (arith, volume1-opened, settled1-some)

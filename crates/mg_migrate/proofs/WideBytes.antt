@@ -1,5 +1,5 @@
 -- A row of version 1 is spelled exactly if its bytes spell the lifted row, once they are moved.
-use Rattle.std.specs.Prelude.{◌≡◌, ℕ, zero, suc, ◌+◌, ◌≤◌, ◌==◌, ◌&&◌, Bool, true, false, List, [], ◌∷◌, ◌++◌, if◌then◌else◌, is_some, length, map, min, replicate, Some, None}
+use Rattle.std.specs.Prelude.{◌≡◌, ℕ, zero, suc, ◌+◌, ◌≤◌, ◌&&◌, Bool, true, false, List, [], ◌∷◌, ◌++◌, if◌then◌else◌, is_some, length, map, min, replicate, Some, None}
 use Rattle.std.specs.Option.{option_map_or}
 use Rattle.std.proofs.Common.{refl, sym, ap, ◌∙◌, arith}
 use Rattle.std.proofs.Math.Bool.{and-true}
@@ -57,27 +57,14 @@ head_of row n =
     ∷ [])
 
 head-fits : (row : ObjectRow) → length (object_head row) ≤ 80
-head-fits row =
-    let words =
-    1 ∷ row.base ∷ row.pages ∷ row.account ∷ length row.passwords ∷ length row.entries
-    ∷ (if is_some row.extension then 1 else 0)
-    ∷ option_map_or (λ (slot : Slot). slot.base) row.extension 0
-    ∷ option_map_or (λ (slot : Slot). slot.password) row.extension 0
-    ∷ [] in
-    let e = length-words_bytes words in
-    omega arith
+head-fits row = grind (arith, length-words_bytes)
 
 words-fit : {X : Type 0} (f : X → ℕ) (xs : List X) → length xs ≤ 16 → length (words_bytes (map f xs)) ≤ 128
 words-fit f xs few = let e = length-words_bytes (map f xs) in let l = length-map xs f in omega arith
 
 module _ (row : ObjectRow) (few : length row.passwords ≤ 16) (few_entries : length row.entries ≤ 16) where
   pub row-long : AreLong (row_head row) (row_passwords row) (row_rights row) (row_entries row)
-  row-long = record {
-    head = length-padded_to 80 (object_head row) (head-fits row);
-    passwords = length-padded_to 128 (words_bytes (map (λ (pw : Pw). pw.password) row.passwords)) (words-fit (λ (pw : Pw). pw.password) row.passwords few);
-    rights = length-padded_to 16 (map (λ (pw : Pw). pw.rights) row.passwords) (let l = length-map row.passwords (λ (pw : Pw). pw.rights) in omega arith);
-    entries = length-padded_to 128 (words_bytes row.entries) (let e = length-words_bytes row.entries in omega arith);
-  }
+  row-long = grind (arith, length-padded_to, head-fits, words-fit, length-map, length-words_bytes)
 
   -- the lifted row has the same parts, filled up further
   pub lifted-spelled : object_bytes (lift_row row) ≡ joined (row_head row) (row_passwords row) (row_rights row) (row_entries row) (length row.passwords)
@@ -108,16 +95,10 @@ module _ (row : ObjectRow) (few : length row.passwords ≤ 16) (few_entries : le
 module _ (h p g e h2 p2 g2 e2 z2 : List ℕ) (n : ℕ) (one : AreLong h p g e) (two : AreLong h2 p2 g2 e2) where
   pub narrow-same : same_bytes (narrow h p g e (replicate 160 0)) (narrow h2 p2 g2 e2 z2)
       ≡ (same_bytes h h2 && (same_bytes p p2 && (same_bytes g g2 && (same_bytes e e2 && same_bytes (replicate 160 0) z2))))
-  narrow-same =
-      let z = replicate 160 0 in
-      same_bytes-append h h2 (p ++ (g ++ (e ++ z))) (p2 ++ (g2 ++ (e2 ++ z2))) (one.head ∙ sym two.head)
-      ∙ ap (λ t. same_bytes h h2 && t) (same_bytes-append p p2 (g ++ (e ++ z)) (g2 ++ (e2 ++ z2)) (one.passwords ∙ sym two.passwords)
-      ∙ ap (λ t. same_bytes p p2 && t) (same_bytes-append g g2 (e ++ z) (e2 ++ z2) (one.rights ∙ sym two.rights)
-      ∙ ap (λ t. same_bytes g g2 && t) (same_bytes-append e e2 z z2 (one.entries ∙ sym two.entries))))
+  narrow-same = grind (arith, same_bytes-append)
 
   more-same : (xs ys : List ℕ) (m : ℕ) → length xs ≡ length ys → same_bytes (xs ++ replicate m 0) (ys ++ replicate m 0) ≡ same_bytes xs ys
-  more-same xs ys m long =
-      same_bytes-append xs ys (replicate m 0) (replicate m 0) long ∙ ap (λ t. same_bytes xs ys && t) (same_bytes-refl (replicate m 0)) ∙ and-true (same_bytes xs ys)
+  more-same xs ys m long = grind (arith, same_bytes-append, same_bytes-refl, and-true)
 
   more-long : (xs ys : List ℕ) (m : ℕ) → length xs ≡ length ys → length (xs ++ replicate m 0) ≡ length (ys ++ replicate m 0)
   more-long xs ys m long = length-append xs (replicate m 0) ∙ ap (λ k. k + length {A = ℕ} (replicate m 0)) long ∙ sym (length-append ys (replicate m 0))
@@ -137,23 +118,10 @@ module _ (h p g e h2 p2 g2 e2 z2 : List ℕ) (n : ℕ) (one : AreLong h p g e) (
 
 -- zeros
 zeros-narrow : (h p g e : List ℕ) → are_zeros (narrow h p g e (replicate 160 0)) ≡ (are_zeros h && (are_zeros p && (are_zeros g && (are_zeros e && true))))
-zeros-narrow h p g e =
-    let z = replicate 160 0 in
-    list_all-append (λ b. b == 0) h (p ++ (g ++ (e ++ z)))
-    ∙ ap (λ t. are_zeros h && t) (list_all-append (λ b. b == 0) p (g ++ (e ++ z))
-    ∙ ap (λ t. are_zeros p && t) (list_all-append (λ b. b == 0) g (e ++ z)
-    ∙ ap (λ t. are_zeros g && t) (list_all-append (λ b. b == 0) e z
-    ∙ ap (λ t. are_zeros e && t) (are_zeros-replicate 160))))
+zeros-narrow h p g e = grind (arith, list_all-append, are_zeros-replicate)
 
 zeros-joined : (h p g e : List ℕ) (n : ℕ) → are_zeros (joined h p g e n) ≡ (are_zeros h && (are_zeros p && (are_zeros g && (are_zeros e && are_zeros (untils n ++ replicate 272 0)))))
-zeros-joined h p g e n =
-    let u = untils n ++ replicate 272 0 in
-    list_all-append (λ b. b == 0) h ((p ++ replicate 128 0) ++ ((g ++ replicate 16 0) ++ (e ++ u)))
-    ∙ ap (λ t. are_zeros h && t) (list_all-append (λ b. b == 0) (p ++ replicate 128 0) ((g ++ replicate 16 0) ++ (e ++ u))
-    ∙ ap (λ t. t && are_zeros ((g ++ replicate 16 0) ++ (e ++ u))) (are_zeros-behind p 128)
-    ∙ ap (λ t. are_zeros p && t) (list_all-append (λ b. b == 0) (g ++ replicate 16 0) (e ++ u)
-    ∙ ap (λ t. t && are_zeros (e ++ u)) (are_zeros-behind g 16)
-    ∙ ap (λ t. are_zeros g && t) (list_all-append (λ b. b == 0) e u)))
+zeros-joined h p g e n = grind (arith, list_all-append, are_zeros-behind)
 
 some-part : (a b c d u : Bool) → (a && (b && (c && (d && true)))) ≡ false → (a && (b && (c && (d && u)))) ≡ false
 some-part false b c d u f = refl

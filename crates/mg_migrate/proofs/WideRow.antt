@@ -1,10 +1,10 @@
 -- A row of version 1 and its bytes where this version has them: both are read alike.
-use Rattle.std.specs.Prelude.{◌≡◌, ℕ, zero, suc, ◌+◌, ◌-◌, ◌*◌, ◌<◌, ◌≤◌, ◌==◌, List, [], ◌∷◌, ◌++◌, get_or, if◌then◌else◌, length, map, min, replicate, slice_index, Some, None}
+use Rattle.std.specs.Prelude.{◌≡◌, ℕ, zero, suc, ◌+◌, ◌*◌, ◌<◌, ◌≤◌, ◌==◌, List, [], ◌++◌, get_or, if◌then◌else◌, length, map, min, replicate, slice_index, Some, None}
 use Rattle.std.proofs.Common.{refl, sym, ap, ◌∙◌, arith, append_assoc}
 use Rattle.std.proofs.Math.ListN.{get_or-append}
 use Rattle.std.proofs.lemmas.List.{length-replicate, length-append}
 use Rattle.mg_model.specs.Abbreviations.{extension_at}
-use Rattle.mg_model.specs.Bytes.{number_at, numbers_at, words_bytes}
+use Rattle.mg_model.specs.Bytes.{number_at, numbers_at}
 use Rattle.mg_model.specs.BytesLemmas.{number_at-behind, numbers_at-behind}
 use Rattle.mg_model.specs.Limits.{never}
 use Rattle.mg_model.specs.Ranges.{IsWord}
@@ -40,9 +40,7 @@ module _ (h p g e z : List ℕ) (n : ℕ) (long : AreLong h p g e) where
   u = untils n ++ replicate 272 0
 
   head-same : (k : ℕ) → k + 8 ≤ 80 → number_at new k ≡ number_at old k
-  head-same k within =
-      let l = long.head in
-      number_at-front h ((p ++ replicate 128 0) ++ ((g ++ replicate 16 0) ++ (e ++ u))) k (omega arith) ∙ sym (number_at-front h (p ++ (g ++ (e ++ z))) k (omega arith))
+  head-same k within = grind (arith, number_at-front)
 
   password-same : (k : ℕ) → k < 16 → number_at new (80 + 8 * k) ≡ number_at old (80 + 8 * k)
   password-same k few =
@@ -92,10 +90,7 @@ module _ (h p g e z : List ℕ) (n : ℕ) (long : AreLong h p g e) where
       ∙ sym (numbers_at-behind h (p ++ (g ++ (e ++ z))) 80 144 m long.head)
 
   in_untils : (k : ℕ) → k < n → number_at u (8 * k) ≡ never
-  in_untils k below =
-      let pad = replicate (256 - length (words_bytes (replicate n never))) 0 in
-      ap (λ v. number_at v (8 * k)) (append_assoc (words_bytes (replicate n never)) pad (replicate 272 0))
-      ∙ number_at-replicate n k never (pad ++ replicate 272 0) never-word below
+  in_untils k below = grind (arith, append_assoc, number_at-replicate, never-word)
 
   until-is : (k : ℕ) → k < n → number_at new (496 + 8 * k) ≡ never
   until-is k below =
@@ -115,14 +110,7 @@ module _ (h p g e z : List ℕ) (n : ℕ) (long : AreLong h p g e) where
 
   passwords-same : (k m : ℕ) → k + m ≤ 16 → k + m ≤ n → passwords_at new k m ≡ map lift_password (passwords1_at old k m)
   passwords-same k zero few within = refl
-  passwords-same k (suc m) few within =
-      let a = password-same k (omega arith) in
-      let b = right-same k (omega arith) in
-      let c = until-is k (omega arith) in
-      ap (λ v. record { password = v; rights = slice_index new (336 + k); until = number_at new (496 + 8 * k) } ∷ passwords_at new (k + 1) m) a
-      ∙ ap (λ v. record { password = number_at old (80 + 8 * k); rights = v; until = number_at new (496 + 8 * k) } ∷ passwords_at new (k + 1) m) b
-      ∙ ap (λ v. record { password = number_at old (80 + 8 * k); rights = slice_index old (208 + k); until = v } ∷ passwords_at new (k + 1) m) c
-      ∙ ap (λ v. record { password = number_at old (80 + 8 * k); rights = slice_index old (208 + k); until = never } ∷ v) (passwords-same (k + 1) m (omega arith) (omega arith))
+  passwords-same k (suc m) few within = grind (arith, (passwords-same (k + 1) m (omega arith) (omega arith)), password-same, right-same, until-is)
 
   extension-same : extension_at new ≡ extension_at old
   extension-same =
