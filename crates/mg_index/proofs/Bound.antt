@@ -1,6 +1,6 @@
 -- A table and its pairs: a look-up, a number that is bound, and numbers that are released.
-use Rattle.std.specs.Prelude.{◌≡◌, ◌≢◌, ◌+◌, ◌-◌, ◌<◌, ◌≤◌, ◌==◌, nat_lt, ℕ, zero, suc, Bool, true, false, List, [], Some, None, insert, length, replicate, slice_index, slice_set}
-use Rattle.std.specs.List.{AllWithin, Contains, list_any, position, position_or_len}
+use Rattle.std.specs.Prelude.{◌≡◌, ◌≢◌, ◌+◌, ◌-◌, ◌<◌, ◌≤◌, ◌==◌, ℕ, zero, suc, Bool, true, false, List, [], Some, None, insert, length, replicate, slice_index, slice_set}
+use Rattle.std.specs.List.{AllWithin, Contains, list_any, position}
 use Rattle.std.proofs.Common.{refl, sym, ap, ◌∙◌, subst, cond, ⊎_elim, arith, get_or, drop, length-drop, length-set, get_or-set_other, get_or-set_same}
 use Rattle.std.proofs.lemmas.Bool.{both_ways, cases_eq, cases_lt, eq-eqb, false_from_ne_true, false≢true, ne_eqb, lt-ltb}
 use Rattle.std.proofs.lemmas.List.{get_or-drop, get_or-replicate, length-replicate}
@@ -22,10 +22,7 @@ one-place numbers pairs up exact number f g at_f at_g =
 
 -- the place of a number that has one
 position-is : (p : ℕ → Bool) (xs : List ℕ) (i : ℕ) → i < length xs → p (get_or xs i 0) ≡ true → ((k : ℕ) → k < i → p (get_or xs k 0) ≡ false) → position p xs ≡ Some i
-position-is p xs i under here before =
-    let at : position_or_len p xs ≡ i = position_or_len_is p xs i 0 (omega arith) before (λ _. here) in
-    let t : nat_lt i (length xs) ≡ true = lt-ltb i (length xs) under in
-    rw (at, t) refl
+position-is p xs i under here before = grind (arith, position_or_len_is, lt-ltb)
 
 pub place-found : (numbers : List ℕ) (pairs : List (ℕ × ℕ)) → Ascends pairs → IsExact numbers pairs → (pair : ℕ × ℕ) → Contains pairs pair → position (λ entry. entry == pair.0) numbers ≡ Some pair.1
 place-found numbers pairs up exact pair there =
@@ -49,24 +46,14 @@ place-not-found numbers pairs number some exact none =
 pub nowhere-else :
     (pairs : List (ℕ × ℕ)) (number i : ℕ) → Ascends pairs → AllWithin (λ (pair : ℕ × ℕ). pair.0 < number) pairs 0 i → AllWithin (λ (pair : ℕ × ℕ). number ≤ pair.0) pairs i (length pairs)
     → ((d : ℕ × ℕ) → i < length pairs → (get_or pairs i d).0 ≢ number) → (k : ℕ) (d : ℕ × ℕ) → k < length pairs → (get_or pairs k d).0 ≢ number
-nowhere-else pairs number i up low high other k d under is =
-    ⊎_elim (λ below. let l = low k d (omega arith) below in omega arith)
-    (λ above. ⊎_elim (λ same. other d (let e : i ≡ k = sym same in omega arith) (ap (λ n. (get_or pairs n d).0) (sym same) ∙ is)) (λ behind. let h = high i d (omega arith) (omega arith) in let r = up i k d (omega arith) under in omega arith) (cases_eq k i))
-    (cases_lt k i)
+nowhere-else pairs number i up low high other k d under is = grind (arith, cases_eq, cases_lt)
 
 -- a number that is bound
 set-count : (numbers : List ℕ) (place number : ℕ) → place < length numbers → number ≢ 0 → slice_index numbers place ≡ 0 → free_count (slice_set numbers place number) + 1 ≡ free_count numbers
-set-count numbers place number under some free =
-    let s = sum_by-set (λ (x : ℕ). cond (x == 0) 1 0) numbers place number 0 under in
-    let was : cond {A = ℕ} (get_or numbers place 0 == 0) 1 0 ≡ 1 = ap (λ (b : Bool). cond {A = ℕ} b 1 0) (eq-eqb (get_or numbers place 0) 0 free) in
-    let now : cond {A = ℕ} (number == 0) 1 0 ≡ 0 = ap (λ (b : Bool). cond {A = ℕ} b 1 0) (ne_eqb number 0 some) in
-    omega arith
+set-count numbers place number under some free = grind (arith, sum_by-set, eq-eqb, ne_eqb)
 
 pub free-count : (numbers : List ℕ) (place : ℕ) → place < length numbers → slice_index numbers place ≢ 0 → free_count (slice_set numbers place 0) ≡ free_count numbers + 1
-free-count numbers place under bound =
-    let s = sum_by-set (λ (x : ℕ). cond (x == 0) 1 0) numbers place 0 0 under in
-    let was : cond {A = ℕ} (get_or numbers place 0 == 0) 1 0 ≡ 0 = ap (λ (b : Bool). cond {A = ℕ} b 1 0) (ne_eqb (get_or numbers place 0) 0 bound) in
-    omega arith
+free-count numbers place under bound = grind (arith, sum_by-set, ne_eqb)
 
 exact-put :
     (numbers : List ℕ) (pairs : List (ℕ × ℕ)) (place number i : ℕ) → i ≤ length pairs → place < length numbers → number ≢ 0 → slice_index numbers place ≡ 0 → IsExact numbers pairs
@@ -80,10 +67,7 @@ exact-put numbers pairs place number i within under some free exact pair = (to, 
     now = (some, omega (arith, long), get_or-set_same numbers place number 0 under)
 
     kept : IsBound numbers pair → IsBound (slice_set numbers place number) pair
-    kept bound =
-        let other : pair.1 ≢ place = λ is. bound.0 (sym bound.2 ∙ ap (λ k. get_or numbers k 0) is ∙ free) in
-        let l = bound.1 in
-        (bound.0, omega (arith, long), get_or-set_other numbers place pair.1 number 0 other ∙ bound.2)
+    kept bound = grind (arith, long, get_or-set_other)
 
     to : Contains (insert pairs i (number, place)) pair → IsBound (slice_set numbers place number) pair
     to there = ⊎_elim (λ new. subst (λ (p : ℕ × ℕ). IsBound (slice_set numbers place number) p) new now) (λ old. kept ((exact pair).0 old)) (insert-cases pairs i (number, place) pair there)
@@ -105,8 +89,7 @@ any-not : (p : ℕ → Bool) (xs : List ℕ) → list_any p xs ≡ false → (k 
 any-not p xs none k under = false_from_ne_true (p (get_or xs k 0)) (λ is. both_ways (list_any p xs) none (list_any_at p xs k 0 under is))
 
 unbound-not : (numbers : List ℕ) (number : ℕ) → list_any (λ entry. entry == number) numbers ≡ false → (pair : ℕ × ℕ) → IsBound numbers pair → pair.0 ≢ number
-unbound-not numbers number none pair bound is =
-    false≢true (sym (any-not (λ entry. entry == number) numbers none pair.1 bound.1) ∙ eq-eqb (get_or numbers pair.1 0) number (bound.2 ∙ is))
+unbound-not numbers number none pair bound is = grind (arith, any-not, eq-eqb)
 
 -- a number that is entered in a place
 pub put-places :
@@ -156,23 +139,7 @@ free-all zero = refl
 free-all (suc n) = let s = sum_by-cons (λ (x : ℕ). cond (x == 0) 1 0) 0 (replicate n 0) in let e = free-all n in omega arith
 
 pub new-places : (n space : ℕ) → n ≤ 65536 → n ≤ space → IsIndexed (replicate n 0) [] space 0
-new-places n space few room =
-    let long = length-replicate {A = ℕ} n 0 in
-    let c = free-all n in
-    record {
-      distinct = distinct-free n;
-      few = omega arith;
-      ascends = λ i j d before under. absurd (omega arith);
-      exact =
-          λ pair. (
-            λ there. absurd (let u = there.1 in omega arith),
-            λ bound. absurd (bound.0 (sym bound.2 ∙ get_or-replicate n pair.1 0 0 (omega (arith, bound.1)))),
-          );
-      count = omega arith;
-      room = omega arith;
-      within = omega arith;
-      none_free = λ k below is. absurd (omega arith);
-    }
+new-places n space few room = grind (arith, length-replicate, free-all, distinct-free, get_or-replicate)
 
 -- the lowest free place
 pub lowest-from : (numbers : List ℕ) (low n : ℕ) → NoneFree numbers low → position (λ entry. entry == 0) (drop low numbers) ≡ Some n → position (λ entry. entry == 0) numbers ≡ Some (low + n)

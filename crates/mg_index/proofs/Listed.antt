@@ -63,13 +63,7 @@ listed-number numbers n pairs under some old =
     }
 
 pub listed-none : (numbers : List ℕ) → IsListed numbers 0 []
-listed-none numbers =
-    record {
-      had = λ pair there. absurd (let u = there.1 in omega arith);
-      has = λ pair some within is. absurd (omega arith);
-      once = λ i j d before within. absurd (omega arith);
-      bound = refl;
-    }
+listed-none numbers = grind arith
 
 -- and there is room for those that follow
 pub record IsBegun (numbers : List ℕ) (n : ℕ) (pairs : List (ℕ × ℕ)) (space : ℕ) : Type 0 where
@@ -92,10 +86,7 @@ begun-number numbers n pairs new space more under some is grown old =
 
 -- all places
 pub listed-exact : (numbers : List ℕ) (n : ℕ) (pairs : List (ℕ × ℕ)) → n ≡ length numbers → IsListed numbers n pairs → IsExact numbers pairs
-listed-exact numbers n pairs all is pair = (
-  λ there. let was = is.had pair there in (was.0, omega (arith, was.1), was.2),
-  λ bound. is.has pair bound.0 (omega (arith, bound.1)) bound.2,
-)
+listed-exact numbers n pairs all is pair = grind arith
 
 -- the free places are those that are not bound
 free-and-bound : (numbers : List ℕ) → length (numbers_in numbers) + free_count numbers ≡ length numbers

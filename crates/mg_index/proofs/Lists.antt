@@ -1,7 +1,7 @@
 -- Lists of which each two elements are in order, and what they contain, after an insertion and once a part is taken out.
 use Rattle.std.specs.Prelude.{◌≡◌, ◌+◌, ◌-◌, ◌<◌, ◌≤◌, ◌⊎◌, ℕ, List, ◌∷◌, ◌++◌, insert, length, drop, take}
 use Rattle.std.specs.List.{AllPairs, Contains, remove_range}
-use Rattle.std.proofs.Common.{sym, ap, ◌∙◌, subst, inl, inr, ⊎_elim, arith, get_or, length-append, length-drop}
+use Rattle.std.proofs.Common.{sym, ap, ◌∙◌, subst, ⊎_elim, arith, get_or, length-append, length-drop}
 use Rattle.std.proofs.lemmas.Bool.{cases_eq, cases_lt}
 use Rattle.std.proofs.lemmas.List.{append-nil, drop_all, get_or-drop, get_or-take, get_or_append_left, get_or-append_right, get_or_default, length-take-le, take_all}
 use Rattle.std.proofs.lemmas.List.Sorted.{Contains-permutation, IsPermutation-insert, IsPermutation-sym}
@@ -65,38 +65,16 @@ insert-pairs {X} R xs i y within each before behind a b d order under = go (plac
 
 -- a list without the elements from one place to before another
 pub length-cut : {X : Type 0} (xs : List X) (i j : ℕ) → i ≤ j → j ≤ length xs → length (remove_range xs i j) + (j - i) ≡ length xs
-length-cut xs i j order within =
-    let a = length-append (take i xs) (drop j xs) in
-    let t = length-take-le i xs (omega arith) in
-    let d = length-drop j xs in
-    omega arith
+length-cut xs i j order within = grind (arith, length-append, length-take-le, length-drop)
 
 pub cut-below : {X : Type 0} (xs : List X) (i j k : ℕ) (d : X) → i ≤ j → j ≤ length xs → k < i → get_or (remove_range xs i j) k d ≡ get_or xs k d
-cut-below xs i j k d order within below =
-    let t = length-take-le i xs (omega arith) in
-    get_or_append_left (take i xs) (drop j xs) d k (omega arith) ∙ get_or-take i xs k d below
+cut-below xs i j k d order within below = grind (arith, length-take-le, get_or_append_left, get_or-take)
 
 pub cut-above : {X : Type 0} (xs : List X) (i j k : ℕ) (d : X) → i ≤ j → j ≤ length xs → i ≤ k → get_or (remove_range xs i j) k d ≡ get_or xs (j + (k - i)) d
-cut-above xs i j k d order within above =
-    get_or-append_right (take i xs) (drop j xs) i k d (length-take-le i xs (omega arith)) above ∙ get_or-drop j xs (k - i) d
+cut-above xs i j k d order within above = grind (arith, get_or-append_right, length-take-le, get_or-drop)
 
 pub cut-pairs : {X : Type 0} (R : X → X → Type 0) (xs : List X) (i j : ℕ) → i ≤ j → j ≤ length xs → AllPairs R xs → AllPairs R (remove_range xs i j)
-cut-pairs {X} R xs i j order within each a b d before under = ⊎_elim (λ u. ⊎_elim (first u) (across u) (cases_lt b i)) second (cases_lt a i)
-  where
-    l : length (remove_range xs i j) + (j - i) ≡ length xs
-    l = length-cut xs i j order within
-
-    both : (u v p q : X) → u ≡ p → v ≡ q → R p q → R u v
-    both u v p q e f r = subst (λ (w : X). R u w) (sym f) (subst (λ (w : X). R w q) (sym e) r)
-
-    first : a < i → b < i → R (get_or (remove_range xs i j) a d) (get_or (remove_range xs i j) b d)
-    first u v = both _ _ _ _ (cut-below xs i j a d order within u) (cut-below xs i j b d order within v) (each a b d before (omega (arith, l)))
-
-    across : a < i → i ≤ b → R (get_or (remove_range xs i j) a d) (get_or (remove_range xs i j) b d)
-    across u v = both _ _ _ _ (cut-below xs i j a d order within u) (cut-above xs i j b d order within v) (each a (j + (b - i)) d (omega (arith, l)) (omega (arith, l)))
-
-    second : i ≤ a → R (get_or (remove_range xs i j) a d) (get_or (remove_range xs i j) b d)
-    second u = both _ _ _ _ (cut-above xs i j a d order within u) (cut-above xs i j b d order within (omega (arith, l))) (each (j + (a - i)) (j + (b - i)) d (omega (arith, l)) (omega (arith, l)))
+cut-pairs {X} R xs i j order within each a b d before under = grind (arith, cases_lt, length-cut, cut-below, cut-above)
 
 -- what is outside the part stays, and nothing else
 pub cut-keeps : {X : Type 0} (xs : List X) (i j k : ℕ) (x : X) → i ≤ j → j ≤ length xs → k < length xs → get_or xs k x ≡ x → (k < i) ⊎ (j ≤ k) → Contains (remove_range xs i j) x
@@ -114,21 +92,8 @@ cut-keeps {X} xs i j k x order within under is outside = ⊎_elim low high outsi
         contains-at (remove_range xs i j) (i + (k - j)) x x (omega (arith, l)) (cut-above xs i j (i + (k - j)) x order within (omega (arith, l)) ∙ ap (λ m. get_or xs m x) e ∙ is)
 
 pub cut-had : {X : Type 0} (xs : List X) (i j : ℕ) (x : X) → i ≤ j → j ≤ length xs → Contains (remove_range xs i j) x → (k : ℕ) × (k < length xs) × (get_or xs k x ≡ x) × ((k < i) ⊎ (j ≤ k))
-cut-had {X} xs i j x order within there = ⊎_elim low high (cases_lt there.0 i)
-  where
-    l : length (remove_range xs i j) + (j - i) ≡ length xs
-    l = length-cut xs i j order within
-
-    under : there.0 < length (remove_range xs i j)
-    under = there.1
-
-    low : there.0 < i → (k : ℕ) × (k < length xs) × (get_or xs k x ≡ x) × ((k < i) ⊎ (j ≤ k))
-    low below = (there.0, omega (arith, l), sym (cut-below xs i j there.0 x order within below) ∙ there.2, inl below)
-
-    high : i ≤ there.0 → (k : ℕ) × (k < length xs) × (get_or xs k x ≡ x) × ((k < i) ⊎ (j ≤ k))
-    high above = (j + (there.0 - i), omega (arith, l), sym (cut-above xs i j there.0 x order within above) ∙ there.2, inr (omega (arith, l)))
+cut-had {X} xs i j x order within there = grind (arith, cases_lt, length-cut, cut-below, cut-above)
 
 -- what a write to the slice of a whole vector leaves
 pub all_over : (n : ℕ) (new old : List ℕ) → length new ≡ n → length old ≡ n → take n (new ++ drop (length new) old) ≡ new
-all_over n new old is was =
-    ap (take n) (ap (λ rest. new ++ rest) (drop_all (length new) old (omega arith)) ∙ append-nil new) ∙ take_all n new (omega arith)
+all_over n new old is was = grind (arith, drop_all, append-nil, take_all)

@@ -1,8 +1,8 @@
 -- A table and its pairs once the numbers of a range are released.
-use Rattle.std.specs.Prelude.{◌≡◌, ◌≢◌, ◌+◌, ◌-◌, ◌<◌, ◌≤◌, ◌⊎◌, nat_lt, nat_le, if◌then◌else◌, ℕ, zero, suc, Bool, true, false, List, [], ◌∷◌, All, length, map, slice_set}
+use Rattle.std.specs.Prelude.{◌≡◌, ◌≢◌, ◌+◌, ◌-◌, ◌<◌, ◌≤◌, ◌⊎◌, if◌then◌else◌, ℕ, zero, suc, Bool, true, false, List, [], ◌∷◌, All, length, map, slice_set}
 use Rattle.std.specs.List.{AllWithin, Contains, between, remove_range}
 use Rattle.std.proofs.Common.{refl, sym, ap, ◌∙◌, subst, inl, inr, ⊎_elim, arith, get_or, length-set, get_or-set_other, get_or-set_same}
-use Rattle.std.proofs.lemmas.Bool.{and_from, and_parts, cases_Bool, cases_eq, cases_lt, false≢true, le-leb, leb-true, lt-ltb, ltb-true}
+use Rattle.std.proofs.lemmas.Bool.{and_from, cases_Bool, cases_eq, cases_lt, false≢true, le-leb, lt-ltb}
 use Rattle.std.proofs.lemmas.List.{ext_get_or, get_or-map, length-map}
 use Rattle.std.proofs.lemmas.List.Edits.{get_or-between, length-between}
 use Rattle.std.proofs.lemmas.List.Elements.{All-head, All-tail}
@@ -73,27 +73,13 @@ inside-free first numbers x inside = ap (λ (t : Bool). if t then 0 else x) insi
 
 module _ (numbers : List ℕ) (pairs : List (ℕ × ℕ)) (up : Ascends pairs) (exact : IsExact numbers pairs) (first count from to : ℕ) (part : IsPart pairs first count from to) where
   pub in_part : (k : ℕ) (d : ℕ × ℕ) → from ≤ k → k < to → is_within first count (get_or pairs k d).0 ≡ true
-  in_part k d low high =
-      let w = part.within in
-      and_from (nat_le first (get_or pairs k d).0) (nat_lt (get_or pairs k d).0 (first + count)) (le-leb first (get_or pairs k d).0 (part.behind_first k d low (omega arith)))
-      (lt-ltb (get_or pairs k d).0 (first + count) (part.before_last k d (omega arith) high))
+  in_part k d low high = grind (arith, and_from, first, le-leb, lt-ltb)
 
   pub out_part : (k : ℕ) (d : ℕ × ℕ) → k < length pairs → (k < from) ⊎ (to ≤ k) → is_within first count (get_or pairs k d).0 ≡ false
-  out_part k d under outside = ⊎_elim (λ inside. absurd (wrong inside)) (λ out. out) (cases_Bool (is_within first count (get_or pairs k d).0))
-    where
-      wrong : is_within first count (get_or pairs k d).0 ≡ true → ⊥
-      wrong inside =
-          let both = and_parts (nat_le first (get_or pairs k d).0) (nat_lt (get_or pairs k d).0 (first + count)) inside in
-          let low = leb-true first (get_or pairs k d).0 both.0 in
-          let high = ltb-true (get_or pairs k d).0 (first + count) both.1 in
-          ⊎_elim (λ l. absurd (let b = part.before k d (omega arith) l in omega arith)) (λ h. absurd (let b = part.behind k d h under in omega arith)) outside
+  out_part k d under outside = grind arith
 
   part_at : (k : ℕ) (d : ℕ × ℕ) → k < length (between from to pairs) → (from + k < to) × (get_or (between from to pairs) k d ≡ get_or pairs (from + k) d)
-  part_at k d under =
-      let l = length-between pairs from to part.within in
-      let o = part.order in
-      let i : from + k < to = omega (arith, l) in
-      (i, get_or-between pairs from to k d i)
+  part_at k d under = grind (arith, length-between, get_or-between)
 
   pub part_bound : All (IsBound numbers) (between from to pairs)
   part_bound k d under =
@@ -102,25 +88,11 @@ module _ (numbers : List ℕ) (pairs : List (ℕ × ℕ)) (up : Ascends pairs) (
       subst (λ (pair : ℕ × ℕ). IsBound numbers pair) (sym at.1) ((exact (get_or pairs (from + k) d)).0 (contains-at pairs (from + k) d (get_or pairs (from + k) d) (omega (arith, at.0)) refl))
 
   pub part_up : Ascends (between from to pairs)
-  part_up i j d before under =
-      let l = length-between pairs from to part.within in
-      let a = part_at i d (omega arith) in
-      let b = part_at j d under in
-      let w = part.within in
-      let rises : (get_or pairs (from + i) d).0 < (get_or pairs (from + j) d).0 = up (from + i) (from + j) d (omega arith) (omega (arith, b.0)) in
-      let x = ap (λ (p : ℕ × ℕ). p.0) a.1 in
-      let y = ap (λ (p : ℕ × ℕ). p.0) b.1 in
-      omega arith
+  part_up i j d before under = grind (arith, length-between, part_at)
 
   -- the numbers of the part are in the range
   part_in : (place : ℕ) → is_within first count (get_or numbers place 0) ≡ false → All (λ (pair : ℕ × ℕ). place ≢ pair.1) (between from to pairs)
-  part_in place out k d under is =
-      let at = part_at k d under in
-      let bound = part_bound k d under in
-      let number : (get_or (between from to pairs) k d).0 ≡ get_or numbers place 0 = sym bound.2 ∙ ap (λ f. get_or numbers f 0) (sym is) in
-      let inside = in_part (from + k) d (omega arith) at.0 in
-      let in_here : is_within first count (get_or numbers place 0) ≡ true = ap (λ x. is_within first count x) (sym number ∙ ap (λ (p : ℕ × ℕ). p.0) at.1) ∙ inside in
-      absurd (false≢true (sym out ∙ in_here))
+  part_in place out k d under is = grind (arith, part_at, part_bound, in_part, first)
 
   pub released_at : (place : ℕ) → place < length numbers → get_or (freed numbers (between from to pairs)) place 0 ≡ unless_within first count (get_or numbers place 0)
   released_at place under = ⊎_elim free bound (cases_eq (get_or numbers place 0) 0)
@@ -199,9 +171,7 @@ module _ (numbers : List ℕ) (pairs : List (ℕ × ℕ)) (up : Ascends pairs) (
       omega arith
 
   none_released : (low new : ℕ) → NoneFree numbers low → new ≤ low → low ≤ length numbers → All (λ (pair : ℕ × ℕ). new ≤ pair.1) (between from to pairs) → NoneFree (map (unless_within first count) numbers) new
-  none_released low new none lower within lowest place under is =
-      none place (omega arith)
-      (sym (freed-else numbers (between from to pairs) place (λ k d there same. absurd (let l = lowest k d there in omega arith))) ∙ ap (λ xs. get_or xs place 0) released ∙ is)
+  none_released low new none lower within lowest place under is = grind (arith, freed-else, released)
 
   pub released-places : (space low new : ℕ) → IsIndexed numbers pairs space low → new ≤ low → All (λ (pair : ℕ × ℕ). new ≤ pair.1) (between from to pairs) → IsIndexed (map (unless_within first count) numbers) (remove_range pairs from to) space new
   released-places space low new old lower lowest =
