@@ -1,10 +1,7 @@
 -- The texts of objects, each by its place, object by object.
-use Rattle.std.specs.Prelude.{◌≡◌, ℕ, suc, ◌+◌, ◌<◌, ◌≤◌, List, [], ◌∷◌, ◌++◌, flat_map, length, slice_index_or, take}
-use Rattle.std.specs.List.{HoldsAt}
-use Rattle.std.proofs.Common.{sym, ap, refl, ◌∙◌, append_assoc, append-nil, arith}
-use Rattle.std.proofs.lemmas.List.{length-take, take_all, take_more}
-use Rattle.mg_model.specs.State.{ObjectRow}
-use Rattle.mg_show.specs.Reached.{by_place}
+use Rattle.mg_show.proofs.Names.{◌≡◌, ℕ, suc, ◌+◌, ◌<◌, ◌≤◌, List, [], ◌∷◌, ◌++◌, flat_map, length, slice_index_or, take, HoldsAt, sym, ap, refl, ◌∙◌}
+use Rattle.mg_show.proofs.Names.{append_assoc, append-nil, arith, take_all, ObjectRow, by_place}
+use Rattle.std.proofs.lemmas.List.{length-take, take_more}
 
 module _ {A : Type 0} (text : ℕ → ObjectRow → List A) where
   places-append : (j : ℕ) (xs ys : List (ℕ × ObjectRow)) → by_place text j (xs ++ ys) ≡ by_place text j xs ++ by_place text (j + length xs) ys

@@ -1,28 +1,15 @@
 -- The graph by the bytes and the ranks of objects is that of the state.
-use Rattle.std.specs.Prelude.{◌≡◌, ℕ, suc, ◌+◌, ◌-◌, ◌<◌, ◌==◌, ◌&&◌, ◌||◌, Bool, true, false, List, [], ◌∷◌, ◌++◌, codes, find, flat_map, if◌then◌else◌, length, map, None, Option, Some, slice_get, slice_index, slice_index_or, take}
-use Rattle.std.specs.List.{HoldsAt, list_any}
-use Rattle.std.specs.Option.{option_map, option_map_or}
-use Rattle.std.proofs.Common.{refl, sym, ap, ◌∙◌, append_assoc, append-nil, arith, get_or}
-use Rattle.std.proofs.Math.Path.{fun_ext}
-use Rattle.std.proofs.lemmas.List.{get_or_default}
-use Rattle.std.proofs.lemmas.List.Folds.{flat_map-map, list_any-append}
-use Rattle.mg_disk.specs.Disk.{Image}
-use Rattle.mg_model.specs.declared.rights.Right.{Right}
-use Rattle.mg_model.specs.declared.rights.Right.TheVariants.{R}
-use Rattle.mg_model.specs.declared.slots.Slot.{Slot}
-use Rattle.mg_model.specs.Access.{holds, last_slots}
-use Rattle.mg_model.specs.Rights.{has_right}
-use Rattle.mg_model.specs.State.{CallFrame, Object, ObjectRow, State, Thread, ThreadRow}
-use Rattle.mg_show.specs.DotFrom.{is_among, part_text, reached, thread_part}
-use Rattle.mg_show.specs.DotText.{arrow, dot_text, entry_arrow, holds_now, is_list, list_arrows, object_name, quoted, slot_arrow, thread_name, thread_node}
-use Rattle.mg_show.specs.Drawn.{bases_of, domains_drawn, entries_drawn, entry_bits, graph_end, graph_head, lists_ranked, node_if, nodes_ranked, part_ranked, slot_bits, threads_drawn}
-use Rattle.mg_show.specs.Marking.{given, is_within, named_by}
-use Rattle.mg_show.specs.Reached.{listed}
-use Rattle.mg_show.specs.ReachText.{letters, letters_by}
-use Rattle.mg_show.specs.Shown.{bare, numbered, object_in, state_shown}
-use Rattle.mg_show.specs.Walked.{AreOpened, AreRanked}
-use Rattle.mg_show.specs.WritingLemmas.{flat_more}
-use Rattle.mg_show.specs.declared.held.Shown.{Shown}
+use Rattle.mg_show.proofs.Names.{◌≡◌, ℕ, suc, ◌+◌, ◌-◌, ◌<◌, ◌==◌, ◌&&◌, ◌||◌, Bool, true, false, List, [], ◌∷◌, ◌++◌, codes, find, flat_map, if◌then◌else◌}
+use Rattle.mg_show.proofs.Names.{length, map, None, Option, Some, slice_index, slice_index_or, take, HoldsAt, list_any, option_map, option_map_or, refl, sym}
+use Rattle.mg_show.proofs.Names.{ap, ◌∙◌, append_assoc, arith, get_or, fun_ext, flat_map-map, list_any-append, Image, Right, R}
+use Rattle.mg_show.proofs.Names.{Slot, holds, last_slots, has_right, Object, ObjectRow, Thread, ThreadRow, is_among, part_text, reached, thread_part}
+use Rattle.mg_show.proofs.Names.{holds_now, is_list, object_name, quoted, slot_arrow, thread_node, bases_of, domains_drawn, entries_drawn, graph_end}
+use Rattle.mg_show.proofs.Names.{graph_head, lists_ranked, node_if, nodes_ranked, threads_drawn, given, is_within, named_by, listed, letters, letters_by}
+use Rattle.mg_show.proofs.Names.{bare, numbered, object_in, state_shown, AreOpened, AreRanked, flat_more, Shown}
+use Rattle.std.specs.Prelude.{slice_get}
+use Rattle.mg_model.specs.State.{CallFrame, State}
+use Rattle.mg_show.specs.DotText.{arrow, dot_text, entry_arrow, list_arrows, thread_name}
+use Rattle.mg_show.specs.Drawn.{entry_bits, part_ranked, slot_bits}
 use Rattle.mg_show.proofs.ByPlaces.{places-more, places-same}
 use Rattle.mg_show.proofs.Letters.{any-right, rights-letters}
 use Rattle.mg_show.proofs.Listing.{held-bare}
@@ -114,14 +101,6 @@ module _ (shown : Shown) (r : Image) (n : ℕ) (bytes ranks : List ℕ) (i : ℕ
       ap (λ v. lists_ranked shown r n bytes ranks (take i shown.objects)
       ++ (if v then entries_drawn shown row.base (listed shown r row) else [])) test
       ∙ places-more arrows shown.objects i below row is
-
-  pub list-past : i < length shown.objects → false ≡ (is_within (slice_index ranks i) n && has_right (slice_index bytes i) R)
-      → lists_ranked shown r n bytes ranks (take i shown.objects) ≡ lists_ranked shown r n bytes ranks (take (i + 1) shown.objects)
-  list-past below test =
-      let none : ℕ × ObjectRow = (0, record { base = 0; pages = 0; account = 0; passwords = []; entries = []; extension = None }) in
-      sym (append-nil (lists_ranked shown r n bytes ranks (take i shown.objects)))
-      ∙ list-next (slice_index_or shown.objects i none).1 false below
-      (λ d. ap (λ (o : ℕ × ObjectRow). o.1) (get_or_default shown.objects i none d below)) test
 
 -- two tests
 if-both : (v w : Bool) (text : List ℕ) → (if v then (if w then text else []) else []) ≡ (if v && w then text else [])

@@ -1,17 +1,12 @@
 -- Text that was put, and what waited of it.
-use Rattle.std.specs.Prelude.{ℕ, ◌≡◌, List, [], ◌++◌, None, Option, Some}
-use Rattle.std.proofs.Common.{refl, sym, ap, inl, inr, subst, append-nil, ⊎_elim, ◌∙◌}
-use Rattle.std.specs.Io.KnownBytes.{Appends}
-use Rattle.std.specs.Option.{ForSome}
-use Rattle.mg_check.specs.Reads.{contents}
+use Rattle.mg_show.proofs.Names.{ℕ, ◌≡◌, List, [], ◌++◌, None, Option, Some, refl, sym, ap, inl, inr, subst, append-nil, ⊎_elim, ◌∙◌, Appends, ForSome}
+use Rattle.mg_show.proofs.Names.{contents, Image, AppendsPrefix, PutsAll, Held, Puts, PutsOf}
 use Rattle.mg_disk.specs.declared.disk.Disk as disks
-use Rattle.mg_disk.specs.Disk.{Image}
-use Rattle.mg_io.specs.Known.{AppendsPrefix}
 use Rattle.mg_io.specs.declared.traits.Sink as sinks
 use Rattle.mg_show.specs.declared.faults.ShowFault.{ShowFault}
 use Rattle.mg_show.specs.declared.faults.ShowFault.TheVariants as fault
-use Rattle.mg_show.specs.Putting.{PutsAll, status_of}
-use Rattle.mg_show.specs.Writing.{Adds, Held, Puts, PutsOf, Writes}
+use Rattle.mg_show.specs.Putting.{status_of}
+use Rattle.mg_show.specs.Writing.{Adds, Writes}
 use Rattle.mg_show.specs.WritingLemmas.{writes_then}
 
 -- what was taken, where nothing waited and nothing waits

@@ -1,6 +1,5 @@
 -- What holds of all threads holds of the one that is found.
-use Rattle.std.specs.Prelude.{◌≡◌, Bool, true, false, All, List, [], ◌∷◌, find, if◌then◌else◌, Some}
-use Rattle.std.proofs.Common.{subst, sym}
+use Rattle.mg_show.proofs.Names.{◌≡◌, Bool, true, false, All, List, [], ◌∷◌, find, if◌then◌else◌, Some, subst, sym}
 use Rattle.std.proofs.lemmas.List.Elements.{All-head, All-tail}
 
 pub found-all : {A : Type 0} (P : A → Type 0) (test : A → Bool) (xs : List A) (x : A) → All P xs → Some x ≡ find test xs → P x

@@ -1,24 +1,12 @@
 -- What reads give, one after another, and what the lists that are read add to marks.
-use Rattle.std.specs.Prelude.{◌≡◌, ℕ, Bool, List, [], ◌++◌, Option}
-use Rattle.std.proofs.Common.{ap, refl, subst, sym, ◌∙◌}
+use Rattle.mg_show.proofs.Names.{◌≡◌, ℕ, Bool, List, [], ◌++◌, Option, ap, refl, subst, ◌∙◌, Image, Fits, Slot, ObjectRow, Finds, Learns, Marks}
+use Rattle.mg_show.proofs.Names.{named_by, Shown, Held, reads_none}
 use Rattle.mg_check.specs.ReadRuns.{same_contents, still_read}
 use Rattle.mg_check.specs.Reads.{OnlyRead}
 use Rattle.mg_disk.specs.declared.disk.Disk as disks
-use Rattle.mg_disk.specs.Disk.{Image}
-use Rattle.mg_journal.specs.Looked.{Fits}
-use Rattle.mg_model.specs.declared.slots.Slot.{Slot}
-use Rattle.mg_model.specs.State.{ObjectRow}
-use Rattle.mg_show.specs.Marking.{Finds, Learns, Marks, named_by}
 use Rattle.mg_show.specs.Shown.{CanShow}
-use Rattle.mg_show.specs.declared.held.Shown.{Shown}
-use Rattle.mg_show.specs.Writing.{Held}
-use Rattle.mg_show.specs.WritingLemmas.{reads_kept, reads_none, reads_then}
+use Rattle.mg_show.specs.WritingLemmas.{reads_kept, reads_then}
 use Rattle.mg_show.proofs.Marked.{marks_none, marks_then}
-
--- three values in other words
-pub moved : {A B C : Type 0} (P : A → B → C → Type 0) {a a' : A} {b b' : B} {c c' : C} → a' ≡ a → b' ≡ b → c' ≡ c → P a b c → P a' b' c'
-moved {A} {B} {C} P {a} {a'} {b} {b'} {c} {c'} first second third has =
-    subst (λ (x : A). P x b' c') (sym first) (subst (λ (y : B). P a y c') (sym second) (subst (λ (z : C). P a b z) (sym third) has))
 
 module _ {D : Type 0} (facts : disks.Ghosts D) where
   pub still_shown : (shown : Shown) {d d' : D} → CanShow facts shown d → OnlyRead facts d d' → CanShow facts shown d'

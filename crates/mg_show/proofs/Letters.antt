@@ -1,15 +1,9 @@
 -- The letters of rights, by their bits and by their tests.
-use Rattle.std.specs.Prelude.{◌≡◌, ℕ, zero, suc, ◌/◌, ◌%◌, ◌<◌, ◌==◌, ◌||◌, not, Bool, true, false, List, [], ◌∷◌, filter, if◌then◌else◌, map}
-use Rattle.std.specs.List.{list_any}
-use Rattle.std.proofs.Common.{refl, sym, ap, ◌∙◌, arith, ⊎_elim}
-use Rattle.std.proofs.Math.Bool.{or-false}
-use Rattle.std.proofs.Math.Path.{fun_ext}
-use Rattle.std.proofs.lemmas.Bool.{cases_Bool, eq-eqb, eqb-true, or_parts}
-use Rattle.mg_model.specs.declared.rights.Right.{Right}
-use Rattle.mg_model.specs.declared.rights.Right.TheVariants.{R, W, X, D, P, O}
-use Rattle.mg_model.specs.Rights.{has_right}
-use Rattle.mg_show.specs.ReachText.{letters, letters_by}
-use Rattle.mg_show.specs.StateText.{rights_text}
+use Rattle.mg_show.proofs.Names.{◌≡◌, ℕ, zero, suc, ◌/◌, ◌%◌, ◌<◌, ◌==◌, ◌||◌, Bool, true, false, List, [], ◌∷◌, filter, if◌then◌else◌, map, list_any, refl}
+use Rattle.mg_show.proofs.Names.{sym, ap, ◌∙◌, arith, ⊎_elim, or-false, fun_ext, cases_Bool, eq-eqb, eqb-true, Right, R, W, X, D, P, O, has_right, letters}
+use Rattle.mg_show.proofs.Names.{letters_by, rights_text}
+use Rattle.std.specs.Prelude.{not}
+use Rattle.std.proofs.lemmas.Bool.{or_parts}
 
 -- the tests of the six rights, one by one
 abbrev pub tests : (r w x d p o : Bool) → Right → Bool

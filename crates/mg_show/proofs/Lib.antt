@@ -1,3 +1,4 @@
+mod Names
 pub mod Paying
 pub mod Texts
 mod WordTexts

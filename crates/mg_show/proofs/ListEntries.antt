@@ -1,8 +1,6 @@
 -- The entries of a list, one by one.
-use Rattle.std.specs.Prelude.{◌≡◌, ℕ, zero, suc, ◌+◌, ◌*◌, ◌<◌, List, [], ◌∷◌, ◌++◌, slice_index}
-use Rattle.std.proofs.Common.{sym, ap, ◌∙◌, arith, get_or}
-use Rattle.mg_model.specs.Access.{entries_from}
-use Rattle.mg_model.specs.Bytes.{block_words, number_at, numbers_at}
+use Rattle.mg_show.proofs.Names.{◌≡◌, ℕ, zero, suc, ◌+◌, ◌*◌, ◌<◌, List, [], ◌∷◌, ◌++◌, slice_index, sym, ap, ◌∙◌, arith, get_or, entries_from, block_words}
+use Rattle.mg_show.proofs.Names.{number_at, numbers_at}
 
 number-of : (bytes : List ℕ) (from n i : ℕ) → i < n → get_or (numbers_at bytes from n) i 0 ≡ number_at bytes (from + 8 * i)
 number-of bytes from zero i below = absurd (omega arith)

@@ -1,20 +1,12 @@
 -- The list in the first page of an object, and the object that has a base.
-use Rattle.std.specs.Prelude.{◌≡◌, ℕ, zero, suc, ◌+◌, ◌*◌, ◌≤◌, ◌==◌, Bool, true, false, List, [], ◌∷◌, ◌++◌, find, if◌then◌else◌, length, map, min, Option, None, Some, slice_index}
-use Rattle.std.specs.Option.{option_map, option_map_or}
-use Rattle.std.proofs.Common.{refl, sym, ap, ◌∙◌, arith}
+use Rattle.mg_show.proofs.Names.{◌≡◌, ℕ, zero, suc, ◌+◌, ◌*◌, ◌≤◌, ◌==◌, Bool, true, false, List, [], ◌∷◌, ◌++◌, find, if◌then◌else◌, length, map, Option}
+use Rattle.mg_show.proofs.Names.{None, Some, slice_index, option_map, option_map_or, refl, sym, ap, ◌∙◌, arith, Image, Right, R, Slot, entries_from}
+use Rattle.mg_show.proofs.Names.{entries_of, entries_under, holds, Object, ObjectRow, object_spelled, page_words, pages_words, holds_now, listed, object_in}
+use Rattle.mg_show.proofs.Names.{state_shown, Shown}
+use Rattle.std.specs.Prelude.{min}
 use Rattle.std.proofs.Math.ListN.{get_or-append}
-use Rattle.mg_disk.specs.Disk.{Image}
-use Rattle.mg_model.specs.declared.rights.Right.{Right}
-use Rattle.mg_model.specs.declared.rights.Right.TheVariants.{R}
-use Rattle.mg_model.specs.declared.slots.Slot.{Slot}
-use Rattle.mg_model.specs.Access.{based_at, entries_from, entries_of, entries_under, holds}
-use Rattle.mg_model.specs.State.{Object, ObjectRow}
-use Rattle.mg_model.specs.Volume.{object_spelled, page_words, pages_words}
+use Rattle.mg_model.specs.Access.{based_at}
 use Rattle.mg_show.proofs.WordTexts.{length-page_words}
-use Rattle.mg_show.specs.DotText.{holds_now}
-use Rattle.mg_show.specs.Reached.{listed}
-use Rattle.mg_show.specs.Shown.{object_in, state_shown}
-use Rattle.mg_show.specs.declared.held.Shown.{Shown}
 
 entries_before : (a b : List ℕ) (j n : ℕ) → length a ≡ 512 → j + n ≤ 255 → entries_from (a ++ b) j n ≡ entries_from a j n
 entries_before a b j zero long few = refl

@@ -1,16 +1,12 @@
 -- A mark for each object, and what capabilities add to it.
-use Rattle.std.specs.Prelude.{◌≡◌, ◌≢◌, ℕ, ◌+◌, ◌<◌, ◌≤◌, ◌==◌, ◌&&◌, ◌⊎◌, ◌||◌, Bool, true, false, All, List, [], ◌∷◌, ◌++◌, length, slice_index, slice_index_or, slice_set, take}
-use Rattle.std.specs.List.{AllPairs, AllWithin, HoldsAt}
-use Rattle.std.proofs.Common.{refl, sym, ap, ◌∙◌, arith, get_or, subst, ⊎_elim}
-use Rattle.std.proofs.Math.Bool.{or-false, or_assoc}
-use Rattle.std.proofs.lemmas.Bool.{cases_eq, cases_lt, eq-eqb, ne_eqb}
-use Rattle.std.proofs.lemmas.List.Folds.{list_any-append}
-use Rattle.std.proofs.lemmas.List.{get_or-set_other, get_or-set_same, length-set, map_more}
-use Rattle.mg_model.specs.declared.slots.Slot.{Slot}
-use Rattle.mg_model.specs.Ranges.{IsObjectRow}
-use Rattle.mg_model.specs.State.{ObjectRow}
-use Rattle.mg_objects.specs.Held.{AreApart}
-use Rattle.mg_show.specs.Marking.{IsCut, IsPlaceOf, Marks, given, named_by}
+use Rattle.mg_show.proofs.Names.{◌≡◌, ◌≢◌, ℕ, ◌+◌, ◌<◌, ◌≤◌, ◌==◌, ◌&&◌, ◌⊎◌, ◌||◌, Bool, false, All, List, [], ◌∷◌, ◌++◌, length, slice_index}
+use Rattle.mg_show.proofs.Names.{slice_index_or, take, AllPairs, AllWithin, HoldsAt, refl, sym, ap, ◌∙◌, arith, get_or, subst, ⊎_elim, or-false, or_assoc}
+use Rattle.mg_show.proofs.Names.{cases_lt, eq-eqb, ne_eqb, list_any-append, map_more, Slot, IsObjectRow, ObjectRow, AreApart, IsPlaceOf, Marks, given}
+use Rattle.mg_show.proofs.Names.{named_by}
+use Rattle.std.specs.Prelude.{slice_set}
+use Rattle.std.proofs.lemmas.Bool.{cases_eq}
+use Rattle.std.proofs.lemmas.List.{get_or-set_other, get_or-set_same, length-set}
+use Rattle.mg_show.specs.Marking.{IsCut}
 
 -- bases rise
 pub bases-rise : (objects : List (ℕ × ObjectRow)) → All (λ (o : ℕ × ObjectRow). IsObjectRow o.1) objects → AreApart objects → AllPairs (λ (a b : ℕ × ObjectRow). a.1.base < b.1.base) objects

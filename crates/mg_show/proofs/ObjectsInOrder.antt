@@ -1,12 +1,10 @@
 -- The objects of a state are those that are held, in the same order.
-use Rattle.std.specs.Prelude.{◌≡◌, ℕ, ◌+◌, nat_lt, List, [], ◌∷◌, if◌then◌else◌, map, None, Option, Some, true, false}
-use Rattle.std.proofs.Common.{refl, sym, ap, ◌∙◌, ⊎_elim}
-use Rattle.std.proofs.lemmas.Bool.{cases_Bool}
+use Rattle.mg_show.proofs.Names.{◌≡◌, ℕ, ◌+◌, nat_lt, List, [], ◌∷◌, if◌then◌else◌, map, None, Option, Some, true, false, refl, sym, ap, ◌∙◌, ⊎_elim}
+use Rattle.mg_show.proofs.Names.{cases_Bool, Object, ObjectRow, object_spelled, objects_in}
 use Rattle.mg_check.specs.RowsRead as rows
 use Rattle.mg_model.specs.Objects.{with_object}
-use Rattle.mg_model.specs.State.{Object, ObjectRow}
-use Rattle.mg_model.specs.Volume.{object_spelled, objects_spelled}
-use Rattle.mg_objects.specs.Held.{by_base, into_place, live_from, objects_in}
+use Rattle.mg_model.specs.Volume.{objects_spelled}
+use Rattle.mg_objects.specs.Held.{by_base, into_place, live_from}
 
 -- the rows that are there, in either words
 pub live-same : {R : Type 0} (i : ℕ) (items : List (Option R)) → rows.live_from i items ≡ live_from i items

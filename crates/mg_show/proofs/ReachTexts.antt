@@ -1,23 +1,8 @@
 -- The text of what threads reach, object by object.
-use Rattle.std.specs.Prelude.{◌≡◌, ℕ, ◌+◌, ◌%◌, ◌==◌, ◌||◌, ◌⊎◌, Bool, true, false, List, [], ◌∷◌, codes, if◌then◌else◌, slice_index, slice_index_or}
-use Rattle.std.specs.Fmt.{decimal}
-use Rattle.std.proofs.Common.{refl, sym, ap, ◌∙◌, inl, inr, ⊎_elim}
-use Rattle.std.proofs.Math.Path.{fun_ext}
-use Rattle.std.proofs.lemmas.Bool.{cases_Bool, eq-eqb, eqb-true}
-use Rattle.mg_disk.specs.Disk.{Image}
-use Rattle.mg_model.specs.declared.rights.Right.{Right}
-use Rattle.mg_model.specs.declared.rights.Right.TheVariants.{R, W, X, D, P, O}
-use Rattle.mg_model.specs.declared.slots.Slot.{Slot}
-use Rattle.mg_model.specs.Access.{capabilities, holds, last_slots}
-use Rattle.mg_model.specs.Print.{hex_text}
-use Rattle.mg_model.specs.Rights.{has_right}
-use Rattle.mg_model.specs.State.{ThreadRow}
-use Rattle.mg_show.specs.Marking.{Marks, given}
-use Rattle.mg_show.specs.Reached.{bits_line, marked_reach, row_reach, thread_reached}
-use Rattle.mg_show.specs.ReachText.{letters_by, reach_line}
-use Rattle.mg_show.specs.Shown.{state_shown}
-use Rattle.mg_show.specs.StateText.{line, rights_text}
-use Rattle.mg_show.specs.declared.held.Shown.{Shown}
+use Rattle.mg_show.proofs.Names.{◌≡◌, ℕ, ◌+◌, ◌%◌, ◌==◌, ◌||◌, ◌⊎◌, Bool, true, false, List, [], ◌∷◌, codes, if◌then◌else◌, slice_index, slice_index_or}
+use Rattle.mg_show.proofs.Names.{decimal, refl, sym, ap, ◌∙◌, inl, inr, ⊎_elim, fun_ext, cases_Bool, eq-eqb, eqb-true, Image, Right, R, W, X, D, P, O, Slot}
+use Rattle.mg_show.proofs.Names.{capabilities, holds, last_slots, hex_text, has_right, ThreadRow, Marks, given, bits_line, marked_reach, row_reach}
+use Rattle.mg_show.proofs.Names.{thread_reached, letters_by, reach_line, state_shown, line, rights_text, Shown}
 use Rattle.mg_show.proofs.ByPlaces.{places-same}
 use Rattle.mg_show.proofs.Letters.{has-none, none-has, rights-letters, tests}
 

@@ -1,24 +1,13 @@
 -- What is defined by the judgement of each access is what the walk over lists gives.
-use Rattle.std.specs.Prelude.{◌≡◌, ℕ, zero, suc, ◌+◌, ◌*◌, ◌<◌, ◌≤◌, ◌==◌, ◌&&◌, nat_le, nat_lt, Bool, true, false, All, List, [], ◌∷◌, ◌++◌, filter, find, flat_map, if◌then◌else◌, length, map, Some}
-use Rattle.std.specs.List.{AllPairs, list_any}
-use Rattle.std.specs.Option.{option_map_or}
-use Rattle.std.proofs.Common.{refl, sym, ap, ◌∙◌, arith, get_or}
-use Rattle.std.proofs.Math.Path.{fun_ext}
-use Rattle.std.proofs.lemmas.Bool.{and_from, and_parts, eq-eqb, le-leb, leb-true, lt-ltb, ltb-true, ne_eqb}
-use Rattle.std.proofs.lemmas.List.Folds.{flat_map-map}
-use Rattle.mg_disk.specs.Disk.{Image}
-use Rattle.mg_model.specs.declared.rights.Right.{Right}
-use Rattle.mg_model.specs.declared.rights.Right.TheVariants.{P}
-use Rattle.mg_model.specs.Access.{allowed, at, capabilities, covers, domain_of, holds, last_slots}
-use Rattle.mg_model.specs.Objects.{page_behind, page_of}
-use Rattle.mg_model.specs.Ranges.{IsObjectRow}
-use Rattle.mg_model.specs.State.{Object, ObjectRow, Thread, ThreadRow}
-use Rattle.mg_objects.specs.Held.{AreApart}
-use Rattle.mg_show.specs.Marking.{given}
-use Rattle.mg_show.specs.Reached.{enter_line, reached_by, row_reach, thread_reached}
-use Rattle.mg_show.specs.ReachText.{enter_lines, letters_by, reach_line, reach_text, rights_now, thread_reach}
-use Rattle.mg_show.specs.Shown.{numbered, object_in, state_shown}
-use Rattle.mg_show.specs.declared.held.Shown.{Shown}
+use Rattle.mg_show.proofs.Names.{◌≡◌, ℕ, zero, suc, ◌+◌, ◌*◌, ◌<◌, ◌≤◌, ◌==◌, ◌&&◌, nat_le, nat_lt, Bool, true, false, All, List, [], ◌∷◌, ◌++◌, filter, find}
+use Rattle.mg_show.proofs.Names.{flat_map, if◌then◌else◌, length, map, Some, AllPairs, list_any, option_map_or, refl, sym, ap, ◌∙◌, arith, get_or, fun_ext}
+use Rattle.mg_show.proofs.Names.{and_parts, eq-eqb, le-leb, leb-true, ne_eqb, flat_map-map, Image, Right, P, capabilities, holds, last_slots, page_behind}
+use Rattle.mg_show.proofs.Names.{page_of, IsObjectRow, Object, ObjectRow, Thread, ThreadRow, AreApart, given, enter_line, row_reach, thread_reached}
+use Rattle.mg_show.proofs.Names.{letters_by, reach_line, numbered, object_in, state_shown, Shown}
+use Rattle.std.proofs.lemmas.Bool.{and_from, lt-ltb, ltb-true}
+use Rattle.mg_model.specs.Access.{allowed, at, covers, domain_of}
+use Rattle.mg_show.specs.Reached.{reached_by}
+use Rattle.mg_show.specs.ReachText.{enter_lines, reach_text, rights_now, thread_reach}
 
 -- the same at each element
 pub flat_map_same : {X Y : Type 0} (f g : X → List Y) (xs : List X) → ((i : ℕ) → i < length xs → (d : X) → f (get_or xs i d) ≡ g (get_or xs i d)) → flat_map f xs ≡ flat_map g xs

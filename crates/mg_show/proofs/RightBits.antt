@@ -1,9 +1,5 @@
 -- Six digits as the bits of the rights.
-use Rattle.std.specs.Prelude.{◌≡◌, ℕ, ◌+◌, ◌*◌, ◌/◌, ◌%◌, ◌≤◌, ◌==◌, Bool}
-use Rattle.std.proofs.Common.{ap, ◌∙◌, arith}
-use Rattle.mg_model.specs.declared.rights.Right.{Right}
-use Rattle.mg_model.specs.declared.rights.Right.TheVariants.{R, W, X, D, P, O}
-use Rattle.mg_model.specs.Rights.{has_right}
+use Rattle.mg_show.proofs.Names.{◌≡◌, ℕ, ◌+◌, ◌*◌, ◌/◌, ◌%◌, ◌≤◌, ◌==◌, Bool, ap, ◌∙◌, arith, Right, R, W, X, D, P, O, has_right}
 
 -- a digit for each right, 1 where it passes
 pub record AreDigits (has : Right → Bool) (r w x d p o : ℕ) : Type 0 where

@@ -1,21 +1,17 @@
 -- What rows keep that were read of a volume, and the parts of the state that they spell.
-use Rattle.std.specs.Prelude.{◌≡◌, ℕ, ◌+◌, ◌&&◌, ◌==◌, nat_le, true, List, [], ◌∷◌, length, map, sum_by}
-use Rattle.std.specs.List.{list_all, list_any}
-use Rattle.std.proofs.Common.{refl, sym, ap, ◌∙◌, arith}
-use Rattle.std.proofs.lemmas.Bool.{and_parts, eqb-true, leb-true}
-use Rattle.std.proofs.lemmas.List.Elements.{All-cons, All-nil, All-weaker}
+use Rattle.mg_show.proofs.Names.{◌≡◌, ℕ, ◌+◌, ◌&&◌, ◌==◌, nat_le, true, List, [], ◌∷◌, length, map, sum_by, list_any, refl, sym, ap, ◌∙◌, arith, and_parts}
+use Rattle.mg_show.proofs.Names.{eqb-true, leb-true, All-cons, All-nil, state_in, VolumeRows, AccRow, page_behind, page_of, Object, ObjectRow, object_spelled}
+use Rattle.mg_show.proofs.Names.{AreApart, objects_in}
+use Rattle.std.specs.List.{list_all}
+use Rattle.std.proofs.lemmas.List.Elements.{All-weaker}
 use Rattle.std.proofs.lemmas.List.Kept.{AllPairs-cons}
-use Rattle.mg_check.specs.RowsRead.{AreKept, placed_from, rows_in, state_in}
-use Rattle.mg_check.specs.declared.volume_rows.VolumeRows.{VolumeRows}
-use Rattle.mg_model.specs.declared.accounts.AccRow.{AccRow}
+use Rattle.mg_check.specs.RowsRead.{AreKept, placed_from, rows_in}
 use Rattle.mg_model.specs.KeptListLemmas.{AllPairs-head, AllPairs-nil}
 use Rattle.mg_model.specs.Limits.{debt_limit}
-use Rattle.mg_model.specs.Objects.{page_behind, page_of}
-use Rattle.mg_model.specs.State.{Object, ObjectRow}
 use Rattle.mg_model.specs.Tests.{all_distinct}
-use Rattle.mg_model.specs.Volume.{accounts_fit, are_apart, bound_pages, has_no_gap, is_page_of, object_spelled, objects_fit, threads_fit}
+use Rattle.mg_model.specs.Volume.{accounts_fit, are_apart, bound_pages, has_no_gap, is_page_of, objects_fit, threads_fit}
 use Rattle.mg_model.specs.Bank.{used}
-use Rattle.mg_objects.specs.Held.{AreApart, IsBefore, objects_in}
+use Rattle.mg_objects.specs.Held.{IsBefore}
 use Rattle.mg_show.proofs.ObjectsInOrder.{objects-in-order}
 
 -- accounts without their places

@@ -1,23 +1,17 @@
 -- From what a text of the contents keeps to what is kept of the volume whose rows were read.
-use Rattle.std.specs.Prelude.{ℕ, ◌≡◌, List, Some}
-use Rattle.std.specs.Io.KnownBytes.{Appends}
-use Rattle.std.specs.Option.{ForSome}
-use Rattle.std.proofs.Common.{refl, ap, ◌∙◌, inl, inr, subst, ⊎_elim}
+use Rattle.mg_show.proofs.Names.{ℕ, ◌≡◌, List, Some, Appends, ForSome, refl, ap, ◌∙◌, inl, inr, subst, ⊎_elim, contents, state_in, VolumeRows, Image}
+use Rattle.mg_show.proofs.Names.{AppendsPrefix, text_of, PutsAll}
 use Rattle.mg_check.specs.ReadRuns.{only_none}
-use Rattle.mg_check.specs.Reads.{contents}
-use Rattle.mg_check.specs.RowsRead.{IsReadAs, state_in}
-use Rattle.mg_check.specs.declared.volume_rows.VolumeRows.{VolumeRows}
+use Rattle.mg_check.specs.RowsRead.{IsReadAs}
 use Rattle.mg_disk.specs.declared.disk.Disk as disks
-use Rattle.mg_disk.specs.Disk.{Image}
-use Rattle.mg_io.specs.Known.{AppendsPrefix, AppendsPrefix-none}
+use Rattle.mg_io.specs.Known.{AppendsPrefix-none}
 use Rattle.mg_io.specs.declared.traits.Sink as sinks
 use Rattle.mg_model.specs.Layout.{total_blocks}
 use Rattle.mg_model.specs.Replay.{replay}
 use Rattle.mg_model.specs.Words.{and_then}
 use Rattle.mg_serve.specs.declared.status.Status.{Status}
 use Rattle.mg_serve.specs.declared.status.Status.TheVariants as status
-use Rattle.mg_show.specs.Commands.{text_of}
-use Rattle.mg_show.specs.Putting.{PutsAll, ShowsRows}
+use Rattle.mg_show.specs.Putting.{ShowsRows}
 use Rattle.mg_show.specs.declared.command.Text.{Text}
 
 module _ {D K : Type 0} (facts : disks.Ghosts D) (to : sinks.Ghosts K) (asked : Text) (rows : VolumeRows) (d : D) (s : K) (told : ForSome (facts.seen d) (IsReadAs rows)) where

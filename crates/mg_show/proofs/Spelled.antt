@@ -1,5 +1,5 @@
 -- What the words of a command line ask for, by their number.
-use Rattle.std.proofs.Common.{ℕ, ◌<◌, ◌≤◌, ◌≡◌, List, [], ◌∷◌, length, get_or, None, Some, refl, ap, ◌∙◌, arith}
+use Rattle.mg_show.proofs.Names.{ℕ, ◌<◌, ◌≤◌, ◌≡◌, List, [], ◌∷◌, length, get_or, None, Some, refl, ap, ◌∙◌, arith}
 use Rattle.std.specs.Prelude.{String}
 use Rattle.std.specs.String.{string_bytes}
 use Rattle.std.specs.declared.alloc.Global.{Global}

@@ -1,21 +1,10 @@
 -- The state of a volume that is held is the one that its rows spell, and its text.
-use Rattle.std.specs.Prelude.{◌≡◌, ℕ, ◌++◌, flat_map, length, map}
-use Rattle.std.proofs.Common.{ap, sym, ◌∙◌}
-use Rattle.std.proofs.Math.Path.{fun_ext}
-use Rattle.std.proofs.lemmas.List.Folds.{flat_map-map}
-use Rattle.std.proofs.lemmas.Simd.{map-map}
-use Rattle.mg_bank.specs.Bank.{pages_at}
-use Rattle.mg_check.specs.RowsRead.{state_in}
-use Rattle.mg_check.specs.declared.volume_rows.VolumeRows.{VolumeRows}
-use Rattle.mg_disk.specs.Disk.{Image}
-use Rattle.mg_model.specs.State.{Object, ObjectRow, ThreadRow}
-use Rattle.mg_model.specs.Volume.{object_spelled}
-use Rattle.mg_objects.specs.Held.{objects_in}
+use Rattle.mg_show.proofs.Names.{◌≡◌, ℕ, ◌++◌, flat_map, length, map, ap, sym, ◌∙◌, fun_ext, flat_map-map, map-map, pages_at, state_in, VolumeRows, Image}
+use Rattle.mg_show.proofs.Names.{Object, ObjectRow, ThreadRow, object_spelled, objects_in, numbered, object_in, state_shown, accounts_text, object_text}
+use Rattle.mg_show.proofs.Names.{pages_paid, thread_text, words_text, rows_text, Shown}
 use Rattle.mg_space.specs.Space.{ArePaid}
-use Rattle.mg_show.specs.Shown.{numbered, object_in, state_shown}
-use Rattle.mg_show.specs.StateText.{accounts_text, counters_text, object_text, pages_paid, settings_text, state_text, thread_text, words_text}
-use Rattle.mg_show.specs.WordText.{row_text, rows_text}
-use Rattle.mg_show.specs.declared.held.Shown.{Shown}
+use Rattle.mg_show.specs.StateText.{counters_text, settings_text, state_text}
+use Rattle.mg_show.specs.WordText.{row_text}
 use Rattle.mg_show.proofs.ObjectsInOrder.{objects-in-order}
 use Rattle.mg_show.proofs.Paying.{paid-rows}
 use Rattle.mg_show.proofs.RowsKept.{accounts-placed}

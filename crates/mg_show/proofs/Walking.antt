@@ -1,29 +1,14 @@
 -- What is reached step by step, and the ranks that a walk gives.
-use Rattle.std.specs.Prelude.{◌≡◌, ℕ, zero, suc, ◌+◌, ◌<◌, ◌≤◌, ◌==◌, ◌&&◌, ◌||◌, nat_le, Bool, true, false, List, [], ◌∷◌, ◌++◌, flat_map, if◌then◌else◌, length, map, None, slice_index, slice_index_or, take}
-use Rattle.std.specs.List.{HoldsAt}
-use Rattle.std.proofs.Common.{append-nil, refl, sym, ap, subst, ◌∙◌, arith, ⊎_elim}
-use Rattle.std.proofs.Math.Bool.{and-false, and-or_distrib_right, and-true, or-false, or_assoc}
-use Rattle.std.proofs.lemmas.Bool.{cases_lt, le-leb, lt-leb}
+use Rattle.mg_show.proofs.Names.{◌≡◌, ℕ, zero, suc, ◌+◌, ◌<◌, ◌≤◌, ◌==◌, ◌&&◌, ◌||◌, nat_le, Bool, true, false, List, [], ◌∷◌, ◌++◌, flat_map, if◌then◌else◌}
+use Rattle.mg_show.proofs.Names.{length, map, None, slice_index, slice_index_or, take, HoldsAt, append-nil, refl, sym, ap, subst, ◌∙◌, arith, ⊎_elim}
+use Rattle.mg_show.proofs.Names.{or-false, or_assoc, cases_lt, le-leb, list_any-append, map-append, map-map, Image, R, Slot, entries_of}
+use Rattle.mg_show.proofs.Names.{has_right, Object, ObjectRow, is_among, reached, is_list, bases_of, Marks, given, gives_rank, is_within, named_by, by_place}
+use Rattle.mg_show.proofs.Names.{listed, object_in, state_shown, AreOpened, AreRanked, listed_at, Shown}
+use Rattle.std.proofs.Math.Bool.{and-false, and-or_distrib_right, and-true}
+use Rattle.std.proofs.lemmas.Bool.{lt-leb}
 use Rattle.std.proofs.lemmas.Bool.Decides.{nat_tests}
-use Rattle.std.proofs.lemmas.List.Folds.{list_any-append}
-use Rattle.std.proofs.lemmas.List.{get_or_default, map-append}
-use Rattle.std.proofs.lemmas.Simd.{map-map}
-use Rattle.mg_disk.specs.Disk.{Image}
-use Rattle.mg_model.specs.declared.rights.Right.TheVariants.{R}
-use Rattle.mg_model.specs.declared.slots.Slot.{Slot}
-use Rattle.mg_model.specs.Access.{entries_of}
-use Rattle.mg_model.specs.Rights.{has_right}
-use Rattle.mg_model.specs.State.{Object, ObjectRow}
-use Rattle.mg_show.specs.DotFrom.{is_among, reached}
-use Rattle.mg_show.specs.DotText.{is_list}
-use Rattle.mg_show.specs.Drawn.{bases_of}
-use Rattle.mg_show.specs.Marking.{Marks, given, gives_rank, is_within, named_by}
-use Rattle.mg_show.specs.Reached.{by_place, listed}
-use Rattle.mg_show.specs.Shown.{object_in, state_shown}
-use Rattle.mg_show.specs.Walked.{AreOpened, AreRanked, listed_at}
-use Rattle.mg_show.specs.declared.held.Shown.{Shown}
 use Rattle.mg_show.proofs.ByPlaces.{places-more}
-use Rattle.mg_show.proofs.Marked.{marks_none, marks_then}
+use Rattle.mg_show.proofs.Marked.{marks_then}
 
 -- Tests
 
@@ -255,13 +240,3 @@ module _ (shown : Shown) (r : Image) (bytes first : List ℕ) (m i : ℕ) where
       (ap (λ v. caps ++ (if v then listed shown r row else [])) (test ∙ ap (λ v. v && has_right (slice_index bytes i) R) kept)
       ∙ places-more next shown.objects i below row is)
       (marks_then is_within (gives_rank (m + 1)) shown.objects caps (if v then listed shown r row else []) first ranks new before after)
-
-  pub listed-past : (ranks : List ℕ) → 1 ≤ m → i < length shown.objects
-      → false ≡ (slice_index ranks i == m && has_right (slice_index bytes i) R)
-      → Marks is_within (gives_rank (m + 1)) shown.objects (listed_at shown r bytes first m (take i shown.objects)) first ranks
-      → Marks is_within (gives_rank (m + 1)) shown.objects (listed_at shown r bytes first m (take (i + 1) shown.objects)) first ranks
-  listed-past ranks some below test before =
-      let none : ℕ × ObjectRow = (0, record { base = 0; pages = 0; account = 0; passwords = []; entries = []; extension = None }) in
-      listed-next (slice_index_or shown.objects i none).1 false ranks ranks some below
-      (λ d. ap (λ (o : ℕ × ObjectRow). o.1) (get_or_default shown.objects i none d below)) test before
-      (marks_none is_within (gives_rank (m + 1)) shown.objects ranks)

@@ -1,16 +1,11 @@
 -- Words as text, some behind others.
-use Rattle.std.specs.Prelude.{◌≡◌, ℕ, zero, suc, ◌+◌, ◌*◌, ◌/◌, ◌%◌, ◌==◌, List, [], ◌∷◌, ◌++◌, length, Option, position, replicate, Some, None}
-use Rattle.std.specs.Option.{option_map_or}
-use Rattle.std.proofs.Common.{refl, sym, ap, ◌∙◌, append_assoc, append-nil, length-append, arith}
+use Rattle.mg_show.proofs.Names.{◌≡◌, ℕ, zero, suc, ◌+◌, ◌*◌, ◌/◌, ◌%◌, ◌==◌, List, [], ◌∷◌, ◌++◌, length, Option, Some, None, option_map_or, refl, sym, ap}
+use Rattle.mg_show.proofs.Names.{◌∙◌, append_assoc, append-nil, length-append, arith, block_words, number_at, numbers_at, first_frame, page_of, ObjectRow}
+use Rattle.mg_show.proofs.Names.{page_words, pages_words, words_text, word_text}
+use Rattle.std.specs.Prelude.{position, replicate}
 use Rattle.std.proofs.lemmas.List.{length-replicate}
-use Rattle.mg_model.specs.Bytes.{block_words, number_at, numbers_at}
-use Rattle.mg_model.specs.Layout.{first_frame}
-use Rattle.mg_model.specs.Objects.{page_of}
 use Rattle.mg_model.specs.Replay.{block_of}
-use Rattle.mg_model.specs.State.{ObjectRow}
-use Rattle.mg_model.specs.Volume.{page_words, pages_words}
-use Rattle.mg_show.specs.StateText.{words_text}
-use Rattle.mg_show.specs.WordText.{block_text, page_text, pages_text, row_text, word_text}
+use Rattle.mg_show.specs.WordText.{block_text, page_text, pages_text, row_text}
 
 -- behind other words
 words_text-append : (address : ℕ) (xs ys : List ℕ) → words_text address (xs ++ ys) ≡ words_text address xs ++ words_text (address + 8 * length xs) ys

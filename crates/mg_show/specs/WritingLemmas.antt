@@ -2,9 +2,8 @@
 use Rattle.std.specs.Prelude.{◌⊎◌, IsTrue, false, is_some, Some, None}
 use Rattle.std.specs.List.{HoldsAt, flat_map}
 use Rattle.std.specs.Option.{ForSome, option_map_or}
-use Rattle.std.proofs.Common.{◌≡◌, ℕ, suc, ◌+◌, ◌<◌, List, [], ◌∷◌, ◌++◌, Option, length, get_or, take, ap, arith, sym, refl, inl, inr, ⊎_elim, ◌∙◌, append_assoc, append-nil, subst}
-use Rattle.std.proofs.lemmas.Grind.{flat_map-append}
-use Rattle.std.proofs.Math.Seq.{take-suc}
+use Rattle.std.proofs.Common.{◌≡◌, ℕ, ◌+◌, ◌<◌, ◌≤◌, List, [], ◌++◌, Option, length, get_or, take, ap, sym, refl, inl, inr, ⊎_elim, ◌∙◌, append_assoc, append-nil, subst}
+use Rattle.std.proofs.lemmas.List.{flat_map_more, take_all, take_more}
 use Rattle.mg_check.specs.ReadRuns.{only_none, only_then, same_contents}
 use Rattle.mg_check.specs.Reads.{OnlyRead, contents}
 use Rattle.mg_disk.specs.declared.disk.Disk as disks
@@ -141,14 +140,7 @@ module _ {K : Type 0} (to : sinks.Ghosts K) where
 
 -- what a list's elements give, one element more
 pub flat_more : {A B : Type 0} (f : A → List B) (xs : List A) (i : ℕ) (d : A) → i < length xs → flat_map f (take i xs) ++ f (get_or xs i d) ≡ flat_map f (take (i + 1) xs)
-flat_more f xs i d h =
-    let s : i + 1 ≡ suc i = omega arith in
-    sym (
-    ap (λ n. flat_map f (take n xs)) s
-    ∙ ap (flat_map f) (take-suc xs i d h)
-    ∙ flat_map-append f (take i xs) (get_or xs i d ∷ [])
-    ∙ ap (λ v. flat_map f (take i xs) ++ v) (append-nil (f (get_or xs i d)))
-    )
+flat_more f xs i d h = flat_map_more f [] (take i xs) (get_or xs i d) ∙ sym (ap (flat_map f) (take_more xs i d h))
 
 -- the text of an object more
 pub objects_more : (f : ObjectRow → List ℕ) (objects : List (ℕ × ObjectRow)) (i : ℕ) (row : ObjectRow) → i < length objects → HoldsAt (λ (o : ℕ × ObjectRow). row ≡ o.1) objects i
@@ -160,6 +152,11 @@ pub puts_more : {A K : Type 0} (to : sinks.Ghosts K) (f : A → List ℕ) (xs : 
     → i < length xs → x ≡ get_or xs i x → Puts to (flat_map f (take i xs)) s s' o o' → Puts to (f x) s' s'' o' o'' → Puts to (flat_map f (take (i + 1) xs)) s s'' o o''
 puts_more to f xs i x {s} {s'} {s''} {o} {o'} {o''} h is first second =
     puts_same to (flat_more f xs i x h) (puts_then to first (subst (λ y. Puts to (f y) s' s'' o' o'') is second))
+
+-- all of a list, behind its last element
+pub puts_all : {A K : Type 0} (to : sinks.Ghosts K) (text : List A → List ℕ) (xs : List A) (i : ℕ) {s s' : K} {o o' : Held}
+    → length xs ≤ i → Puts to (text (take i xs)) s s' o o' → Puts to (text xs) s s' o o'
+puts_all to text xs i end = puts_same to (ap text (take_all i xs end))
 
 -- Text of what a disk holds
 
@@ -219,6 +216,10 @@ module _ {D K : Type 0} (facts : disks.Ghosts D) (to : sinks.Ghosts K) {of : Ima
   -- the same text in other words
   pub of_same : {a b : Image → List ℕ} {d d' : D} {s s' : K} {o o' : Held} → ((r : Image) → a r ≡ b r) → PutsOf facts to of a d d' s s' o o' → PutsOf facts to of b d d' s s' o o'
   of_same e puts = record { told = puts.told; is = λ r told. puts.is r told ∙ e r; writes = puts.writes; reads = puts.reads; disk_rose = puts.disk_rose }
+
+  pub of_all : {A : Type 0} (text : Image → List A → List ℕ) (xs : List A) (i : ℕ) {d d' : D} {s s' : K} {o o' : Held}
+      → length xs ≤ i → PutsOf facts to of (λ r. text r (take i xs)) d d' s s' o o' → PutsOf facts to of (λ r. text r xs) d d' s s' o o'
+  of_all text xs i end = of_same (λ r. ap (text r) (take_all i xs end))
 
   -- a text after reads, which is that of the contents unless one failed
   after_reads : {text : List ℕ} {whole : Image → List ℕ} {d d' d'' : D} {s s' : K} {o o' o'' : Held} → Reads facts d d' o o' → Writes to text s s' o' o'' → OnlyRead facts d d'' → CountGoes facts d' d''

@@ -1,6 +1,5 @@
 // The words of the command line.
 ghost use Rattle.std.specs.Prelude.{◌≡◌};
-ghost use Rattle.mg_model.specs.Words.{and_then, number_of};
 ghost use Rattle.mg_io.specs.Arguments.{arguments};
 ghost use Rattle.mg_show.specs.Commands.{named, part_from, part_named, spelled, within_steps};
 
@@ -63,7 +62,11 @@ fn part_named(word: &[u8], start: &[u8], number: &[u8], steps: &[u8]) -> Option<
     ensures { result ≡ part_named word.now start.now number.now steps.now }
 {
     if is_word(word, b"dot") {
-        part_from(start, read_number(number)?, read_steps(steps)?)
+        part_from(
+            start,
+            read_number(number)?,
+            within_steps(read_number(steps)?)?,
+        )
     } else {
         None
     }
@@ -80,13 +83,6 @@ fn part_from(start: &[u8], number: u64, steps: u16) -> Option<Text>
     } else {
         None
     }
-}
-
-// A number of steps.
-fn read_steps(word: &[u8]) -> Option<u16>
-    ensures { result ≡ and_then (number_of word.now) within_steps }
-{
-    within_steps(read_number(word)?)
 }
 
 // A number of steps, if it is 1 to 4,096.

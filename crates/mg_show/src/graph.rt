@@ -1,18 +1,24 @@
 // A volume as a graph, and the part of it that a thread or an object reaches in a number of steps, written as text.
-ghost use Rattle.std.specs.Prelude.{◌≡◌, ◌+◌, ◌≤◌, ◌<◌, ◌==◌, All, length, map};
+ghost use Rattle.std.specs.Prelude.{◌≡◌, ◌+◌, ◌≤◌, ◌<◌, ◌==◌, ◌&&◌, [], All, flat_map, if◌then◌else◌, length, map};
 ghost use Rattle.std.specs.Option.{option_copied};
 ghost use Rattle.std.specs.List.{find};
 ghost use Rattle.mg_model.specs.Limits.{thread_limit};
+ghost use Rattle.mg_model.specs.Rights.{has_right};
+ghost use Rattle.mg_model.specs.declared.rights.Right.TheVariants.{R};
 ghost use Rattle.mg_show.specs.DotFrom.{object_part, part_text, thread_part};
-ghost use Rattle.mg_show.specs.DotText.{dot_text};
-ghost use Rattle.mg_show.specs.Drawn.{bases_of, graph_end, graph_head, node_if, nodes_ranked, part_ranked, threads_drawn};
-ghost use Rattle.mg_show.specs.Shown.{CanShow, held_in, numbered, state_shown};
+ghost use Rattle.mg_show.specs.DotText.{dot_text, entry_arrow, slot_arrow};
+ghost use Rattle.mg_show.specs.Drawn.{bases_of, domains_drawn, entries_drawn, lists_ranked, node_if, nodes_ranked, part_ranked, threads_drawn};
+ghost use Rattle.mg_show.specs.Marking.{is_within, named_by};
+ghost use Rattle.mg_show.specs.Reached.{listed};
+ghost use Rattle.mg_show.specs.Shown.{CanShow, bare, held_in, numbered, state_shown};
 ghost use Rattle.mg_show.specs.Writing.{Puts, PutsOf};
 
-use crate::arrows::{put_domains, put_lists};
-use crate::graph_lines::{print_object_node, print_thread_node};
+use crate::graph_lines::{
+    print_entry_arrow, print_object_node, print_slot_arrow, print_thread_node,
+};
 use crate::held::Shown;
-use crate::marks::{fill, has_r, is_within, mark_opened, rank};
+use crate::marks::{fill, has_r, is_within, mark_opened, rank, rights_on};
+use crate::pages::list_of;
 use crate::walk::walk;
 use crate::writer::Writer;
 use mg_disk::Disk;
@@ -45,21 +51,20 @@ pub(crate) fn put_graph<D: Disk, K: Sink>(
 pub(crate) fn put_thread_part<D: Disk, K: Sink>(
     shown: &Shown,
     number: u64,
-    steps: u64,
+    steps: u16,
     bytes: &mut [u8],
     ranks: &mut [u64],
     disk: &mut D,
     out: &mut Writer,
     sink: &mut K,
 )
-    requires few { steps ≤ 65535 }
     requires places { All (λ t. t.0 < thread_limit) shown.now.threads.items }
     requires long { length bytes.old ≡ length shown.now.objects }
     requires long_ranks { length ranks.old ≡ length shown.now.objects }
     requires can { CanShow D.Disk shown.now disk.old }
     ensures { PutsOf D.Disk K.Sink (held_in shown.now) (λ r. thread_part (state_shown shown.now r) number steps) disk.old disk.new sink.old sink.new out.old out.new }
 {
-    let n = steps.saturating_sub(1);
+    let n = u64::from(steps.saturating_sub(1));
     match thread_of(&shown.threads, number) {
         Some(thread) => {
             let last = thread.1.last();
@@ -74,21 +79,21 @@ pub(crate) fn put_thread_part<D: Disk, K: Sink>(
 pub(crate) fn put_object_part<D: Disk, K: Sink>(
     shown: &Shown,
     base: u64,
-    steps: u64,
+    steps: u16,
     bytes: &mut [u8],
     ranks: &mut [u64],
     disk: &mut D,
     out: &mut Writer,
     sink: &mut K,
 )
-    requires few { steps ≤ 65535 }
     requires long { length bytes.old ≡ length shown.now.objects }
     requires long_ranks { length ranks.old ≡ length shown.now.objects }
     requires can { CanShow D.Disk shown.now disk.old }
     ensures { PutsOf D.Disk K.Sink (held_in shown.now) (λ r. object_part (state_shown shown.now r) base steps) disk.old disk.new sink.old sink.new out.old out.new }
 {
     let start = [Slot { base, password: 0 }];
-    put_part(shown, &[], &start, steps, bytes, ranks, disk, out, sink);
+    let n = u64::from(steps);
+    put_part(shown, &[], &start, n, bytes, ranks, disk, out, sink);
 }
 
 // The thread with this number.
@@ -184,10 +189,9 @@ fn put_nodes<K: Sink>(
     requires long_ranks { length ranks.now ≡ length shown.now.objects }
     ensures { Puts K.Sink (nodes_ranked steps bytes.now ranks.now shown.now.objects) sink.old sink.new out.old out.new }
 {
-    let objects = shown.objects.objects();
-    for i in 0..objects.len() {
+    for i in 0..shown.count() {
         let is_shown = is_within(ranks[i], steps + 1);
-        put_node(is_shown, has_r(bytes[i]), objects.nth_ref(i), out, sink);
+        put_node(is_shown, has_r(bytes[i]), shown.row(i), out, sink);
     }
 }
 
@@ -198,4 +202,102 @@ fn put_node<K: Sink>(is_shown: bool, is_list: bool, row: &ObjRow, out: &mut Writ
     if is_shown {
         out.line(print_object_node(row, is_list), sink);
     }
+}
+
+/// Writes an arrow for each slot of the present frames of threads, which have their places.
+fn put_domains<K: Sink>(shown: &Shown, threads: &[(u64, ThrRow)], out: &mut Writer, sink: &mut K)
+    requires { All (λ t. t.0 < thread_limit) threads.now }
+    ensures { Puts K.Sink (domains_drawn shown.now threads.now) sink.old sink.new out.old out.new }
+{
+    for t in threads {
+        let last = t.1.last();
+        put_slots(shown, t.0 + 1, last.slots(), out, sink);
+    }
+}
+
+fn put_slots<K: Sink>(shown: &Shown, thread: u64, slots: &[Slot], out: &mut Writer, sink: &mut K)
+    ensures { Puts K.Sink (flat_map (slot_arrow (bare shown.now) thread) slots.now) sink.old sink.new out.old out.new }
+{
+    for slot in slots {
+        put_slot(shown, thread, *slot, out, sink);
+    }
+}
+
+fn put_slot<K: Sink>(shown: &Shown, thread: u64, slot: Slot, out: &mut Writer, sink: &mut K)
+    ensures { Puts K.Sink (slot_arrow (bare shown.now) thread slot) sink.old sink.new out.old out.new }
+{
+    let bits = rights_on(shown, slot.base, slot.password);
+    out.line(print_slot_arrow(thread, slot.base, bits), sink);
+}
+
+/// Writes the arrows of the lists whose rank is from 1 to `steps`. A byte has R for a list. Each of them is read once.
+fn put_lists<D: Disk, K: Sink>(
+    shown: &Shown,
+    steps: u64,
+    bytes: &[u8],
+    ranks: &[u64],
+    disk: &mut D,
+    out: &mut Writer,
+    sink: &mut K,
+)
+    requires long { length bytes.now ≡ length shown.now.objects }
+    requires long_ranks { length ranks.now ≡ length shown.now.objects }
+    requires can { CanShow D.Disk shown.now disk.old }
+    ensures { PutsOf D.Disk K.Sink (held_in shown.now) (λ r. lists_ranked shown.now r steps bytes.now ranks.now shown.now.objects) disk.old disk.new sink.old sink.new out.old out.new }
+{
+    for i in 0..shown.count() {
+        let is_left = is_within(ranks[i], steps) & has_r(bytes[i]);
+        put_left(is_left, shown, shown.row(i), disk, out, sink);
+    }
+}
+
+// Writes the arrows of a list, if it is left.
+fn put_left<D: Disk, K: Sink>(
+    is_left: bool,
+    shown: &Shown,
+    row: &ObjRow,
+    disk: &mut D,
+    out: &mut Writer,
+    sink: &mut K,
+)
+    requires can { CanShow D.Disk shown.now disk.old }
+    ensures { PutsOf D.Disk K.Sink (held_in shown.now) (λ r. if is_left then entries_drawn shown.now row.now.base (listed shown.now r row.now) else []) disk.old disk.new sink.old sink.new out.old out.new }
+{
+    if is_left {
+        put_list(shown, row, disk, out, sink);
+    }
+}
+
+// The arrows of a list.
+fn put_list<D: Disk, K: Sink>(
+    shown: &Shown,
+    row: &ObjRow,
+    disk: &mut D,
+    out: &mut Writer,
+    sink: &mut K,
+)
+    requires can { CanShow D.Disk shown.now disk.old }
+    ensures { PutsOf D.Disk K.Sink (held_in shown.now) (λ r. entries_drawn shown.now row.now.base (listed shown.now r row.now)) disk.old disk.new sink.old sink.new out.old out.new }
+{
+    let list = list_of(shown, row, disk, out);
+    put_entries(shown, row.base(), list.as_slice(), out, sink);
+}
+
+fn put_entries<K: Sink>(shown: &Shown, list: u64, slots: &[Slot], out: &mut Writer, sink: &mut K)
+    ensures { Puts K.Sink (entries_drawn shown.now list (named_by slots.now)) sink.old sink.new out.old out.new }
+{
+    for slot in slots {
+        put_entry(shown, list, *slot, out, sink);
+    }
+}
+
+// The arrow of an entry. A place with base 0 is empty: no object lies there.
+fn put_entry<K: Sink>(shown: &Shown, list: u64, slot: Slot, out: &mut Writer, sink: &mut K)
+    ensures { Puts K.Sink (entry_arrow (bare shown.now) list (slot.base, slot.password)) sink.old sink.new out.old out.new }
+{
+    if slot.base == 0 {
+        return;
+    }
+    let bits = rights_on(shown, slot.base, slot.password);
+    out.line(print_entry_arrow(list, slot.base, bits), sink);
 }

@@ -1,5 +1,5 @@
 // What is held of a volume while it is shown.
-ghost use Rattle.std.specs.Prelude.{◌≡◌, ◌≤◌, IfSome, length, true, vec_capacity};
+ghost use Rattle.std.specs.Prelude.{◌≡◌, ◌<◌, ◌≤◌, HoldsAt, IfSome, length, true, vec_capacity};
 ghost use Rattle.mg_bank.specs.Bank.{credits_of};
 ghost use Rattle.mg_model.specs.Layout.{total_blocks};
 ghost use Rattle.mg_model.specs.Limits.{account_limit, credit_limit, object_limit};
@@ -34,6 +34,23 @@ pub(crate) struct Shown {
     ghost total: { view.total ≡ total_blocks (length frames) },
 }
 
+impl Shown {
+    /// How many objects it has.
+    pub(crate) fn count(&self) -> usize
+        ensures { result ≡ length self.now.objects }
+    {
+        self.objects.objects().len()
+    }
+
+    /// The object of this rank in the order of the bases, 0 for the first.
+    pub(crate) fn row(&self, i: usize) -> &ObjRow
+        requires { i < length self.now.objects }
+        ensures { HoldsAt (λ o. result.now ≡ o.1) self.now.objects i }
+    {
+        self.objects.objects().nth_ref(i)
+    }
+}
+
 /// A volume with these tables: its objects, of which no two share a page, its accounts, and its frame table, in which no page
 /// is twice. None if there is not enough memory.
 pub(crate) fn shown_of(
@@ -65,19 +82,12 @@ pub(crate) fn shown_of(
     ensures frames { IfSome result (λ shown. shown.frames ≡ entries.items) }
     ensures view { IfSome result (λ shown. shown.view ≡ view) }
 {
-    let frames = match Frames::of(alloc, entries) {
-        Ok(Some(frames)) => frames,
-        Ok(None) => unreachable!(),
-        Err(_) => return None,
+    let Some(frames) = Frames::of(alloc, entries).ok()? else {
+        unreachable!()
     };
-    let mut bank = match Bank::of(alloc, accounts) {
-        Ok(bank) => bank,
-        Err(_) => return None,
-    };
-    let objects = match Space::of(alloc, table) {
-        Ok(Some(objects)) => objects,
-        Ok(None) => unreachable!(),
-        Err(_) => return None,
+    let mut bank = Bank::of(alloc, accounts).ok()?;
+    let Some(objects) = Space::of(alloc, table).ok()? else {
+        unreachable!()
     };
     objects.bill(&mut bank);
     Some(Shown {

@@ -6,7 +6,7 @@ ghost use Rattle.mg_model.specs.Print.{hex_digit, hex_digits, hex_text, spaced};
 ghost use Rattle.mg_show.specs.StateText.{account_text, counters_text, line, made_text, object_line, password_text, registers_text, rights_text, seed_text, step_text, thread_head, thread_state_text, until_text};
 
 use arrayvec::ArrayVec;
-use mg_model::{AccRow, Fault, Globals, ObjRow, Params, Pw, Rights, Tariff, ThrRow, ThrState};
+use mg_model::{AccRow, Fault, Globals, ObjRow, Params, Pw, Tariff, ThrRow, ThrState};
 use mg_text::{push_number, push_text, push_word};
 
 /// A line as it is printed.
@@ -96,20 +96,11 @@ pub(crate) fn print_password(pw: &Pw) -> Line
     let mut out = Line::new();
     push_text(&mut out, b"password");
     push_word(&mut out, pw.password());
-    push_rights(&mut out, pw.rights());
+    push_text(&mut out, b" ");
+    push_letters(&mut out, pw.rights().bits());
     push_until(&mut out, pw.until());
     push_text(&mut out, b"\n");
     out
-}
-
-/// A space and the letters of a set of rights.
-fn push_rights(out: &mut Line, rights: Rights)
-    requires { array_vec_len out.old ≤ 200 }
-    ensures text { out.new.items ≡ out.old.items ++ spaced (rights_text rights ∷ []) }
-    ensures short { array_vec_len out.new ≤ array_vec_len out.old + 7 }
-{
-    push_text(out, b" ");
-    push_letters(out, rights.bits());
 }
 
 /// The letters of the rights whose bits these are.

@@ -12,8 +12,8 @@ ghost use Rattle.mg_show.specs.Writing.{Puts, PutsOf};
 
 use crate::held::Shown;
 use crate::lines::{print_enter, print_reach};
-use crate::lists::list_under;
 use crate::marks::{clear, mark};
+use crate::pages::list_under;
 use crate::writer::Writer;
 use mg_disk::Disk;
 use mg_io::Sink;
@@ -83,9 +83,8 @@ fn put_marked<K: Sink>(thread: u64, bytes: &[u8], shown: &Shown, out: &mut Write
     requires long { length bytes.now ≡ length shown.now.objects }
     ensures { Puts K.Sink (marked_reach thread bytes.now shown.now.objects) sink.old sink.new out.old out.new }
 {
-    let objects = shown.objects.objects();
-    for i in 0..objects.len() {
-        put_row(thread, bytes[i], objects.nth_ref(i), out, sink);
+    for i in 0..shown.count() {
+        put_row(thread, bytes[i], shown.row(i), out, sink);
     }
 }
 

@@ -1,5 +1,5 @@
 // The walk from a start along capability lists, step by step.
-ghost use Rattle.std.specs.Prelude.{◌≡◌, ◌+◌, ◌≤◌, ◌==◌, ◌&&◌, ℕ, List, length};
+ghost use Rattle.std.specs.Prelude.{◌≡◌, ◌+◌, ◌≤◌, ◌==◌, ◌&&◌, [], ℕ, List, if◌then◌else◌, length};
 ghost use Rattle.mg_model.specs.Rights.{has_right};
 ghost use Rattle.mg_model.specs.declared.rights.Right.TheVariants.{R};
 ghost use Rattle.mg_show.specs.Marking.{Finds, Learns, gives_rank, is_within};
@@ -8,8 +8,8 @@ ghost use Rattle.mg_show.specs.Shown.{CanShow, held_in};
 ghost use Rattle.mg_show.specs.Walked.{AreOpened, AreRanked, listed_at};
 
 use crate::held::Shown;
-use crate::lists::list_of;
 use crate::marks::{has_r, rank};
+use crate::pages::list_of;
 use crate::writer::Writer;
 use mg_disk::Disk;
 use mg_model::ObjRow;
@@ -53,19 +53,30 @@ fn go_on<D: Disk>(
     requires can { CanShow D.Disk shown.now disk.old }
     ensures { Finds D.Disk (held_in shown.now) is_within (gives_rank (rank + 1)) shown.now.objects (λ r. listed_at shown.now r bytes.now ranks.old rank shown.now.objects) disk.old disk.new ranks.old ranks.new out.old out.new }
 {
-    let objects = shown.objects.objects();
-    for i in 0..objects.len() {
-        if is_next(ranks[i], rank, bytes[i]) {
-            rank_list(shown, objects.nth_ref(i), rank + 1, ranks, disk, out);
-        }
+    for i in 0..shown.count() {
+        let is_next = (ranks[i] == rank) & has_r(bytes[i]);
+        rank_next(is_next, shown, shown.row(i), rank + 1, ranks, disk, out);
     }
 }
 
-// Whether an object with this rank is a list from which the next step goes: `wanted` is the rank of these.
-fn is_next(rank: u64, wanted: u64, byte: u8) -> bool
-    ensures { result ≡ (rank == wanted && has_right byte R) }
+// What the list in an object names gets this rank, if it is next.
+fn rank_next<D: Disk>(
+    is_next: bool,
+    shown: &Shown,
+    row: &ObjRow,
+    number: u64,
+    ranks: &mut [u64],
+    disk: &mut D,
+    out: &mut Writer,
+)
+    requires some { 1 ≤ number }
+    requires long { length ranks.old ≡ length shown.now.objects }
+    requires can { CanShow D.Disk shown.now disk.old }
+    ensures { Finds D.Disk (held_in shown.now) is_within (gives_rank number) shown.now.objects (λ r. if is_next then listed shown.now r row.now else []) disk.old disk.new ranks.old ranks.new out.old out.new }
 {
-    rank == wanted && has_r(byte)
+    if is_next {
+        rank_list(shown, row, number, ranks, disk, out);
+    }
 }
 
 // What the list in an object names gets this rank.

@@ -25,9 +25,8 @@ pub(crate) fn put_words<D: Disk, K: Sink>(
     requires can { CanShow D.Disk shown.now disk.old }
     ensures { PutsOf D.Disk K.Sink (held_in shown.now) (λ r. rows_text r (length shown.now.frames) shown.now.frames shown.now.objects) disk.old disk.new sink.old sink.new out.old out.new }
 {
-    let objects = shown.objects.objects();
-    for i in 0..objects.len() {
-        put_object(shown, objects.nth_ref(i), disk, out, sink);
+    for i in 0..shown.count() {
+        put_object(shown, shown.row(i), disk, out, sink);
     }
 }
 

@@ -1,4 +1,4 @@
-use Rattle.std.proofs.Common.{◌∙◌}
+use Rattle.mg_show.proofs.Names.{◌∙◌}
 use Rattle.mg_show.proofs.Spelled.{five_words, one_word, six_or_more, three_or_four}
 use Rattle.mg_show.proofs.command.read_words.Goals as goal
 

@@ -1,6 +1,4 @@
-use Rattle.std.proofs.Common.{ap, sym, ◌∙◌}
-use Rattle.mg_show.specs.Drawn.{node_if}
-use Rattle.mg_show.specs.WritingLemmas.{puts_none, puts_same}
+use Rattle.mg_show.proofs.Names.{ap, sym, ◌∙◌, node_if, puts_none, puts_same}
 use Rattle.mg_show.proofs.graph.put_node.Goals as goal
 
 pub returns-then-is_shown : goal.returns-then-is_shown

@@ -1,5 +1,4 @@
-use Rattle.std.proofs.Common.{arith, refl}
-use Rattle.mg_show.specs.Drawn.{bases_of}
+use Rattle.mg_show.proofs.Names.{arith, refl, bases_of}
 use Rattle.mg_show.specs.WritingLemmas.{of_after}
 use Rattle.mg_show.proofs.Drawing.{part-told}
 use Rattle.mg_show.proofs.Learning.{still_shown}

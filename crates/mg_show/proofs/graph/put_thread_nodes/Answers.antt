@@ -1,7 +1,4 @@
-use Rattle.std.proofs.Common.{ℕ, ◌+◌, arith}
-use Rattle.mg_model.specs.State.{ThreadRow}
-use Rattle.mg_show.specs.DotText.{thread_node}
-use Rattle.mg_show.specs.WritingLemmas.{puts_more, puts_same}
+use Rattle.mg_show.proofs.Names.{ℕ, ◌+◌, arith, ThreadRow, thread_node, puts_more, puts_same}
 use Rattle.mg_show.proofs.graph.put_thread_nodes.Goals as goal
 
 pub loop-t-preserved : goal.loop-t-preserved

@@ -1,6 +1,4 @@
-use Rattle.std.proofs.Common.{take}
-use Rattle.mg_show.specs.Drawn.{threads_drawn}
-use Rattle.mg_show.specs.Writing.{Puts}
+use Rattle.mg_show.proofs.Names.{take, threads_drawn, Puts}
 use Rattle.mg_show.proofs.graph.put_thread_nodes.Given as goal
 
 abbrev pub invariant-loop-t : goal.invariant-loop-t

@@ -1,12 +1,5 @@
-use Rattle.std.specs.Prelude.{ℕ, ◌+◌, ◌<◌, ◌==◌, [], All, None, Some, find, map}
-use Rattle.std.proofs.Common.{ap, subst, sym, ◌∙◌}
-use Rattle.std.proofs.lemmas.List.Elements.{All-cons, All-nil}
-use Rattle.mg_model.specs.Limits.{thread_limit}
-use Rattle.mg_model.specs.State.{ThreadRow}
-use Rattle.mg_show.specs.DotFrom.{part_text}
-use Rattle.mg_show.specs.Drawn.{bases_of}
-use Rattle.mg_show.specs.Shown.{numbered, state_shown}
-use Rattle.mg_show.specs.WritingLemmas.{of_same}
+use Rattle.mg_show.proofs.Names.{ℕ, ◌+◌, ◌<◌, ◌==◌, [], All, None, Some, find, map, ap, subst, sym, ◌∙◌, All-cons, All-nil, thread_limit, ThreadRow}
+use Rattle.mg_show.proofs.Names.{part_text, bases_of, numbered, state_shown, of_same}
 use Rattle.mg_show.proofs.Drawing.{slots-last, thread-told}
 use Rattle.mg_show.proofs.FoundThread.{found-all}
 use Rattle.mg_show.proofs.graph.put_thread_part.Goals as goal
@@ -23,18 +16,20 @@ pub returns-in-Some : goal.returns-in-Some
 returns-in-Some g c =
     let shown = c.args.shown.now in
     let thread = c.in-Some.thread.now in
+    let n = c.from-n.ensures ∙ c.saturating_sub.ensures in
     let slots = slots-last thread.1.frames c.last-last.result c.slots.result.now c.last-last.ensures c.slots.ensures in
     let found = c.in-Some.ensures ∙ ap (find (λ (t : ℕ × ThreadRow). t.0 + 1 == c.args.number)) c.deref.ensures.value in
     of_same g.D.Disk g.K.Sink
     (λ r.
     (λ i. part_text (state_shown shown r) (map numbered (c.from_ref-drawn.ensures.value i)) (bases_of (slots i))
-    (c.saturating_sub-n.ensures i))
+    (n i))
     ∙ thread-told shown r c.args.number c.args.steps (Some thread) found) c.put_part.ensures
 
 pub returns-in-None : goal.returns-in-None
 returns-in-None g c =
     let shown = c.args.shown.now in
+    let n = c.from-n.ensures ∙ c.saturating_sub.ensures in
     let found = c.in-None.ensures ∙ ap (find (λ (t : ℕ × ThreadRow). t.0 + 1 == c.args.number)) c.deref.ensures.value in
     of_same g.D.Disk g.K.Sink
-    (λ r. (λ i. part_text (state_shown shown r) [] [] (c.saturating_sub-n.ensures i))
+    (λ r. (λ i. part_text (state_shown shown r) [] [] (n i))
     ∙ thread-told shown r c.args.number c.args.steps None found) c.put_part-in-None.ensures

@@ -1,5 +1,5 @@
-use Rattle.std.proofs.Common.{List, ℕ, ◌∷◌, [], ◌++◌, ap, codes, ◌∙◌}
-use Rattle.mg_show.specs.DotText.{object_label, object_name, quoted}
+use Rattle.mg_show.proofs.Names.{List, ℕ, ◌∷◌, [], ◌++◌, ap, codes, ◌∙◌, object_name, quoted}
+use Rattle.mg_show.specs.DotText.{object_label}
 use Rattle.mg_show.specs.Drawn.{shape}
 use Rattle.mg_show.proofs.Drawing.{printed, quotes-around}
 use Rattle.mg_show.proofs.graph_lines.print_object_node.Goals as goal

@@ -1,6 +1,4 @@
-use Rattle.std.proofs.Common.{List, ℕ, ◌∷◌, [], ◌++◌, ap, codes, ◌∙◌}
-use Rattle.std.specs.Fmt.{decimal}
-use Rattle.mg_model.specs.Print.{hex_text}
+use Rattle.mg_show.proofs.Names.{List, ℕ, ◌∷◌, [], ◌++◌, ap, codes, ◌∙◌, decimal, hex_text}
 use Rattle.mg_show.proofs.Drawing.{label-parts, printed}
 use Rattle.mg_show.proofs.graph_lines.push_label.Goals as goal
 

@@ -1,5 +1,4 @@
-use Rattle.std.proofs.Common.{◌∷◌, ◌++◌, [], get_or, ap, ◌∙◌, arith}
-use Rattle.mg_model.specs.Print.{hex_text, spaced}
+use Rattle.mg_show.proofs.Names.{◌∷◌, ◌++◌, [], get_or, ap, ◌∙◌, arith, hex_text, spaced}
 use Rattle.mg_show.proofs.Texts.{spaced-more}
 use Rattle.mg_show.proofs.lines.print_registers.Goals as goal
 

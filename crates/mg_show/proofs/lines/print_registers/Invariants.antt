@@ -1,6 +1,4 @@
-use Rattle.std.proofs.Common.{◌≡◌, ◌*◌, ◌≤◌, map, take}
-use Rattle.arrayvec.specs.ArrayVec.{array_vec_len}
-use Rattle.mg_model.specs.Print.{hex_text, spaced}
+use Rattle.mg_show.proofs.Names.{◌≡◌, ◌*◌, ◌≤◌, map, take, array_vec_len, hex_text, spaced}
 use Rattle.mg_show.proofs.lines.print_registers.Given as goal
 
 abbrev pub invariant-loop-word : goal.invariant-loop-word

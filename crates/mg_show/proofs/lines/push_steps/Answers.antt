@@ -1,6 +1,4 @@
-use Rattle.std.proofs.Common.{◌∷◌, ◌++◌, [], get_or, ap, ◌∙◌, arith}
-use Rattle.mg_model.specs.Print.{spaced}
-use Rattle.mg_show.specs.StateText.{step_text}
+use Rattle.mg_show.proofs.Names.{◌∷◌, ◌++◌, [], get_or, ap, ◌∙◌, arith, spaced, step_text}
 use Rattle.mg_show.proofs.Texts.{spaced-more}
 use Rattle.mg_show.proofs.lines.push_steps.Goals as goal
 

@@ -1,7 +1,4 @@
-use Rattle.std.proofs.Common.{◌≡◌, ◌+◌, ◌*◌, ◌≤◌, ◌++◌, map, take}
-use Rattle.arrayvec.specs.ArrayVec.{array_vec_len}
-use Rattle.mg_model.specs.Print.{spaced}
-use Rattle.mg_show.specs.StateText.{step_text}
+use Rattle.mg_show.proofs.Names.{◌≡◌, ◌+◌, ◌*◌, ◌≤◌, ◌++◌, map, take, array_vec_len, spaced, step_text}
 use Rattle.mg_show.proofs.lines.push_steps.Given as goal
 
 abbrev pub invariant-loop-step : goal.invariant-loop-step

@@ -1,4 +1,4 @@
-use Rattle.std.proofs.Common.{◌+◌, ◌-◌, ◌/◌, arith}
+use Rattle.mg_show.proofs.Names.{◌+◌, ◌-◌, ◌/◌, arith}
 use Rattle.mg_show.proofs.Marked.{above-more, bases-rise, below-more}
 use Rattle.mg_show.proofs.marks.count_below.Goals as goal
 

@@ -1,6 +1,4 @@
-use Rattle.std.proofs.Common.{ℕ, ◌-◌, ◌≤◌, ◌<◌, length}
-use Rattle.std.specs.List.{AllWithin}
-use Rattle.mg_model.specs.State.{ObjectRow}
+use Rattle.mg_show.proofs.Names.{ℕ, ◌-◌, ◌≤◌, ◌<◌, length, AllWithin, ObjectRow}
 use Rattle.mg_show.proofs.marks.count_below.Given as goal
 
 -- the cut lies between the two

@@ -1,6 +1,4 @@
-use Rattle.std.proofs.Common.{arith}
-use Rattle.mg_model.specs.Access.{holds}
-use Rattle.mg_model.specs.Rights.{has_right}
+use Rattle.mg_show.proofs.Names.{arith, holds, has_right}
 use Rattle.mg_show.proofs.Marked.{marks_more, marks_none}
 use Rattle.mg_show.proofs.marks.mark.Goals as goal
 

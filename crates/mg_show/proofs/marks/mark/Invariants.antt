@@ -1,7 +1,4 @@
-use Rattle.std.proofs.Common.{take}
-use Rattle.mg_model.specs.Access.{holds}
-use Rattle.mg_model.specs.Rights.{has_right}
-use Rattle.mg_show.specs.Marking.{Marks, named_by}
+use Rattle.mg_show.proofs.Names.{take, holds, has_right, Marks, named_by}
 use Rattle.mg_show.proofs.marks.mark.Given as goal
 
 -- the capabilities before this one have given their rights

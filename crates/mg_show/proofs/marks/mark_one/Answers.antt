@@ -1,10 +1,4 @@
-use Rattle.std.specs.Prelude.{◌≢◌, ◌||◌, All}
-use Rattle.std.specs.List.{HoldsAt}
-use Rattle.std.proofs.Common.{List, ℕ, ◌≡◌, slice_index, subst, ◌∙◌}
-use Rattle.mg_model.specs.Access.{holds}
-use Rattle.mg_model.specs.Rights.{has_right}
-use Rattle.mg_model.specs.State.{ObjectRow}
-use Rattle.mg_show.specs.Marking.{IsPlaceOf}
+use Rattle.mg_show.proofs.Names.{◌≢◌, ◌||◌, All, HoldsAt, List, ℕ, ◌≡◌, slice_index, subst, ◌∙◌, holds, has_right, ObjectRow, IsPlaceOf}
 use Rattle.mg_show.proofs.Marked.{marks_no, marks_one}
 use Rattle.mg_show.proofs.marks.mark_one.Goals as goal
 

@@ -1,13 +1,5 @@
-use Rattle.std.specs.Prelude.{◌||◌, slice_index_or}
-use Rattle.std.proofs.Common.{List, ℕ, ◌++◌, ◌<◌, ◌≤◌, ap, arith, flat_map, length, subst, take, ◌∙◌}
-use Rattle.std.proofs.lemmas.List.{take_all}
-use Rattle.mg_model.specs.declared.rights.Right.TheVariants.{R}
-use Rattle.mg_model.specs.declared.slots.Slot.{Slot}
-use Rattle.mg_model.specs.Access.{holds, last_slots}
-use Rattle.mg_model.specs.Rights.{has_right}
-use Rattle.mg_model.specs.State.{ThreadRow}
-use Rattle.mg_show.specs.Marking.{Marks, given, named_by}
-use Rattle.mg_show.specs.WritingLemmas.{flat_more}
+use Rattle.mg_show.proofs.Names.{◌||◌, slice_index_or, List, ℕ, ◌++◌, ◌<◌, ◌≤◌, ap, arith, flat_map, length, subst, take, ◌∙◌, take_all, R, Slot, holds}
+use Rattle.mg_show.proofs.Names.{last_slots, has_right, ThreadRow, Marks, given, named_by, flat_more}
 use Rattle.mg_show.proofs.Drawing.{all-given, slots-last}
 use Rattle.mg_show.proofs.Marked.{marks_none, marks_then}
 use Rattle.mg_show.proofs.marks.mark_opened.Goals as goal

@@ -1,8 +1,4 @@
-use Rattle.std.proofs.Common.{ℕ, flat_map, take}
-use Rattle.mg_model.specs.Access.{holds, last_slots}
-use Rattle.mg_model.specs.Rights.{has_right}
-use Rattle.mg_model.specs.State.{ThreadRow}
-use Rattle.mg_show.specs.Marking.{Marks, named_by}
+use Rattle.mg_show.proofs.Names.{ℕ, flat_map, take, holds, last_slots, has_right, ThreadRow, Marks, named_by}
 use Rattle.mg_show.proofs.marks.mark_opened.Given as goal
 
 -- the present frames of the threads before this one have given their rights

@@ -1,5 +1,4 @@
-use Rattle.std.proofs.Common.{arith}
-use Rattle.mg_show.specs.Marking.{gives_rank, is_within}
+use Rattle.mg_show.proofs.Names.{arith, gives_rank, is_within}
 use Rattle.mg_show.proofs.Marked.{marks_more, marks_none}
 use Rattle.mg_show.proofs.marks.rank.Goals as goal
 

@@ -1,7 +1,4 @@
-use Rattle.std.specs.Prelude.{◌≢◌, All}
-use Rattle.std.proofs.Common.{List, ℕ, subst}
-use Rattle.mg_model.specs.State.{ObjectRow}
-use Rattle.mg_show.specs.Marking.{IsPlaceOf, gives_rank, is_within}
+use Rattle.mg_show.proofs.Names.{◌≢◌, All, List, ℕ, subst, ObjectRow, IsPlaceOf, gives_rank, is_within}
 use Rattle.mg_show.proofs.Marked.{marks_no, marks_one}
 use Rattle.mg_show.proofs.marks.rank_one.Goals as goal
 

@@ -1,5 +1,4 @@
-use Rattle.std.proofs.Common.{[], None, Some, ◌||◌, refl, ◌∙◌}
-use Rattle.mg_model.specs.Access.{holds}
+use Rattle.mg_show.proofs.Names.{[], None, Some, ◌||◌, refl, ◌∙◌, holds}
 use Rattle.mg_show.proofs.Letters.{none-has}
 use Rattle.mg_show.proofs.Listing.{held}
 use Rattle.mg_show.proofs.marks.rights_on.Goals as goal

@@ -1,6 +1,4 @@
-use Rattle.std.proofs.Common.{◌||◌}
-use Rattle.mg_model.specs.Access.{holds}
-use Rattle.mg_model.specs.Rights.{has_right}
+use Rattle.mg_show.proofs.Names.{◌||◌, holds, has_right}
 use Rattle.mg_show.proofs.RightBits.{bits-are}
 use Rattle.mg_show.proofs.marks.with_rights.Goals as goal
 

@@ -1,8 +1,5 @@
-use Rattle.std.proofs.Common.{ap, length, refl, sym, ◌∙◌, inl, inr}
-use Rattle.mg_model.specs.Layout.{first_frame}
-use Rattle.mg_model.specs.Bytes.{block_words}
-use Rattle.mg_show.specs.Writing.{Held}
-use Rattle.mg_show.specs.WritingLemmas.{none_is, reads_none}
+use Rattle.mg_show.proofs.Names.{ap, length, refl, sym, ◌∙◌, inl, inr, first_frame, block_words, Held, reads_none}
+use Rattle.mg_show.specs.WritingLemmas.{none_is}
 use Rattle.mg_show.proofs.WordTexts.{page-held, page-free}
 use Rattle.mg_show.proofs.pages.read_page.Goals as goal
 

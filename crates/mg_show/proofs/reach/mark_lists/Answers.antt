@@ -1,9 +1,4 @@
-use Rattle.std.proofs.Common.{◌≤◌, ap, arith, length}
-use Rattle.std.proofs.lemmas.List.{take_all}
-use Rattle.mg_model.specs.declared.slots.Slot.{Slot}
-use Rattle.mg_model.specs.Access.{capabilities, entries_under}
-use Rattle.mg_show.specs.Shown.{state_shown}
-use Rattle.mg_show.specs.WritingLemmas.{flat_more}
+use Rattle.mg_show.proofs.Names.{◌≤◌, ap, arith, length, take_all, Slot, capabilities, entries_under, state_shown, flat_more}
 use Rattle.mg_show.proofs.Learning.{found_list, found_none, found_same, found_then, still_shown}
 use Rattle.mg_show.proofs.reach.mark_lists.Goals as goal
 

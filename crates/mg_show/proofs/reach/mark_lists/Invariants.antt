@@ -1,8 +1,4 @@
-use Rattle.std.proofs.Common.{take}
-use Rattle.mg_model.specs.Access.{capabilities, holds}
-use Rattle.mg_model.specs.Rights.{has_right}
-use Rattle.mg_show.specs.Marking.{Finds}
-use Rattle.mg_show.specs.Shown.{held_in, state_shown}
+use Rattle.mg_show.proofs.Names.{take, capabilities, holds, has_right, Finds, held_in, state_shown}
 use Rattle.mg_show.proofs.reach.mark_lists.Given as goal
 
 -- the slots before this one have given their rights

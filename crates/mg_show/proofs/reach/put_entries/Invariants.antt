@@ -1,7 +1,4 @@
-use Rattle.std.proofs.Common.{take}
-use Rattle.std.specs.List.{flat_map}
-use Rattle.mg_show.specs.Reached.{enter_line}
-use Rattle.mg_show.specs.Writing.{Puts}
+use Rattle.mg_show.proofs.Names.{take, flat_map, enter_line, Puts}
 use Rattle.mg_show.proofs.reach.put_entries.Given as goal
 
 abbrev pub invariant-loop-entry : goal.invariant-loop-entry

@@ -1,29 +1,12 @@
-use Rattle.std.specs.List.{HoldsAt}
-use Rattle.std.proofs.Common.{List, ℕ, ◌≡◌, ◌≤◌, ap, arith, length, slice_index, subst}
-use Rattle.std.proofs.lemmas.List.{take_all}
-use Rattle.mg_model.specs.Rights.{has_right}
-use Rattle.mg_model.specs.State.{ObjectRow}
-use Rattle.mg_show.specs.Reached.{marked_reach, row_reach}
-use Rattle.mg_show.specs.WritingLemmas.{puts_same, puts_then}
+use Rattle.mg_show.proofs.Names.{arith, slice_index, has_right, marked_reach, row_reach, puts_all, puts_same, puts_then}
 use Rattle.mg_show.proofs.ByPlaces.{places-more}
 use Rattle.mg_show.proofs.reach.put_marked.Goals as goal
 
 pub loop-i-preserved : goal.loop-i-preserved
 loop-i-preserved g c =
-    let same = c.objects-objects.ensures in
-    let count = c.len-i-end.ensures.count in
-    let test = c.loop-i-test.true in
-    let long = ap (λ (os : List (ℕ × ObjectRow)). length os) same in
-    let row = c.nth_ref.result.now in
-    let is = subst (λ (os : List (ℕ × ObjectRow)). HoldsAt (λ (o : ℕ × ObjectRow). row ≡ o.1) os c.loop-i.i) same c.nth_ref.ensures in
-    puts_same g.K.Sink (places-more
-    (λ i row. row_reach c.args.thread (has_right (slice_index c.args.bytes.now i)) row) c.args.shown.now.objects c.loop-i.i (omega arith) row is)
+    puts_same g.K.Sink (places-more (λ i row. row_reach c.args.thread (has_right (slice_index c.args.bytes.now i)) row)
+    c.args.shown.now.objects c.loop-i.i (omega arith) c.row.result.now c.row.ensures)
     (puts_then g.K.Sink c.loop-i.invariant c.put_row.ensures)
 
 pub returns : goal.returns
-returns g c =
-    let count = c.len-i-end.ensures.count in
-    let past = c.loop-i-test.false in
-    let long = ap (λ (os : List (ℕ × ObjectRow)). length os) c.objects-objects.ensures in
-    let end : length c.args.shown.now.objects ≤ c.loop-i.i = omega arith in
-    puts_same g.K.Sink (ap (marked_reach c.args.thread c.args.bytes.now) (take_all c.loop-i.i c.args.shown.now.objects end)) c.loop-i.invariant
+returns g c = puts_all g.K.Sink (marked_reach c.args.thread c.args.bytes.now) c.args.shown.now.objects c.loop-i.i (omega arith) c.loop-i.invariant

@@ -1,11 +1,5 @@
-use Rattle.std.specs.Prelude.{All}
-use Rattle.std.proofs.Common.{ℕ, ◌++◌, ◌≤◌, ◌<◌, ap, arith, flat_map, length, subst, take, ◌∙◌}
-use Rattle.std.proofs.lemmas.List.{take_all}
-use Rattle.mg_model.specs.Ranges.{IsObjectRow}
-use Rattle.mg_model.specs.State.{ObjectRow}
-use Rattle.mg_objects.specs.Held.{AreApart}
-use Rattle.mg_show.specs.Reached.{thread_reached}
-use Rattle.mg_show.specs.WritingLemmas.{flat_more, of_put, of_same, of_then, puts_none}
+use Rattle.mg_show.proofs.Names.{All, ℕ, ◌++◌, ◌≤◌, ◌<◌, ap, arith, flat_map, length, subst, take, ◌∙◌, take_all, IsObjectRow, ObjectRow, AreApart}
+use Rattle.mg_show.proofs.Names.{thread_reached, flat_more, of_put, of_same, of_then, puts_none}
 use Rattle.mg_show.proofs.Learning.{still_shown}
 use Rattle.mg_show.proofs.Reaching.{reach_same}
 use Rattle.mg_show.proofs.reach.put_reach.Goals as goal

@@ -1,7 +1,4 @@
-use Rattle.std.proofs.Common.{◌≡◌, flat_map, length, take}
-use Rattle.mg_show.specs.Reached.{thread_reached}
-use Rattle.mg_show.specs.Shown.{held_in}
-use Rattle.mg_show.specs.Writing.{PutsOf}
+use Rattle.mg_show.proofs.Names.{◌≡◌, flat_map, length, take, thread_reached, held_in, PutsOf}
 use Rattle.mg_show.proofs.reach.put_reach.Given as goal
 
 -- what the threads before this one reach is put

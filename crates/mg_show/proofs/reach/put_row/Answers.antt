@@ -1,6 +1,4 @@
-use Rattle.std.proofs.Common.{ap, ◌∙◌}
-use Rattle.mg_show.specs.Reached.{bits_line}
-use Rattle.mg_show.specs.WritingLemmas.{puts_same, puts_then}
+use Rattle.mg_show.proofs.Names.{ap, ◌∙◌, bits_line, puts_same, puts_then}
 use Rattle.mg_show.proofs.ReachTexts.{bits-line}
 use Rattle.mg_show.proofs.reach.put_row.Goals as goal
 

@@ -1,4 +1,4 @@
-use Rattle.mg_show.specs.WritingLemmas.{of_behind}
+use Rattle.mg_show.proofs.Names.{of_behind}
 use Rattle.mg_show.proofs.Drawing.{slots-last}
 use Rattle.mg_show.proofs.ReachTexts.{thread-reached}
 use Rattle.mg_show.proofs.reach.put_thread.Goals as goal

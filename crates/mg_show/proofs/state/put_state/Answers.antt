@@ -1,14 +1,9 @@
-use Rattle.std.proofs.Common.{ℕ, ap, flat_map}
-use Rattle.mg_model.specs.State.{ObjectRow, ThreadRow}
-use Rattle.mg_show.specs.Shown.{numbered}
-use Rattle.mg_show.specs.StateText.{object_text, thread_text}
-use Rattle.mg_show.specs.WritingLemmas.{of_put, of_same, of_then, puts_same, puts_then}
+use Rattle.mg_show.proofs.Names.{ℕ, ap, flat_map, ThreadRow, numbered, thread_text, of_put, of_same, of_then, puts_same, puts_then}
 use Rattle.mg_show.proofs.TextTold.{text-told}
 use Rattle.mg_show.proofs.state.put_state.Goals as goal
 
 pub returns : goal.returns
 returns g c =
-    let objects = puts_same g.K.Sink (ap (flat_map (λ (o : ℕ × ObjectRow). object_text o.1)) c.objects.ensures) c.put_objects.ensures in
     let threads =
     puts_same g.K.Sink (ap (flat_map (λ (t : ℕ × ThreadRow). thread_text (numbered t))) c.deref.ensures.value) c.put_threads.ensures in
     let counters = puts_same g.K.Sink c.print_counters.ensures c.line.ensures in
@@ -16,5 +11,5 @@ returns g c =
     (of_then g.D.Disk g.K.Sink
     (of_put g.D.Disk g.K.Sink (g.met.D.Disk.now_has_been c.args.disk.now)
     (puts_then g.K.Sink (puts_then g.K.Sink
-    (puts_then g.K.Sink (puts_then g.K.Sink c.put_settings.ensures counters) c.put_accounts.ensures) objects) threads))
+    (puts_then g.K.Sink (puts_then g.K.Sink c.put_settings.ensures counters) c.put_accounts.ensures) c.put_objects.ensures) threads))
     c.put_words.ensures)

@@ -1,4 +1,4 @@
-use Rattle.std.proofs.Common.{sym, ◌∙◌}
+use Rattle.mg_show.proofs.Names.{sym, ◌∙◌}
 use Rattle.mg_volume_session.specs.OpeningLemmas.{fault_tells, unopened_without}
 use Rattle.mg_show.proofs.top_call.print_text.Goals as goal
 

@@ -1,7 +1,4 @@
-use Rattle.std.proofs.Common.{◌+◌, take}
-use Rattle.mg_show.specs.Marking.{Finds, gives_rank, is_within}
-use Rattle.mg_show.specs.Shown.{held_in}
-use Rattle.mg_show.specs.Walked.{listed_at}
+use Rattle.mg_show.proofs.Names.{◌+◌, take, Finds, gives_rank, is_within, held_in, listed_at}
 use Rattle.mg_show.proofs.walk.go_on.Given as goal
 
 -- what the lists before this one name has its rank

@@ -1,5 +1,4 @@
-use Rattle.std.proofs.Common.{◌≡◌, ◌+◌, arith, refl, subst, ◌∙◌}
-use Rattle.mg_show.specs.Walked.{AreRanked}
+use Rattle.mg_show.proofs.Names.{◌≡◌, ◌+◌, arith, refl, subst, ◌∙◌, AreRanked}
 use Rattle.mg_show.proofs.Learning.{learns_none, learns_so, learns_then, still_shown}
 use Rattle.mg_show.proofs.Walking.{ranked-more}
 use Rattle.mg_show.proofs.walk.walk.Goals as goal
@@ -13,9 +12,6 @@ loop-k-init g c = record {
 
 pub go_on-requires-clause-can : goal.go_on-requires-clause-can
 go_on-requires-clause-can g c = still_shown g.D.Disk c.args.shown.now c.requires.can c.loop-k.invariant.ranks.reads.reads
-
-pub go_on-requires-clause-long_ranks : goal.go_on-requires-clause-long_ranks
-go_on-requires-clause-long_ranks g c = c.loop-k.invariant.long ∙ c.requires.long_ranks
 
 pub loop-k-preserved : goal.loop-k-preserved
 loop-k-preserved g c = record {
@@ -32,6 +28,3 @@ returns-clause-ranks g c =
     let end : c.loop-k.k ≡ c.args.steps = let past = c.loop-k-test.false in let most = c.loop-k.auto.k-end in omega arith in
     learns_so g.D.Disk (λ r ranked bases are. subst (λ n. AreRanked c.args.shown.now r bases (n + 1) c.loop-k.ranks) end (ranked bases are))
     c.loop-k.invariant.ranks
-
-pub returns-clause-long : goal.returns-clause-long
-returns-clause-long g c = c.loop-k.invariant.long

@@ -1,7 +1,4 @@
-use Rattle.std.proofs.Common.{◌≡◌, ℕ, ◌+◌, List, length}
-use Rattle.mg_show.specs.Marking.{Learns}
-use Rattle.mg_show.specs.Shown.{held_in}
-use Rattle.mg_show.specs.Walked.{AreRanked}
+use Rattle.mg_show.proofs.Names.{◌≡◌, ℕ, ◌+◌, List, length, Learns, held_in, AreRanked}
 use Rattle.mg_show.proofs.walk.walk.Given as goal
 
 -- what is reached in fewer steps has its rank

@@ -1,8 +1,4 @@
-use Rattle.std.proofs.Common.{◌≡◌, ◌+◌, ◌*◌, ◌++◌, ap, arith, sym, ◌∙◌}
-use Rattle.mg_model.specs.Bytes.{numbers_at}
-use Rattle.mg_show.specs.StateText.{words_text}
-use Rattle.mg_show.specs.WordText.{word_text}
-use Rattle.mg_show.specs.WritingLemmas.{puts_same, puts_then}
+use Rattle.mg_show.proofs.Names.{◌≡◌, ◌+◌, ◌*◌, ◌++◌, ap, arith, sym, ◌∙◌, numbers_at, words_text, word_text, puts_same, puts_then}
 use Rattle.mg_show.proofs.WordTexts.{block_text-all, numbers_text-more}
 use Rattle.mg_show.proofs.words.put_block.Goals as goal
 

@@ -1,6 +1,4 @@
-use Rattle.mg_model.specs.Bytes.{numbers_at}
-use Rattle.mg_show.specs.StateText.{words_text}
-use Rattle.mg_show.specs.Writing.{Puts}
+use Rattle.mg_show.proofs.Names.{numbers_at, words_text, Puts}
 use Rattle.mg_show.proofs.words.put_block.Given as goal
 
 -- the words before this one are put

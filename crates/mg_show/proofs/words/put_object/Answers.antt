@@ -1,7 +1,5 @@
-use Rattle.std.proofs.Common.{◌/◌, ap, length, sym, ◌∙◌}
-use Rattle.mg_model.specs.Objects.{page_of}
+use Rattle.mg_show.proofs.Names.{◌/◌, ap, length, sym, ◌∙◌, page_of, of_same}
 use Rattle.mg_show.specs.WordText.{pages_text}
-use Rattle.mg_show.specs.WritingLemmas.{of_same}
 use Rattle.mg_show.proofs.WordTexts.{row_text-pages}
 use Rattle.mg_show.proofs.words.put_object.Goals as goal
 

@@ -1,7 +1,5 @@
-use Rattle.std.proofs.Common.{ap, ◌*◌}
-use Rattle.mg_show.specs.StateText.{words_text}
+use Rattle.mg_show.proofs.Names.{ap, ◌*◌, words_text, of_behind}
 use Rattle.mg_show.specs.WordText.{page_text}
-use Rattle.mg_show.specs.WritingLemmas.{of_behind}
 use Rattle.mg_show.proofs.words.put_page.Goals as goal
 
 pub returns : goal.returns

@@ -1,6 +1,5 @@
-use Rattle.std.proofs.Common.{◌≡◌, ap, arith, length, sym}
+use Rattle.mg_show.proofs.Names.{◌≡◌, ap, arith, length, sym, of_put, of_same, of_then, puts_none}
 use Rattle.mg_show.specs.WordText.{pages_text}
-use Rattle.mg_show.specs.WritingLemmas.{of_put, of_same, of_then, puts_none}
 use Rattle.mg_show.proofs.WordTexts.{pages_text-more, pages_text-none}
 use Rattle.mg_show.proofs.Learning.{still_shown}
 use Rattle.mg_show.proofs.words.put_pages.Goals as goal

@@ -1,7 +1,5 @@
-use Rattle.std.proofs.Common.{length}
+use Rattle.mg_show.proofs.Names.{length, held_in, PutsOf}
 use Rattle.mg_show.specs.WordText.{pages_text}
-use Rattle.mg_show.specs.Shown.{held_in}
-use Rattle.mg_show.specs.Writing.{PutsOf}
 use Rattle.mg_show.proofs.words.put_pages.Given as goal
 
 -- the words of the pages before this one are put

@@ -1,7 +1,5 @@
-use Rattle.std.proofs.Common.{ap, sym, ◌∙◌}
-use Rattle.mg_show.specs.StateText.{words_text}
-use Rattle.mg_show.specs.WordText.{block_text, words_read}
-use Rattle.mg_show.specs.WritingLemmas.{puts_none, puts_same}
+use Rattle.mg_show.proofs.Names.{ap, sym, ◌∙◌, words_text, words_read, puts_none, puts_same}
+use Rattle.mg_show.specs.WordText.{block_text}
 use Rattle.mg_show.proofs.WordTexts.{words_text-zeros}
 use Rattle.mg_show.proofs.words.put_read.Goals as goal
 

@@ -1,9 +1,5 @@
-use Rattle.std.proofs.Common.{List, ℕ, ◌≡◌, ap, arith, length, subst}
-use Rattle.std.specs.List.{HoldsAt}
-use Rattle.std.proofs.lemmas.List.{take_all}
-use Rattle.mg_model.specs.State.{ObjectRow}
-use Rattle.mg_show.specs.WordText.{row_text, rows_text}
-use Rattle.mg_show.specs.WritingLemmas.{objects_more, of_put, of_same, of_then, puts_none}
+use Rattle.mg_show.proofs.Names.{arith, length, rows_text, objects_more, of_all, of_put, of_same, of_then, puts_none}
+use Rattle.mg_show.specs.WordText.{row_text}
 use Rattle.mg_show.proofs.Learning.{still_shown}
 use Rattle.mg_show.proofs.words.put_words.Goals as goal
 
@@ -16,20 +12,11 @@ put_object-requires g c = record { can = still_shown g.D.Disk c.args.shown.now c
 pub loop-i-preserved : goal.loop-i-preserved
 loop-i-preserved g c =
     let table = c.args.shown.now.frames in
-    let objects = c.args.shown.now.objects in
-    let same = c.objects-objects.ensures in
-    let count = c.len-i-end.ensures.count in
-    let test = c.loop-i-test.true in
-    let long = ap (λ (os : List (ℕ × ObjectRow)). length os) same in
-    let is = subst (λ (os : List (ℕ × ObjectRow)). HoldsAt (λ (o : ℕ × ObjectRow). c.nth_ref.result.now ≡ o.1) os c.loop-i.i) same c.nth_ref.ensures in
-    of_same g.D.Disk g.K.Sink (λ r. objects_more (row_text r (length table) table) objects c.loop-i.i c.nth_ref.result.now (omega arith) is)
+    of_same g.D.Disk g.K.Sink
+    (λ r. objects_more (row_text r (length table) table) c.args.shown.now.objects c.loop-i.i c.row.result.now (omega arith) c.row.ensures)
     (of_then g.D.Disk g.K.Sink c.loop-i.invariant c.put_object.ensures)
 
 pub returns : goal.returns
 returns g c =
     let table = c.args.shown.now.frames in
-    let objects = c.args.shown.now.objects in
-    let count = c.len-i-end.ensures.count in
-    let test = c.loop-i-test.false in
-    let long = ap (λ (os : List (ℕ × ObjectRow)). length os) c.objects-objects.ensures in
-    of_same g.D.Disk g.K.Sink (λ r. ap (rows_text r (length table) table) (take_all c.loop-i.i objects (omega arith))) c.loop-i.invariant
+    of_all g.D.Disk g.K.Sink (λ r. rows_text r (length table) table) c.args.shown.now.objects c.loop-i.i (omega arith) c.loop-i.invariant

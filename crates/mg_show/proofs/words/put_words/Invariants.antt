@@ -1,7 +1,4 @@
-use Rattle.std.proofs.Common.{length, take}
-use Rattle.mg_show.specs.WordText.{rows_text}
-use Rattle.mg_show.specs.Shown.{held_in}
-use Rattle.mg_show.specs.Writing.{PutsOf}
+use Rattle.mg_show.proofs.Names.{length, take, rows_text, held_in, PutsOf}
 use Rattle.mg_show.proofs.words.put_words.Given as goal
 
 -- the words of the objects before this one are put

@@ -1,5 +1,5 @@
-use Rattle.std.proofs.Common.{rules, subst, sym}
-use Rattle.mg_show.specs.Writing.{Held, Puts}
+use Rattle.mg_show.proofs.Names.{subst, sym, Held, Puts}
+use Rattle.std.proofs.Common.{rules}
 use Rattle.mg_show.specs.WritingLemmas.{puts_kept}
 use Rattle.mg_show.proofs.writer.Writer.add.Goals as goal
 

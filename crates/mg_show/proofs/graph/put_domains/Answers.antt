@@ -1,0 +1,12 @@
+use Rattle.mg_show.proofs.Names.{ℕ, ◌+◌, ap, arith, flat_map, last_slots, ThreadRow, slot_arrow, bare, puts_more, puts_same}
+use Rattle.mg_show.proofs.Drawing.{slots-last}
+use Rattle.mg_show.proofs.graph.put_domains.Goals as goal
+
+pub loop-t-preserved : goal.loop-t-preserved
+loop-t-preserved g c =
+    let t = c.t-item.result in
+    let arrows = slot_arrow (bare c.args.shown.now) (t.0 + 1) in
+    puts_more g.K.Sink (λ (t : ℕ × ThreadRow). flat_map (slot_arrow (bare c.args.shown.now) (t.0 + 1)) (last_slots t.1.frames))
+    c.args.threads.now c.loop-t.t-index t (omega arith) c.t-item.is c.loop-t.invariant
+    (puts_same g.K.Sink (ap (flat_map arrows)
+    (slots-last t.1.frames c.last-last.result c.slots.result.now c.last-last.ensures c.slots.ensures)) c.put_slots.ensures)

@@ -1,7 +1,0 @@
-use Rattle.std.proofs.Common.{arith}
-use Rattle.mg_show.specs.StateText.{entry_text}
-use Rattle.mg_show.specs.WritingLemmas.{flat_more, puts_same, puts_then}
-use Rattle.mg_show.proofs.objects.put_entries.Goals as goal
-
-pub loop-entry-preserved : goal.loop-entry-preserved
-loop-entry-preserved g c = puts_same g.K.Sink (flat_more entry_text c.args.entries.now c.loop-entry.entry-index 0 (omega arith)) (puts_then g.K.Sink c.loop-entry.invariant (puts_same g.K.Sink c.print_word.ensures c.line.ensures))

@@ -1,0 +1,5 @@
+use Rattle.mg_show.proofs.Names.{take, flat_map, entry_text, Puts}
+use Rattle.mg_show.proofs.state.put_entries.Given as goal
+
+abbrev pub invariant-loop-entry : goal.invariant-loop-entry
+invariant-loop-entry g l = Puts g.K.Sink (flat_map entry_text (take l.entry-index l.entries)) l.initial.sink l.sink l.initial.out l.out

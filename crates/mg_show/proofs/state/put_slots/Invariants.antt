@@ -1,0 +1,5 @@
+use Rattle.mg_show.proofs.Names.{codes, take, flat_map, slot_text, Puts}
+use Rattle.mg_show.proofs.state.put_slots.Given as goal
+
+abbrev pub invariant-loop-slot : goal.invariant-loop-slot
+invariant-loop-slot g l = Puts g.K.Sink (flat_map (slot_text (codes "slot")) (take l.slot-index l.slots)) l.initial.sink l.sink l.initial.out l.out
