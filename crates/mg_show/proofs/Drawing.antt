@@ -28,12 +28,6 @@ quotes-around m c l =
     ∙ sym (append_assoc (m ++ c) (quoted l) (93 ∷ 10 ∷ []))
     ∙ sym (append_assoc ((m ++ c) ++ quoted l) (93 ∷ []) (10 ∷ []))
 
--- the parts of a label
-pub label-parts : (h p a : List ℕ) → (((h ++ 92 ∷ 110 ∷ []) ++ p) ++ (codes " pages" ++ 92 ∷ 110 ∷ codes "account ")) ++ a ≡ h ++ 92 ∷ 110 ∷ p ++ codes " pages" ++ 92 ∷ 110 ∷ codes "account " ++ a
-label-parts h p a =
-    ap (λ t. (t ++ (codes " pages" ++ 92 ∷ 110 ∷ codes "account ")) ++ a) (append_assoc h (92 ∷ 110 ∷ []) p)
-    ∙ ap (λ t. t ++ a) (sym (append_assoc (h ++ 92 ∷ 110 ∷ p) (codes " pages") (92 ∷ 110 ∷ codes "account ")))
-
 -- bits that have the rights that pass
 module _ (s : State) (base password bits : ℕ) (same : (right : Right) → has_right bits right ≡ holds_now s base password right) where
   pub slot-drawn : (t : ℕ) → slot_bits t base bits ≡ slot_arrow s t (record { base = base; password = password })

@@ -4,7 +4,6 @@ pub mod Texts
 mod WordTexts
 mod ObjectsInOrder
 mod RowsKept
-mod Finished
 mod RowsShown
 mod RightBits
 mod Letters

@@ -27,7 +27,6 @@ pub use Rattle.mg_show.specs.DotFrom.{is_among, part_text, reached, thread_part}
 pub use Rattle.mg_show.specs.DotText.{holds_now, is_list, object_name, quoted, slot_arrow, thread_node}
 pub use Rattle.mg_show.specs.Drawn.{bases_of, domains_drawn, entries_drawn, graph_end, graph_head, lists_ranked, node_if, nodes_ranked, threads_drawn}
 pub use Rattle.mg_show.specs.Marking.{Finds, IsPlaceOf, Learns, Marks, given, gives_rank, is_within, named_by}
-pub use Rattle.mg_show.specs.Putting.{PutsAll}
 pub use Rattle.mg_show.specs.ReachText.{letters, letters_by, reach_line}
 pub use Rattle.mg_show.specs.Reached.{bits_line, by_place, enter_line, listed, marked_reach, row_reach, thread_reached}
 pub use Rattle.mg_show.specs.Shown.{bare, held_in, numbered, object_in, state_shown}

@@ -1,6 +1,6 @@
--- From what a text of the contents keeps to what is kept of the volume whose rows were read.
-use Rattle.mg_show.proofs.Names.{ℕ, ◌≡◌, List, Some, Appends, ForSome, refl, ap, ◌∙◌, inl, inr, subst, ⊎_elim, contents, state_in, VolumeRows, Image}
-use Rattle.mg_show.proofs.Names.{AppendsPrefix, text_of, PutsAll}
+-- From the text that was put of the contents, and what waited of it, to what is kept of the volume whose rows were read.
+use Rattle.mg_show.proofs.Names.{ℕ, ◌≡◌, List, [], ◌++◌, None, Option, Some, refl, sym, ap, inl, inr, subst, append-nil, ⊎_elim, ◌∙◌, Appends, ForSome}
+use Rattle.mg_show.proofs.Names.{state_in, VolumeRows, Image, AppendsPrefix, text_of, Held, Puts, PutsOf}
 use Rattle.mg_check.specs.ReadRuns.{only_none}
 use Rattle.mg_check.specs.RowsRead.{IsReadAs}
 use Rattle.mg_disk.specs.declared.disk.Disk as disks
@@ -8,11 +8,20 @@ use Rattle.mg_io.specs.Known.{AppendsPrefix-none}
 use Rattle.mg_io.specs.declared.traits.Sink as sinks
 use Rattle.mg_model.specs.Layout.{total_blocks}
 use Rattle.mg_model.specs.Replay.{replay}
+use Rattle.mg_model.specs.State.{State}
+use Rattle.mg_model.specs.Volume.{Is, volume}
 use Rattle.mg_model.specs.Words.{and_then}
-use Rattle.mg_serve.specs.declared.status.Status.{Status}
 use Rattle.mg_serve.specs.declared.status.Status.TheVariants as status
-use Rattle.mg_show.specs.Putting.{ShowsRows}
+use Rattle.mg_show.specs.Putting.{ShowsRows, status_of}
+use Rattle.mg_show.specs.Writing.{Adds, Writes}
+use Rattle.mg_show.specs.WritingLemmas.{writes_then}
 use Rattle.mg_show.specs.declared.command.Text.{Text}
+use Rattle.mg_show.specs.declared.faults.ShowFault.{ShowFault}
+use Rattle.mg_show.specs.declared.faults.ShowFault.TheVariants as fault
+
+-- what was taken, where nothing waited and nothing waits
+taken_whole : (a b : Option (List ℕ)) (v text : List ℕ) → v ≡ [] → Adds a b [] v text → Appends a b text
+taken_whole a b v text none adds = subst (λ t. Appends a b t) (sym (append-nil adds.put) ∙ ap (λ x. adds.put ++ x) (sym none) ∙ adds.all) adds.took
 
 module _ {D K : Type 0} (facts : disks.Ghosts D) (to : sinks.Ghosts K) (asked : Text) (rows : VolumeRows) (d : D) (s : K) (told : ForSome (facts.seen d) (IsReadAs rows)) where
   -- memory was wanting
@@ -27,31 +36,68 @@ module _ {D K : Type 0} (facts : disks.Ghosts D) (to : sinks.Ghosts K) (asked : 
     sink_failed = λ is. absurd (cc);
   }
 
-  -- the text was put, or a first part of it
-  pub rows_shown : (total : ℕ) (text : Image → List ℕ) (result : Status) (d' : D) (s' : K) → total ≡ total_blocks rows.params.frames → ((r : Image) → text r ≡ text_of asked (state_in rows r))
-      → PutsAll facts to (λ image. replay image total) text result d d' s s' → ShowsRows facts to asked result d d' s s'
-  rows_shown total text result d' s' is same puts = record {
-    done = λ done image seen.
-        let read = told image seen in
-        (state_in rows read.replayed, read.is, subst (λ t. Appends (to.taken s) (to.taken s') t) (same read.replayed) (puts.done done read.replayed (found image seen read)));
-    prefix = λ image seen.
-        let read = told image seen in
-        (state_in rows read.replayed, read.is, subst (λ t. AppendsPrefix (to.taken s) (to.taken s') t) (same read.replayed) (puts.prefix read.replayed (found image seen read)));
-    reads = puts.reads;
-    which = ⊎_elim (λ done. inl done) (λ other. inr (inr other)) puts.which;
-    memory = λ memory. ⊎_elim (λ (e : result ≡ status.Done). absurd (apart memory e)) (⊎_elim (λ (e : result ≡ status.Disk). absurd (apart-disk memory e)) (λ (e : result ≡ status.Sink). absurd (apart-sink memory e))) puts.which;
-    disk_failed = puts.disk_failed;
-    sink_failed = puts.sink_failed;
-  }
+  -- the text was put, or a first part of it, where nothing waited and nothing had failed
+  pub rows_shown : (total : ℕ) (text : Image → List ℕ) (d' : D) (s' s'' : K) (o o' o'' : Held) → total ≡ total_blocks rows.params.frames
+      → ((r : Image) → text r ≡ text_of asked (state_in rows r)) → o ≡ record { waiting = []; fault = None }
+      → PutsOf facts to (λ image. replay image total) text d d' s s' o o' → Puts to [] s' s'' o' o'' → (o''.fault ≡ None → o''.waiting ≡ [])
+      → ShowsRows facts to asked (status_of o''.fault) d d' s s''
+  rows_shown total text d' s' s'' o o' o'' is same begins puts rest empty = by_end o''.fault refl
     where
-      found : (image : Image) → facts.seen d ≡ Some image → (read : IsReadAs rows image) → contents facts (λ image. replay image total) d ≡ Some read.replayed
-      found image seen read = ap (λ o. and_then o (λ image. replay image total)) seen ∙ ap (replay image) is ∙ read.replay_is
+      whole : Writes to puts.told s s'' o o''
+      whole = subst (λ t. Writes to t s s'' o o'') (append-nil puts.told) (writes_then to puts.writes rest.writes)
 
-      apart : result ≡ status.Memory → result ≡ status.Done → ⊥
-      apart a b = cc
+      waits : o.waiting ≡ []
+      waits = ap (λ (h : Held). h.waiting) begins
 
-      apart-disk : result ≡ status.Memory → result ≡ status.Disk → ⊥
-      apart-disk a b = cc
+      none : o.fault ≡ None
+      none = ap (λ (h : Held). h.fault) begins
 
-      apart-sink : result ≡ status.Memory → result ≡ status.Sink → ⊥
-      apart-sink a b = cc
+      -- what was put is the text of the state
+      told_is : (image : Image) → facts.seen d ≡ Some image → (read : IsReadAs rows image) → puts.told ≡ text_of asked (state_in rows read.replayed)
+      told_is image seen read =
+          puts.is read.replayed (ap (λ o. and_then o (λ image. replay image total)) seen ∙ ap (replay image) is ∙ read.replay_is) ∙ same read.replayed
+
+      prefix : ForSome (facts.seen d) (λ image. (x : State) × (volume image ≡ Is x) × AppendsPrefix (to.taken s) (to.taken s'') (text_of asked x))
+      prefix image seen =
+          let read = told image seen in (
+            state_in rows read.replayed,
+            read.is,
+            subst (λ t. AppendsPrefix (to.taken s) (to.taken s'') t)
+                (ap (λ w. w ++ puts.told) waits ∙ told_is image seen read) (whole.prefix none),
+          )
+
+      by_end : (f : Option ShowFault) → o''.fault ≡ f → ShowsRows facts to asked (status_of f) d d' s s''
+      by_end None e = record {
+        done = λ _ image seen.
+            let read = told image seen in (
+              state_in rows read.replayed,
+              read.is,
+              subst (λ t. Appends (to.taken s) (to.taken s'') t) (told_is image seen read)
+                  (taken_whole (to.taken s) (to.taken s'') o''.waiting puts.told (empty e)
+                  (subst (λ w. Adds (to.taken s) (to.taken s'') w o''.waiting puts.told) waits (whole.adds e))),
+            );
+        prefix = prefix;
+        reads = puts.reads;
+        which = inl refl;
+        memory = λ is. absurd (cc);
+        disk_failed = λ is. absurd (cc);
+        sink_failed = λ is. absurd (cc);
+      }
+      by_end (Some fault.Disk) e = record {
+        done = λ is. absurd (cc);
+        prefix = prefix;
+        reads = puts.reads;
+        which = inr (inr (inl refl));
+        memory = λ is. absurd (cc);
+        disk_failed = λ is. ⊎_elim (λ (was : o.fault ≡ Some fault.Disk). absurd (cc)) (λ rose. rose) (puts.disk_rose (rest.not_read e));
+        sink_failed = λ is. absurd (cc);
+      }
+      by_end (Some fault.Sink) e = record {
+        done = λ is. absurd (cc);
+        prefix = prefix;
+        reads = puts.reads;
+        which = inr (inr (inr refl));
+        memory = λ is. absurd (cc);
+        disk_failed = λ is. absurd (cc);
+        sink_failed = λ is. ⊎_elim (λ (was : o.fault ≡ Some fault.Sink). absurd (cc)) (λ rose. rose) (whole.rose e);
+      }

@@ -1,9 +1,8 @@
 -- What is kept as the text of a volume is put, once it was found to be one.
-use Rattle.std.specs.Prelude.{ℕ, ◌≡◌, ◌⊎◌, List, None, Option, Some}
+use Rattle.std.specs.Prelude.{◌≡◌, ◌⊎◌, None, Option, Some}
 use Rattle.std.specs.Io.KnownBytes.{Appends}
 use Rattle.std.specs.Option.{ForSome}
-use Rattle.mg_check.specs.Reads.{OnlyRead, contents}
-use Rattle.mg_disk.specs.Disk.{Image}
+use Rattle.mg_check.specs.Reads.{OnlyRead}
 use Rattle.mg_disk.specs.Stops.{CountRose}
 use Rattle.mg_disk.specs.declared.disk.Disk as disks
 use Rattle.mg_faults.specs.Faults.{Rose}
@@ -31,14 +30,5 @@ pub record ShowsRows {D K : Type 0} (facts : disks.Ghosts D) (to : sinks.Ghosts 
   pub reads : OnlyRead facts disk disk'
   pub which : (result ≡ status.Done) ⊎ ((result ≡ status.Memory) ⊎ ((result ≡ status.Disk) ⊎ (result ≡ status.Sink)))
   pub memory : result ≡ status.Memory → sink' ≡ sink
-  pub disk_failed : result ≡ status.Disk → CountRose facts disk disk'
-  pub sink_failed : result ≡ status.Sink → Rose (to.faults sink) (to.faults sink') (to.is_spent sink')
-
--- The same of a text of what the journal's contents are, once the memory was taken.
-pub record PutsAll {D K : Type 0} (facts : disks.Ghosts D) (to : sinks.Ghosts K) (of : Image → Option Image) (text : Image → List ℕ) (result : Status) (disk disk' : D) (sink sink' : K) : Type 0 where
-  pub done : result ≡ status.Done → ForSome (contents facts of disk) (λ r. Appends (to.taken sink) (to.taken sink') (text r))
-  pub prefix : ForSome (contents facts of disk) (λ r. AppendsPrefix (to.taken sink) (to.taken sink') (text r))
-  pub reads : OnlyRead facts disk disk'
-  pub which : (result ≡ status.Done) ⊎ ((result ≡ status.Disk) ⊎ (result ≡ status.Sink))
   pub disk_failed : result ≡ status.Disk → CountRose facts disk disk'
   pub sink_failed : result ≡ status.Sink → Rose (to.faults sink) (to.faults sink') (to.is_spent sink')

@@ -111,22 +111,11 @@ fn show_rows<D: Disk, K: Sink>(
     requires within_disk { total_blocks rows.params.frames ≤ D.block_count disk.old }
     ensures { ShowsRows D.Disk K.Sink text result disk.old disk.new sink.old sink.new }
 {
-    rows.params.keep_rules();
-    let VolumeRows {
-        params,
-        globals,
-        accounts,
-        threads,
-        objects,
-        table,
-    } = rows;
     let mut out = match Writer::new(alloc) {
         Ok(out) => out,
         Err(_) => return Status::Memory,
     };
-    let shown = match shown_of(
-        alloc, params, globals, threads, objects, accounts, table, view,
-    ) {
+    let shown = match shown_of(alloc, rows, view) {
         Some(shown) => shown,
         None => return Status::Memory,
     };

@@ -1,28 +1,12 @@
-use Rattle.mg_show.proofs.Names.{ap, arith, subst, sym, ◌≤◌, ◌∙◌, Fits, thread_limit, text_of, state_shown}
+use Rattle.mg_show.proofs.Names.{ap, arith, subst, sym, ◌∙◌, Fits, thread_limit, text_of, state_shown}
 use Rattle.mg_check.specs.Reads.{CanRead}
 use Rattle.mg_check.specs.RowsRead.{ArePlaced}
 use Rattle.mg_journal.specs.Looked.{Placed}
-use Rattle.mg_model.specs.Limits.{credit_limit}
-use Rattle.mg_disk.specs.Disk.{Image}
 use Rattle.mg_serve.specs.declared.status.Status.{Status}
-use Rattle.mg_show.specs.Putting.{ShowsRows, status_of}
-use Rattle.mg_show.specs.Shown.{held_in}
-use Rattle.mg_show.proofs.Finished.{finished}
-use Rattle.mg_show.proofs.RowsKept.{apart_kept, credits_kept, distinct_kept}
+use Rattle.mg_show.specs.Putting.{ShowsRows}
 use Rattle.mg_show.proofs.RowsShown.{not_shown, rows_shown}
 use Rattle.mg_show.proofs.TextTold.{state-told}
 use Rattle.mg_show.proofs.top_call.show_rows.Goals as goal
-
-pub shown_of-requires-clause-apart : goal.shown_of-requires-clause-apart
-shown_of-requires-clause-apart g c = apart_kept c.args.rows c.requires.kept
-
-pub shown_of-requires-clause-credits : goal.shown_of-requires-clause-credits
-shown_of-requires-clause-credits g c =
-    let few = c.keep_rules.ensures.at_most_2_62_credits in
-    subst (λ n. n ≤ credit_limit) (sym (credits_kept c.args.rows c.requires.kept)) few
-
-pub shown_of-requires-clause-distinct : goal.shown_of-requires-clause-distinct
-shown_of-requires-clause-distinct g c = distinct_kept c.args.rows c.requires.kept
 
 pub put_text-requires-clause-placed : goal.put_text-requires-clause-placed
 put_text-requires-clause-placed g c = subst (ArePlaced thread_limit) (sym c.in-Some.ensures.threads) c.requires.kept.held.threads
@@ -43,15 +27,13 @@ pub returns-in-Some-room_of : goal.returns-in-Some-room_of
 returns-in-Some-room_of g c =
     let shown = c.in-Some.shown in
     let is = c.in-Some.ensures in
-    let text = λ (r : Image). text_of c.args.text (state_shown shown r) in
     subst (λ (status : Status). ShowsRows g.D.Disk g.K.Sink c.args.text status c.args.disk.now c.put_text.new.disk c.args.sink.now c.finish.new.sink)
     (sym c.finish.ensures.status)
-    (rows_shown g.D.Disk g.K.Sink c.args.text c.args.rows c.args.disk.now c.args.sink.now c.requires.told shown.view.total text
-    (status_of c.finish.new.self.fault) c.put_text.new.disk c.finish.new.sink (ap (λ (view : Placed). view.total) is.view ∙ c.requires.total)
+    (rows_shown g.D.Disk g.K.Sink c.args.text c.args.rows c.args.disk.now c.args.sink.now c.requires.told shown.view.total
+    (λ r. text_of c.args.text (state_shown shown r)) c.put_text.new.disk c.put_text.new.sink c.finish.new.sink c.in-Ok.out c.put_text.new.out
+    c.finish.new.self (ap (λ (view : Placed). view.total) is.view ∙ c.requires.total)
     (λ r. ap (text_of c.args.text) (state-told c.args.rows r shown is.params is.counters is.threads is.objects is.accounts is.frames
-    c.requires.kept.held.entries))
-    (finished g.D.Disk g.K.Sink (held_in shown) text c.args.disk.now c.put_text.new.disk c.args.sink.now c.put_text.new.sink c.finish.new.sink
-    c.in-Ok.out c.put_text.new.out c.finish.new.self c.in-Ok.ensures c.put_text.ensures c.finish.ensures.puts c.finish.ensures.empty))
+    c.requires.kept.held.entries)) c.in-Ok.ensures c.put_text.ensures c.finish.ensures.puts c.finish.ensures.empty)
 
 pub returns : goal.returns
 returns g c = not_shown g.D.Disk g.K.Sink c.args.text c.args.rows c.args.disk.now c.args.sink.now c.requires.told (g.met.D.Disk.now_has_been c.args.disk.now)
