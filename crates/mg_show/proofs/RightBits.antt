@@ -17,16 +17,9 @@ pub record AreDigits (has : Right → Bool) (r w x d p o : ℕ) : Type 0 where
   pub few_o : o ≤ 1
 
 pub bits-are : (has : Right → Bool) (r w x d p o : ℕ) → AreDigits has r w x d p o → (right : Right) → has_right (r + 2 * w + 4 * x + 8 * d + 16 * p + 32 * o) right ≡ has right
-bits-are has r w x d p o digits R = let e : (r + 2 * w + 4 * x + 8 * d + 16 * p + 32 * o) / 1 % 2 ≡ r = omega (arith, digits.few_r) in ap (λ n. n == 1) e ∙ digits.is_r
-bits-are has r w x d p o digits W =
-    let e : (r + 2 * w + 4 * x + 8 * d + 16 * p + 32 * o) / 2 % 2 ≡ w = omega (arith, digits.few_r, digits.few_w) in ap (λ n. n == 1) e ∙ digits.is_w
-bits-are has r w x d p o digits X =
-    let e : (r + 2 * w + 4 * x + 8 * d + 16 * p + 32 * o) / 4 % 2 ≡ x = omega (arith, digits.few_r, digits.few_w, digits.few_x) in ap (λ n. n == 1) e ∙ digits.is_x
-bits-are has r w x d p o digits D =
-    let e : (r + 2 * w + 4 * x + 8 * d + 16 * p + 32 * o) / 8 % 2 ≡ d = omega (arith, digits.few_r, digits.few_w, digits.few_x, digits.few_d) in ap (λ n. n == 1) e ∙ digits.is_d
-bits-are has r w x d p o digits P =
-    let e : (r + 2 * w + 4 * x + 8 * d + 16 * p + 32 * o) / 16 % 2 ≡ p = omega (arith, digits.few_r, digits.few_w, digits.few_x, digits.few_d, digits.few_p) in
-    ap (λ n. n == 1) e ∙ digits.is_p
-bits-are has r w x d p o digits O =
-    let e : (r + 2 * w + 4 * x + 8 * d + 16 * p + 32 * o) / 32 % 2 ≡ o = omega (arith, digits.few_r, digits.few_w, digits.few_x, digits.few_d, digits.few_p, digits.few_o) in
-    ap (λ n. n == 1) e ∙ digits.is_o
+bits-are has r w x d p o digits R = let e : (r + 2 * w + 4 * x + 8 * d + 16 * p + 32 * o) / 1 % 2 ≡ r = omega arith in ap (λ n. n == 1) e ∙ digits.is_r
+bits-are has r w x d p o digits W = let e : (r + 2 * w + 4 * x + 8 * d + 16 * p + 32 * o) / 2 % 2 ≡ w = omega arith in ap (λ n. n == 1) e ∙ digits.is_w
+bits-are has r w x d p o digits X = let e : (r + 2 * w + 4 * x + 8 * d + 16 * p + 32 * o) / 4 % 2 ≡ x = omega arith in ap (λ n. n == 1) e ∙ digits.is_x
+bits-are has r w x d p o digits D = let e : (r + 2 * w + 4 * x + 8 * d + 16 * p + 32 * o) / 8 % 2 ≡ d = omega arith in ap (λ n. n == 1) e ∙ digits.is_d
+bits-are has r w x d p o digits P = let e : (r + 2 * w + 4 * x + 8 * d + 16 * p + 32 * o) / 16 % 2 ≡ p = omega arith in ap (λ n. n == 1) e ∙ digits.is_p
+bits-are has r w x d p o digits O = let e : (r + 2 * w + 4 * x + 8 * d + 16 * p + 32 * o) / 32 % 2 ≡ o = omega arith in ap (λ n. n == 1) e ∙ digits.is_o

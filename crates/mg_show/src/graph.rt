@@ -17,9 +17,8 @@ use crate::graph_lines::{
     print_entry_arrow, print_object_node, print_slot_arrow, print_thread_node,
 };
 use crate::held::Shown;
-use crate::marks::{fill, has_r, is_within, mark_opened, rank, rights_on};
+use crate::marks::{fill, has_r, is_within, mark_opened, rank, rights_on, walk};
 use crate::pages::list_of;
-use crate::walk::walk;
 use crate::writer::Writer;
 use mg_disk::Disk;
 use mg_io::Sink;

@@ -12,8 +12,6 @@ mod pages;
 mod reach;
 mod state;
 mod top_call;
-mod walk;
-mod words;
 mod writer;
 
 pub use command::{Text, read_words};

@@ -1,5 +1,5 @@
 use Rattle.mg_show.proofs.Names.{◌≡◌, ℕ, ◌+◌, List, length, Learns, held_in, AreRanked}
-use Rattle.mg_show.proofs.walk.walk.Given as goal
+use Rattle.mg_show.proofs.marks.walk.Given as goal
 
 -- what is reached in fewer steps has its rank
 abbrev pub invariant-loop-k : goal.invariant-loop-k

@@ -1,7 +1,7 @@
 use Rattle.mg_show.proofs.Names.{◌/◌, ap, length, sym, ◌∙◌, page_of, of_same}
 use Rattle.mg_show.specs.WordText.{pages_text}
 use Rattle.mg_show.proofs.WordTexts.{row_text-pages}
-use Rattle.mg_show.proofs.words.put_object.Goals as goal
+use Rattle.mg_show.proofs.state.put_object_words.Goals as goal
 
 pub returns : goal.returns
 returns g c =

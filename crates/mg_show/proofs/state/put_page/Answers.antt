@@ -1,6 +1,6 @@
 use Rattle.mg_show.proofs.Names.{ap, ◌*◌, words_text, of_behind}
 use Rattle.mg_show.specs.WordText.{page_text}
-use Rattle.mg_show.proofs.words.put_page.Goals as goal
+use Rattle.mg_show.proofs.state.put_page.Goals as goal
 
 pub returns : goal.returns
 unfolding page_text

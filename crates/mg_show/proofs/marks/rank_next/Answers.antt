@@ -1,6 +1,6 @@
 use Rattle.mg_show.proofs.Names.{[], ap, if◌then◌else◌, sym, listed}
 use Rattle.mg_show.proofs.Learning.{found_none, found_same}
-use Rattle.mg_show.proofs.walk.rank_next.Goals as goal
+use Rattle.mg_show.proofs.marks.rank_next.Goals as goal
 
 pub returns-then-is_next : goal.returns-then-is_next
 returns-then-is_next g c =

@@ -1,7 +1,7 @@
 use Rattle.mg_show.proofs.Names.{ap, sym, ◌∙◌, words_text, words_read, puts_none, puts_same}
 use Rattle.mg_show.specs.WordText.{block_text}
 use Rattle.mg_show.proofs.WordTexts.{words_text-zeros}
-use Rattle.mg_show.proofs.words.put_read.Goals as goal
+use Rattle.mg_show.proofs.state.put_read.Goals as goal
 
 pub returns-then-is_held : goal.returns-then-is_held
 unfolding block_text

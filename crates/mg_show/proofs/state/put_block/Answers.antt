@@ -1,6 +1,6 @@
 use Rattle.mg_show.proofs.Names.{◌≡◌, ◌+◌, ◌*◌, ◌++◌, ap, arith, sym, ◌∙◌, numbers_at, words_text, word_text, puts_same, puts_then}
 use Rattle.mg_show.proofs.WordTexts.{block_text-all, numbers_text-more}
-use Rattle.mg_show.proofs.words.put_block.Goals as goal
+use Rattle.mg_show.proofs.state.put_block.Goals as goal
 
 pub loop-k-preserved : goal.loop-k-preserved
 loop-k-preserved g c =

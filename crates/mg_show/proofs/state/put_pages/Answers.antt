@@ -2,7 +2,7 @@ use Rattle.mg_show.proofs.Names.{◌≡◌, ap, arith, length, sym, of_put, of_s
 use Rattle.mg_show.specs.WordText.{pages_text}
 use Rattle.mg_show.proofs.WordTexts.{pages_text-more, pages_text-none}
 use Rattle.mg_show.proofs.Learning.{still_shown}
-use Rattle.mg_show.proofs.words.put_pages.Goals as goal
+use Rattle.mg_show.proofs.state.put_pages.Goals as goal
 
 pub loop-i-init : goal.loop-i-init
 loop-i-init g c =

@@ -1,5 +1,5 @@
 use Rattle.mg_show.proofs.Names.{numbers_at, words_text, Puts}
-use Rattle.mg_show.proofs.words.put_block.Given as goal
+use Rattle.mg_show.proofs.state.put_block.Given as goal
 
 -- the words before this one are put
 abbrev pub invariant-loop-k : goal.invariant-loop-k

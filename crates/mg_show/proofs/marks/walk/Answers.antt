@@ -1,7 +1,7 @@
 use Rattle.mg_show.proofs.Names.{◌≡◌, ◌+◌, arith, refl, subst, ◌∙◌, AreRanked}
 use Rattle.mg_show.proofs.Learning.{learns_none, learns_so, learns_then, still_shown}
 use Rattle.mg_show.proofs.Walking.{ranked-more}
-use Rattle.mg_show.proofs.walk.walk.Goals as goal
+use Rattle.mg_show.proofs.marks.walk.Goals as goal
 
 pub loop-k-init : goal.loop-k-init
 loop-k-init g c = record {

@@ -1,5 +1,5 @@
 use Rattle.mg_show.proofs.Names.{◌+◌, take, Finds, gives_rank, is_within, held_in, listed_at}
-use Rattle.mg_show.proofs.walk.go_on.Given as goal
+use Rattle.mg_show.proofs.marks.go_on.Given as goal
 
 -- what the lists before this one name has its rank
 abbrev pub invariant-loop-i : goal.invariant-loop-i

@@ -1,5 +1,5 @@
 use Rattle.mg_show.proofs.Names.{length, take, rows_text, held_in, PutsOf}
-use Rattle.mg_show.proofs.words.put_words.Given as goal
+use Rattle.mg_show.proofs.state.put_words.Given as goal
 
 -- the words of the objects before this one are put
 abbrev pub invariant-loop-i : goal.invariant-loop-i
