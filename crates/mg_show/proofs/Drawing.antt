@@ -14,10 +14,6 @@ use Rattle.mg_show.proofs.ByPlaces.{places-more, places-same}
 use Rattle.mg_show.proofs.Letters.{any-right, rights-letters}
 use Rattle.mg_show.proofs.Listing.{held-bare}
 
--- one text behind another, as it is printed
-pub printed : (x y z a b : List ℕ) → y ≡ x ++ a → z ≡ y ++ b → z ≡ x ++ (a ++ b)
-printed x y z a b first second = second ∙ ap (λ t. t ++ b) first ∙ append_assoc x a b
-
 -- a text between quotes, of which each stands with the text beside it
 pub quotes-around : (m c l : List ℕ) → ((m ++ (c ++ 34 ∷ [])) ++ l) ++ 34 ∷ 93 ∷ 10 ∷ [] ≡ (((m ++ c) ++ quoted l) ++ 93 ∷ []) ++ 10 ∷ []
 quotes-around m c l =

@@ -110,6 +110,7 @@ fn has_number(thread: &(u64, ThrRow), number: u64) -> bool
 }
 
 // Writes these threads, and what is reached from the objects that these slots name in at most `steps` steps.
+#[tactic(auto, using(crate::proofs::Learning::still_shown))]
 fn put_part<D: Disk, K: Sink>(
     shown: &Shown,
     drawn: &[(u64, ThrRow)],
@@ -230,6 +231,7 @@ fn put_slot<K: Sink>(shown: &Shown, thread: u64, slot: Slot, out: &mut Writer, s
 }
 
 /// Writes the arrows of the lists whose rank is from 1 to `steps`. A byte has R for a list. Each of them is read once.
+#[tactic(auto, using(crate::proofs::Learning::still_shown))]
 fn put_lists<D: Disk, K: Sink>(
     shown: &Shown,
     steps: u64,

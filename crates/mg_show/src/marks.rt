@@ -183,6 +183,7 @@ fn joined(byte: u8, weight: u8, row: &ObjRow, password: u64, right: Right, perio
 
 /// The objects that are reached in at most `steps` steps get their ranks; those of the start have theirs. A byte has R for each object that a
 /// thread reads as a list. Each list is read once.
+#[tactic(auto, using(crate::proofs::Learning::still_shown))]
 pub(crate) fn walk<D: Disk>(
     shown: &Shown,
     bytes: &[u8],
@@ -205,6 +206,7 @@ pub(crate) fn walk<D: Disk>(
 }
 
 // A step from the lists with this rank.
+#[tactic(auto, using(crate::proofs::Learning::still_shown))]
 fn go_on<D: Disk>(
     shown: &Shown,
     bytes: &[u8],

@@ -21,6 +21,7 @@ use mg_model::{ObjRow, Slot, ThrRow};
 
 /// Writes for each thread, in order, the objects that it may reach now, and the entries at which it may enter. There is a byte for each
 /// object. A right that a list gives is found once.
+#[tactic(auto, using(crate::proofs::Learning::still_shown))]
 pub(crate) fn put_reach<D: Disk, K: Sink>(
     shown: &Shown,
     bytes: &mut [u8],
@@ -61,6 +62,7 @@ fn put_thread<D: Disk, K: Sink>(
 }
 
 // Each object gets, in its byte, the rights that the lists give on it which these slots open.
+#[tactic(auto, using(crate::proofs::Learning::still_shown))]
 fn mark_lists<D: Disk>(
     shown: &Shown,
     slots: &[Slot],

@@ -147,6 +147,7 @@ fn put_slots<K: Sink>(slots: &[Slot], out: &mut Writer, sink: &mut K)
 
 // Writes the words of objects that are not 0, object by object, each as a line with its address. Each page that a frame holds is read
 // once.
+#[tactic(auto, using(crate::proofs::Learning::still_shown))]
 fn put_words<D: Disk, K: Sink>(shown: &Shown, disk: &mut D, out: &mut Writer, sink: &mut K)
     requires can { CanShow D.Disk shown.now disk.old }
     ensures { PutsOf D.Disk K.Sink (held_in shown.now) (λ r. rows_text r (length shown.now.frames) shown.now.frames shown.now.objects) disk.old disk.new sink.old sink.new out.old out.new }
@@ -178,6 +179,7 @@ fn put_object_words<D: Disk, K: Sink>(
 }
 
 // Writes the words of `count` pages from this one on.
+#[tactic(auto, using(crate::proofs::Learning::still_shown))]
 fn put_pages<D: Disk, K: Sink>(
     shown: &Shown,
     first: u64,

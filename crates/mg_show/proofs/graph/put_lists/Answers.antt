@@ -1,14 +1,10 @@
 use Rattle.std.specs.Prelude.{◌&&◌}
 use Rattle.mg_show.proofs.Names.{arith, lists_ranked, of_all, of_put, of_same, of_then, puts_none}
 use Rattle.mg_show.proofs.Drawing.{list-next}
-use Rattle.mg_show.proofs.Learning.{still_shown}
 use Rattle.mg_show.proofs.graph.put_lists.Goals as goal
 
 pub loop-i-init : goal.loop-i-init
 loop-i-init g c = of_put g.D.Disk g.K.Sink (g.met.D.Disk.now_has_been c.args.disk.now) (puts_none g.K.Sink c.args.sink.now c.args.out.now)
-
-pub put_left-requires : goal.put_left-requires
-put_left-requires g c = record { can = still_shown g.D.Disk c.args.shown.now c.requires.can c.loop-i.invariant.reads }
 
 pub loop-i-preserved : goal.loop-i-preserved
 loop-i-preserved g c =

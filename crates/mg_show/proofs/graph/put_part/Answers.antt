@@ -1,12 +1,8 @@
 use Rattle.mg_show.proofs.Names.{arith, refl, bases_of}
 use Rattle.mg_show.specs.WritingLemmas.{of_after}
 use Rattle.mg_show.proofs.Drawing.{part-told}
-use Rattle.mg_show.proofs.Learning.{still_shown}
 use Rattle.mg_show.proofs.Walking.{ranked-first}
 use Rattle.mg_show.proofs.graph.put_part.Goals as goal
-
-pub put_ranked-requires-clause-can : goal.put_ranked-requires-clause-can
-put_ranked-requires-clause-can g c = still_shown g.D.Disk c.args.shown.now c.requires.can c.walk.ensures.ranks.reads.reads
 
 pub returns : goal.returns
 returns g c =

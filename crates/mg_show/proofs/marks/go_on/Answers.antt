@@ -1,14 +1,11 @@
 use Rattle.std.specs.Prelude.{◌&&◌, ◌==◌, slice_index}
 use Rattle.mg_show.proofs.Names.{◌≤◌, ap, arith, length, ◌∙◌, take_all, listed_at}
-use Rattle.mg_show.proofs.Learning.{found_none, found_same, learns_then, still_shown}
+use Rattle.mg_show.proofs.Learning.{found_none, found_same, learns_then}
 use Rattle.mg_show.proofs.Walking.{listed-next}
 use Rattle.mg_show.proofs.marks.go_on.Goals as goal
 
 pub loop-i-init : goal.loop-i-init
 loop-i-init g c = found_none g.D.Disk c.args.disk.now c.args.ranks.now c.args.out.now (g.met.D.Disk.now_has_been c.args.disk.now)
-
-pub rank_next-requires-clause-can : goal.rank_next-requires-clause-can
-rank_next-requires-clause-can g c = still_shown g.D.Disk c.args.shown.now c.requires.can c.loop-i.invariant.learns.reads.reads
 
 pub loop-i-preserved : goal.loop-i-preserved
 loop-i-preserved g c = record {

@@ -1,5 +1,5 @@
 use Rattle.mg_show.proofs.Names.{◌≡◌, ◌+◌, arith, refl, subst, ◌∙◌, AreRanked}
-use Rattle.mg_show.proofs.Learning.{learns_none, learns_so, learns_then, still_shown}
+use Rattle.mg_show.proofs.Learning.{learns_none, learns_so, learns_then}
 use Rattle.mg_show.proofs.Walking.{ranked-more}
 use Rattle.mg_show.proofs.marks.walk.Goals as goal
 
@@ -9,9 +9,6 @@ loop-k-init g c = record {
       (λ r bases are. are);
   long = refl;
 }
-
-pub go_on-requires-clause-can : goal.go_on-requires-clause-can
-go_on-requires-clause-can g c = still_shown g.D.Disk c.args.shown.now c.requires.can c.loop-k.invariant.ranks.reads.reads
 
 pub loop-k-preserved : goal.loop-k-preserved
 loop-k-preserved g c = record {

@@ -1,12 +1,9 @@
 use Rattle.mg_show.proofs.Names.{◌≤◌, ap, arith, length, take_all, Slot, capabilities, entries_under, state_shown, flat_more}
-use Rattle.mg_show.proofs.Learning.{found_list, found_none, found_same, found_then, still_shown}
+use Rattle.mg_show.proofs.Learning.{found_list, found_none, found_same, found_then}
 use Rattle.mg_show.proofs.reach.mark_lists.Goals as goal
 
 pub loop-i-init : goal.loop-i-init
 loop-i-init g c = found_none g.D.Disk c.args.disk.now c.args.bytes.now c.args.out.now (g.met.D.Disk.now_has_been c.args.disk.now)
-
-pub list_under-list-requires : goal.list_under-list-requires
-list_under-list-requires g c = record { can = still_shown g.D.Disk c.args.shown.now c.requires.can c.loop-i.invariant.learns.reads.reads }
 
 pub loop-i-preserved : goal.loop-i-preserved
 loop-i-preserved g c =

@@ -1,6 +1,5 @@
 use Rattle.mg_show.proofs.Names.{All, ℕ, ◌++◌, ◌≤◌, ◌<◌, ap, arith, flat_map, length, subst, take, ◌∙◌, take_all, IsObjectRow, ObjectRow, AreApart}
 use Rattle.mg_show.proofs.Names.{thread_reached, flat_more, of_put, of_same, of_then, puts_none}
-use Rattle.mg_show.proofs.Learning.{still_shown}
 use Rattle.mg_show.proofs.Reaching.{reach_same}
 use Rattle.mg_show.proofs.reach.put_reach.Goals as goal
 
@@ -9,9 +8,6 @@ loop-i-init g c = record {
   puts = of_put g.D.Disk g.K.Sink (g.met.D.Disk.now_has_been c.args.disk.now) (puts_none g.K.Sink c.args.sink.now c.args.out.now);
   long = c.requires.long;
 }
-
-pub put_thread-requires-clause-can : goal.put_thread-requires-clause-can
-put_thread-requires-clause-can g c = still_shown g.D.Disk c.args.shown.now c.requires.can c.loop-i.invariant.puts.reads
 
 pub loop-i-preserved : goal.loop-i-preserved
 loop-i-preserved g c =

@@ -1,7 +1,6 @@
 use Rattle.mg_show.proofs.Names.{◌≡◌, ap, arith, length, sym, of_put, of_same, of_then, puts_none}
 use Rattle.mg_show.specs.WordText.{pages_text}
 use Rattle.mg_show.proofs.WordTexts.{pages_text-more, pages_text-none}
-use Rattle.mg_show.proofs.Learning.{still_shown}
 use Rattle.mg_show.proofs.state.put_pages.Goals as goal
 
 pub loop-i-init : goal.loop-i-init
@@ -9,9 +8,6 @@ loop-i-init g c =
     let table = c.args.shown.now.frames in
     of_same g.D.Disk g.K.Sink (λ r. sym (pages_text-none r (length table) table c.args.first))
     (of_put g.D.Disk g.K.Sink (g.met.D.Disk.now_has_been c.args.disk.now) (puts_none g.K.Sink c.args.sink.now c.args.out.now))
-
-pub put_page-requires-clause-can : goal.put_page-requires-clause-can
-put_page-requires-clause-can g c = still_shown g.D.Disk c.args.shown.now c.requires.can c.loop-i.invariant.reads
 
 pub loop-i-preserved : goal.loop-i-preserved
 loop-i-preserved g c =

@@ -1,13 +1,9 @@
 use Rattle.mg_show.proofs.Names.{arith, length, rows_text, objects_more, of_all, of_put, of_same, of_then, puts_none}
 use Rattle.mg_show.specs.WordText.{row_text}
-use Rattle.mg_show.proofs.Learning.{still_shown}
 use Rattle.mg_show.proofs.state.put_words.Goals as goal
 
 pub loop-i-init : goal.loop-i-init
 loop-i-init g c = of_put g.D.Disk g.K.Sink (g.met.D.Disk.now_has_been c.args.disk.now) (puts_none g.K.Sink c.args.sink.now c.args.out.now)
-
-pub put_object_words-requires : goal.put_object_words-requires
-put_object_words-requires g c = record { can = still_shown g.D.Disk c.args.shown.now c.requires.can c.loop-i.invariant.reads }
 
 pub loop-i-preserved : goal.loop-i-preserved
 loop-i-preserved g c =
