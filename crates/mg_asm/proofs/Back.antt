@@ -7,15 +7,14 @@ use Rattle.std.proofs.lemmas.Bool.{lt-ltb}
 use Rattle.std.proofs.lemmas.Bool.Decides.{nat_tests}
 use Rattle.std.proofs.lemmas.Fmt.{decimal_nonempty}
 use Rattle.std.proofs.lemmas.List.Elements.{All-head, All-tail}
-use Rattle.mg_asm.specs.declared.faults.AsmKind.TheVariants.{Register, Number, TooLong}
+use Rattle.mg_asm.specs.declared.faults.AsmKind.TheVariants.{Register, TooLong}
 use Rattle.mg_asm.specs.declared.items.Item.{Item}
 use Rattle.mg_asm.specs.declared.items.Item.TheVariants as item
-use Rattle.mg_asm.specs.declared.names.Name.{Name}
 use Rattle.mg_asm.specs.Assembled.{assembled, behind, word_limit, words_in, words_of}
 use Rattle.mg_asm.specs.LineLemmas.{AreWords, all-words, line-misses, newline_low, number-word, some_word, split-before, split-spaced, split-whole}
 use Rattle.mg_asm.specs.Printed.{instruction_words, printed, printed_words, signed_text, word_line}
 use Rattle.mg_asm.specs.Reading.{as_word, from, jump_to, line_reading, on_ok, reading, register_1_and_immediate, registers_2, registers_2_and_immediate, registers_3}
-use Rattle.mg_asm.specs.Tokens.{begins_note, distance_of, first_piece, immediate_of, is_gap, line_tokens, register_of, tokens}
+use Rattle.mg_asm.specs.Tokens.{begins_note, first_piece, is_gap, line_tokens, tokens}
 use Rattle.mg_asm.proofs.Numbers.{distance_of-back, immediate_of-back, name_of-signed, register_of-back, signed-high}
 use Rattle.mg_asm.proofs.Stepwise.{items-stepwise, items_behind, with_item, words-stepwise, words_behind, words_in-more}
 use Rattle.mg_text.specs.NumberLemmas.{High, hex-high, hex-some, number_of-hex}
@@ -52,31 +51,19 @@ signed-word : (i : ℕ) → i < 2 ^ 32 → (is_some_word (signed_text i) ≡ tru
 signed-word i fits = (signed-case i (nat_lt i (2 ^ 31)) fits, signed-high i fits)
 
 registers_2-back : (a b : ℕ) → a < 8 → b < 8 → registers_2 (decimal a ∷ decimal b ∷ []) ≡ Ok (a, b)
-registers_2-back a b ha hb =
-    ap (λ o. from Register o (λ x. from Register (register_of (decimal b)) (λ y. Ok (x, y)))) (register_of-back a ha)
-    ∙ ap (λ o. from Register o (λ y. Ok (a, y))) (register_of-back b hb)
+registers_2-back a b ha hb = grind (arith, register_of-back)
 
 registers_3-back : (a b c : ℕ) → a < 8 → b < 8 → c < 8 → registers_3 (decimal a ∷ decimal b ∷ decimal c ∷ []) ≡ Ok (a, b, c)
-registers_3-back a b c ha hb hc =
-    ap (λ o. from Register o (λ x. from Register (register_of (decimal b)) (λ y. from Register (register_of (decimal c)) (λ z. Ok (x, y, z))))) (register_of-back a ha)
-    ∙ ap (λ o. from Register o (λ y. from Register (register_of (decimal c)) (λ z. Ok (a, y, z)))) (register_of-back b hb)
-    ∙ ap (λ o. from Register o (λ z. Ok (a, b, z))) (register_of-back c hc)
+registers_3-back a b c ha hb hc = grind (arith, register_of-back)
 
 register_1-back : (a i : ℕ) → a < 8 → i < 2 ^ 32 → register_1_and_immediate (decimal a ∷ decimal i ∷ []) ≡ Ok (a, i)
-register_1-back a i ha hi =
-    ap (λ o. from Register o (λ x. from Number (immediate_of (decimal i)) (λ y. Ok (x, y)))) (register_of-back a ha)
-    ∙ ap (λ o. from Number o (λ y. Ok (a, y))) (immediate_of-back i hi)
+register_1-back a i ha hi = grind (arith, register_of-back, immediate_of-back)
 
 registers_2_and-back : (a b i : ℕ) → a < 8 → b < 8 → i < 2 ^ 32 → registers_2_and_immediate (decimal a ∷ decimal b ∷ decimal i ∷ []) ≡ Ok (a, b, i)
-registers_2_and-back a b i ha hb hi =
-    ap (λ o. from Register o (λ x. from Register (register_of (decimal b)) (λ y. from Number (immediate_of (decimal i)) (λ z. Ok (x, y, z))))) (register_of-back a ha)
-    ∙ ap (λ o. from Register o (λ y. from Number (immediate_of (decimal i)) (λ z. Ok (a, y, z)))) (register_of-back b hb)
-    ∙ ap (λ o. from Number o (λ z. Ok (a, b, z))) (immediate_of-back i hi)
+registers_2_and-back a b i ha hb hi = grind (arith, register_of-back, immediate_of-back)
 
 jump_to-back : (near i : ℕ) → i < 2 ^ 32 → jump_to near (signed_text i) ≡ Ok (item.Word (near + i * 2 ^ 32))
-jump_to-back near i fits =
-    ap (λ o. option_map_or (λ (name : Name). Ok (item.Jump near name)) o (from Number (distance_of (signed_text i)) (λ n. Ok (item.Word (near + n * 2 ^ 32))))) (name_of-signed i fits)
-    ∙ ap (λ o. from Number o (λ n. Ok (item.Word (near + n * 2 ^ 32)))) (distance_of-back i fits)
+jump_to-back near i fits = grind (arith, name_of-signed, distance_of-back)
 
 -- an instruction's words are those of its line, and spell its word
 record IsReadBack (word : ℕ) (first : List ℕ) (more : List (List ℕ)) : Type 0 where
@@ -181,12 +168,7 @@ instruction-back op.Sys h fits = record { some = refl; high = search rules; are 
 
 -- a word's line is read as the word
 plain-back : (w : ℕ) → w < 2 ^ 64 → IsReadBack w (codes ".word") (hex_text w ∷ [])
-plain-back w fits = record {
-  some = refl;
-  high = search rules;
-  are = ((hex-some w, hex-high w), tt);
-  read = ap (λ o. from Number o (λ n. Ok (item.Word n))) (number_of-hex w fits);
-}
+plain-back w fits = grind (arith, hex-some, hex-high, number_of-hex)
 
 by-decoded : (w : ℕ) (o : Option Instr) → w < 2 ^ 64 → IfSome o HasRegisters → IfSome o (λ instr. encoded instr ≡ w)
     → let p = option_map_or instruction_words o (codes ".word", hex_text w ∷ []) in IsReadBack w p.0 p.1
@@ -199,9 +181,7 @@ word-back : (w : ℕ) → w < 2 ^ 64 → IsReadBack w (printed_words w).0 (print
 word-back w fits = by-decoded w (decoded w) fits (decoded-registers w) (decoded-word w)
 
 word-reads : (w : ℕ) → w < 2 ^ 64 → line_reading (word_line w) ≡ Ok (item.Word w)
-word-reads w fits =
-    let back = word-back w fits in
-    ap reading (line-tokens (printed_words w).0 (printed_words w).1 back.some back.high back.are) ∙ back.read
+word-reads w fits = grind (arith, word-back, line-tokens)
 
 -- the items of a printed text: the last line is empty
 word_items : List ℕ → List Item

@@ -45,8 +45,7 @@ numbers : (address word : ℕ) → IsWord address → IsWord word → numbers_of
 numbers address word a w = rw (number_of-hex address a, number_of-hex word w) refl
 
 line-before : (thread address word : ℕ) (rest : List ℕ) → store_line thread address word ++ rest ≡ front thread address word ++ 10 ∷ rest
-line-before thread address word rest =
-    append_assoc (front thread address word) (10 ∷ []) rest
+line-before thread address word rest = grind (arith, append_assoc)
 
 pub lines-back : (thread address : ℕ) (ws : List ℕ) → thread < 2 ^ 64 → address + 8 * length ws ≤ 2 ^ 64 → All IsWord ws
     → lines (store_lines thread address ws) ≡ store_calls thread address ws

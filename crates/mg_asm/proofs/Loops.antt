@@ -1,5 +1,6 @@
 -- The items of lines with one line more.
-use Rattle.std.proofs.Common.{◌≡◌, ℕ, ◌+◌, List, [], ◌∷◌, ◌++◌, length, Ok, ap, sym, ◌∙◌}
+use Rattle.std.proofs.Common.{arith}
+use Rattle.std.proofs.Common.{◌≡◌, ℕ, ◌+◌, List, [], ◌∷◌, ◌++◌, length, Ok, ap}
 use Rattle.mg_asm.specs.declared.items.Item.{Item}
 use Rattle.mg_asm.specs.Assembled.{behind}
 use Rattle.mg_asm.specs.Reading.{line_reading}
@@ -13,6 +14,4 @@ lines-at before bytes line lines cut = ap (items_behind before) cut
 
 pub lines-next : (before : List Item) (bytes line more : List ℕ) (it : Item) → split_at is_newline bytes ≡ line ∷ split_at is_newline more
     → Ok it ≡ behind before (line_reading line) → items_behind before (split_at is_newline bytes) ≡ items_behind (before ++ it ∷ []) (split_at is_newline more)
-lines-next before bytes line more it cut read =
-    lines-at before bytes line (split_at is_newline more) cut
-    ∙ ap (λ r. with_item (length before + 1) r (λ made. items_behind (before ++ made ∷ []) (split_at is_newline more))) (sym read)
+lines-next before bytes line more it cut read = grind (arith, lines-at, with_item, items_behind)

@@ -14,8 +14,7 @@ decimal_of-back n fits =
     within 10 20 n (decimal n) (decimal_nonempty n fits) (length-decimal-le 20 n (omega arith) (omega arith) fits) (value-decimal n fits) fits
 
 pub immediate_of-back : (i : ℕ) → i < 2 ^ 32 → immediate_of (decimal i) ≡ Some i
-immediate_of-back i fits =
-    ap (λ o. and_then o (below (2 ^ 32))) (number_of-back i (omega arith)) ∙ ap (λ v. if v then Some i else None) (lt-ltb i (2 ^ 32) fits)
+immediate_of-back i fits = grind (arith, number_of-back, lt-ltb)
 
 pub register_of-back : (a : ℕ) → a < 8 → register_of (decimal a) ≡ Some a
 register_of-back a fits = ap register_of (decimal_digit a (omega arith)) ∙ one_digit
@@ -29,10 +28,7 @@ not_minus [] some h = absurd (omega (arith, some))
 not_minus (b ∷ xs) some h = let large : 48 ≤ b = h.0.0 in let e : (b == 45) ≡ false = grind (arith, nat_tests) in rw e refl
 
 signed_case : (i : ℕ) (v : Bool) → nat_lt i (2 ^ 31) ≡ v → i < 2 ^ 32 → distance_of (if v then decimal i else 45 ∷ decimal (2 ^ 32 - i)) ≡ Some i
-signed_case i true e fits =
-    not_minus (decimal i) (decimal_nonempty i (omega arith)) (decimal-digits i (omega arith))
-    ∙ ap (λ o. and_then o (below (2 ^ 31))) (decimal_of-back i (omega arith))
-    ∙ ap (λ v. if v then Some i else None) e
+signed_case i true e fits = grind (arith, not_minus, decimal_nonempty, decimal-digits, decimal_of-back)
 signed_case i false e fits =
     let large : 2 ^ 31 ≤ i = grind (arith, nat_tests) in
     ap (λ o. and_then o turned_back) (decimal_of-back (2 ^ 32 - i) (omega arith)) ∙ turned i large fits

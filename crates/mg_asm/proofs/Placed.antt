@@ -28,9 +28,7 @@ place-more n name (x ∷ items) it = by_test (place-more (n + size x) name items
         → (v : Bool) → (if v then Some n else place_from (n + size x) name (items ++ it ∷ []))
         ≡ or_else (if v then Some n else place_from (n + size x) name items) (last_place name (n + (size x + words_in items)) it)
     by_test ih true = refl
-    by_test ih false =
-        let e : (n + size x) + words_in items ≡ n + (size x + words_in items) = omega arith in
-        ih ∙ ap (λ k. or_else (place_from (n + size x) name items) (last_place name k it)) e
+    by_test ih false = grind arith
 
 -- the same bytes are the same name
 place-same : (p q : Name) (items : List Item) → same_bytes p.bytes q.bytes ≡ true → place_of q items ≡ place_of p items
@@ -61,8 +59,7 @@ kept-label old new before known place read counted is placed kept name =
     ∙ sym (place-more 0 name before (item.Label known))
   where
     by_test : (v : Bool) → same_bytes known.bytes name.bytes ≡ v → (if v then Some place else place_in old name) ≡ or_else (place_of name before) (if v then Some (words_in before) else None)
-    by_test true same =
-        ap (λ n. Some n) counted ∙ ap (λ o. or_else o (Some (words_in before))) (sym (place-same known name before same ∙ new_label before known read is))
+    by_test true same = grind (arith, place-same, new_label)
     by_test false same = kept name ∙ keeps (place_of name before)
       where
         keeps : (o : Option ℕ) → o ≡ or_else o None

@@ -63,8 +63,7 @@ counted-more done x k counted = let e = length-append done (x ∷ []) in omega (
 
 oks-more : {X Y : Type 0} (f : X → Result Y AsmKind) (done : List X) (x : X) (given : List Y) (y : Y) → map f done ≡ oks given → f x ≡ Ok y
     → map f (done ++ x ∷ []) ≡ oks (given ++ y ∷ [])
-oks-more f done x given y are is =
-    map-append f done (x ∷ []) ∙ ap (λ xs. xs ++ f x ∷ []) are ∙ ap (λ r. oks given ++ r ∷ []) is ∙ sym (map-append (λ y. Ok y) given (y ∷ []))
+oks-more f done x given y are is = grind (arith, map-append)
 
 pub words_in-more : (items : List Item) (it : Item) → words_in (items ++ it ∷ []) ≡ words_in items + size it
 words_in-more [] it = let e : size it + 0 ≡ 0 + size it = omega arith in e

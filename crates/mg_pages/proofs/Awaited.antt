@@ -30,10 +30,8 @@ length-replayed store image fits = length-coming store [] image fits
 -- a block that is staged, and one that is not
 pub coming-waiting : (store : Store) (writes : List (ℕ × List ℕ)) (image : Image) (block : ℕ) (x : List ℕ) → IsFitting store image → are_once writes ≡ true → block < length image → waiting writes block ≡ Some x
     → block_at (coming_of store writes image) block ≡ x
-coming-waiting store writes image block x fits once below is =
-    written-waiting writes (replayed (total_of store) image) block x once (let e = length-replayed store image fits in omega arith) is
+coming-waiting store writes image block x fits once below is = grind (arith, written-waiting, length-replayed)
 
 pub coming-none : (store : Store) (writes : List (ℕ × List ℕ)) (image : Image) (block : ℕ) (x : List ℕ) → IsFitting store image → waiting writes block ≡ None
     → ((r : Image) → replay image (total_of store) ≡ Some r → x ≡ block_at r block) → x ≡ block_at (coming_of store writes image) block
-coming-none store writes image block x fits none read =
-    read (replayed (total_of store) image) (fits-replayed store image fits) ∙ sym (written-none writes (replayed (total_of store) image) block none)
+coming-none store writes image block x fits none read = grind (arith, fits-replayed, written-none)

@@ -1,7 +1,7 @@
 -- A page is bound to a free frame, and a word is written into it.
-use Rattle.std.specs.Prelude.{◌≡◌, ◌≢◌, ◌+◌, ◌/◌, ◌≤◌, ◌<◌, ◌==◌, ℕ, false, List, [], length, replicate, slice_set, Some}
+use Rattle.std.specs.Prelude.{◌≡◌, ◌≢◌, ◌+◌, ◌/◌, ◌≤◌, ◌<◌, ◌==◌, ℕ, false, List, length, replicate, slice_set, Some}
 use Rattle.std.specs.List.{list_any, position}
-use Rattle.std.proofs.Common.{refl, sym, ap, ◌∙◌, ⊎_elim, inl, inr, arith, get_or}
+use Rattle.std.proofs.Common.{refl, sym, ap, ◌∙◌, inr, arith, get_or}
 use Rattle.std.proofs.lemmas.Bool.{eqb-true, ne_eqb}
 use Rattle.std.proofs.lemmas.List.{get_or-set_other, get_or-set_same, length-set}
 use Rattle.mg_disk.specs.Disk.{Image, block_at}
@@ -69,43 +69,19 @@ module _ (p q : Pages) (page f : ℕ) (bytes entries : List ℕ) (free : positio
 
   pub staged-begun : StagesMore 2 p q
   unfolding staged_of is_staged
-  staged-begun =
-      let e = length-staged p.blocks.writes block bytes in
-      let f' = length-staged first table entries in
-      let g = length-kept p.blocks.writes block bytes in
-      let h = length-kept first table entries in
-      record {
-        least = rw new_writes (omega arith);
-        staged = rw new_writes (omega arith);
-        still = λ b is. rw new_writes (still-named first table entries b (still-named p.blocks.writes block bytes b is));
-      }
+  staged-begun = grind (arith, length-staged, length-kept, still-named)
 
   written-begun : (image : Image) → coming_of p.blocks.store both image ≡ slice_set (slice_set (coming_of p.blocks.store p.blocks.writes image) block bytes) table entries
-  written-begun image =
-      written-staged first (replayed p.blocks.store.total image) table entries (once-staged p.blocks.writes block bytes p.sound.once)
-      ∙ ap (λ i. slice_set i table entries) (written-staged p.blocks.writes (replayed p.blocks.store.total image) block bytes p.sound.once)
+  written-begun image = grind (arith, written-staged, once-staged)
 
   others-stay : (image : Image) (k : ℕ) → k ≢ block → k ≢ table → block_at (coming_of p.blocks.store both image) k ≡ block_at (coming_of p.blocks.store p.blocks.writes image) k
-  others-stay image k not_block not_table =
-      ap (λ i. block_at i k) (written-begun image)
-      ∙ get_or-set_other (slice_set (coming_of p.blocks.store p.blocks.writes image) block bytes) table k entries [] not_table
-      ∙ get_or-set_other (coming_of p.blocks.store p.blocks.writes image) block k bytes [] not_block
+  others-stay image k not_block not_table = grind (arith, written-begun, get_or-set_other)
 
   there : (image : Image) → IsSpelledBy p image → block_at (coming_of p.blocks.store both image) table ≡ entries
-  there image is =
-      let long = long-coming p image is in
-      let below = table-high in
-      let e = length-set (coming_of p.blocks.store p.blocks.writes image) block bytes in
-      ap (λ i. block_at i table) (written-begun image) ∙ get_or-set_same (slice_set (coming_of p.blocks.store p.blocks.writes image) block bytes) table entries [] (omega arith)
+  there image is = grind (arith, long-coming, table-high, length-set, written-begun, get_or-set_same)
 
   here : (image : Image) → IsSpelledBy p image → block_at (coming_of p.blocks.store both image) block ≡ bytes
-  here image is =
-      let long = long-coming p image is in
-      let below = high in
-      let apart = in-table in
-      ap (λ i. block_at i block) (written-begun image)
-      ∙ get_or-set_other (slice_set (coming_of p.blocks.store p.blocks.writes image) block bytes) table block entries [] (λ same. omega arith)
-      ∙ get_or-set_same (coming_of p.blocks.store p.blocks.writes image) block bytes [] (omega arith)
+  here image is = grind (arith, long-coming, high, in-table, written-begun, get_or-set_other, get_or-set_same)
 
   pub spelled-begun : (image : Image) → (AreKept (first_frame (length p.frames)) (replayed p.blocks.store.total image) p.blocks.kept → AreKept (first_frame (length p.frames)) (replayed p.blocks.store.total image) q.blocks.kept) → IsSpelledBy p image → IsSpelledBy q image
   spelled-begun image keeps is =
@@ -118,8 +94,7 @@ module _ (p q : Pages) (page f : ℕ) (bytes entries : List ℕ) (free : positio
 
   pub binds-begun : BindsOnly page p q
   unfolding table_in
-  binds-begun other bound =
-      ⊎_elim (λ new. inl (sym (eqb-true page other new))) (λ old. inr old) (any-set (λ entry. entry == other) p.frames f page (rw new_frames at bound))
+  binds-begun other bound = grind (arith, eqb-true, any-set)
 
   pub sets-begun : (image : Image) (index value : ℕ) → IsSpelledBy p image → block_words bytes ≡ slice_set (replicate 512 0) index value → SetsWord p q image page index value
   unfolding coming

@@ -47,13 +47,7 @@ module _ (p q : Pages) (page f : ℕ) (bytes : List ℕ) (at : position (λ entr
 
   pub staged-changed : StagesMore 2 p q
   unfolding staged_of is_staged
-  staged-changed =
-      let e = length-staged p.blocks.writes block bytes in
-      record {
-        least = rw new_writes (length-kept p.blocks.writes block bytes);
-        staged = rw new_writes (omega arith);
-        still = λ k is. rw new_writes (still-named p.blocks.writes block bytes k is);
-      }
+  staged-changed = grind (arith, length-staged, length-kept, still-named)
 
   written-changed : (image : Image) → coming_of p.blocks.store (staged p.blocks.writes block bytes) image ≡ slice_set (coming_of p.blocks.store p.blocks.writes image) block bytes
   written-changed image = written-staged p.blocks.writes (replayed p.blocks.store.total image) block bytes p.sound.once

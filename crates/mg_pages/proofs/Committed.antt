@@ -1,5 +1,5 @@
 -- What a commit leaves, in the words of the pages.
-use Rattle.std.specs.Prelude.{◌≡◌, ◌⊎◌, ◌+◌, ◌≤◌, ℕ, List, [], length, option_map, Option, Some, IsSomeAnd}
+use Rattle.std.specs.Prelude.{◌≡◌, ◌⊎◌, ◌+◌, ◌≤◌, ℕ, List, [], length, Option, Some, IsSomeAnd}
 use Rattle.std.specs.Option.{ForSome}
 use Rattle.std.proofs.Common.{sym, subst, ◌∙◌, ⊎_elim, inl, inr, arith}
 use Rattle.mg_disk.specs.Disk.{Image, SameBut, SeenBut}
@@ -10,7 +10,7 @@ use Rattle.mg_journal.specs.Standing as journal
 use Rattle.mg_journal.specs.WrittenLemmas.{written_elsewhere}
 use Rattle.mg_journal.specs.Held.{Store}
 use Rattle.mg_model.specs.Layout.{first_frame, table_block, table_blocks}
-use Rattle.mg_model.specs.Replay.{replay, written}
+use Rattle.mg_model.specs.Replay.{written}
 use Rattle.mg_pages.proofs.Awaited.{fits-replayed, length-coming}
 use Rattle.mg_pages.proofs.Entries.{holds-spelled, spelled-past, spelled-table}
 use Rattle.mg_pages.proofs.Tables.{holds-apart}
@@ -23,8 +23,7 @@ use Rattle.mg_pages.specs.Parts.{coming_of}
 
 -- the contents with the writes over them are what is coming
 new-coming : (store : Store) (writes : List (ℕ × List ℕ)) (image c : Image) → journal.IsFitting store image → NewContents store.total image writes c → HasContents store.total (coming_of store writes image) c
-new-coming store writes image c fits new =
-    subst (λ (o : Option Image). SeenBut InJournal (option_map (λ r. written r writes) o) (replay c store.total)) (fits-replayed store image fits) new
+new-coming store writes image c fits new = grind (arith, fits-replayed)
 
 -- so the blocks after the journal are those that were coming
 same-behind : (store : Store) (r now : Image) → journal.IsFitting store now → HasContents store.total r now → SameBut InJournal r (replayed store.total now)

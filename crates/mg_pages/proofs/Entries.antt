@@ -15,11 +15,7 @@ use Rattle.mg_pages.specs.Entries.{HoldsTable}
 
 pub length-entries : (image : Image) (b n : ℕ) → length (table_entries image b n) ≡ 512 * n
 length-entries image b zero = refl
-length-entries image b (suc n) =
-    let e = length-append (block_words (block_at image b)) (table_entries image (b + 1) n) in
-    let f = length-block (block_at image b) in
-    let h = length-entries image (b + 1) n in
-    omega arith
+length-entries image b (suc n) = grind (arith, (length-entries image (b + 1) n))
 
 first-entry : (bytes rest : List ℕ) (j : ℕ) → j < 512 → get_or (block_words bytes ++ rest) j 0 ≡ number_at bytes (8 * j)
 first-entry bytes rest j below =
@@ -79,11 +75,7 @@ module _ (frames : List ℕ) (image : Image) (holds : HoldsTable frames (table_b
       fills = omega arith
 
   padded-at : (i : ℕ) → i < 512 * table_blocks (length frames) → get_or frames i 0 ≡ get_or (frames ++ behind) i 0
-  padded-at i below =
-      ⊎_elim (λ low. sym (get_or_append_left frames behind 0 i low))
-      (λ high.
-      get_or_past frames i 0 high
-      ∙ sym (get_or-append_right frames behind (length frames) i 0 refl high ∙ get_or-replicate (512 * table_blocks (length frames) - length frames) (i - length frames) 0 0 (omega arith))) (cases_lt i (length frames))
+  padded-at i below = grind (arith, get_or_append_left, get_or_past, get_or-append_right, get_or-replicate, cases_lt)
 
   whole-at : (i : ℕ) → i < 512 * table_blocks (length frames) → get_or (whole_table image (length frames)) i 0 ≡ get_or frames i 0
   whole-at i below =
@@ -102,7 +94,4 @@ module _ (frames : List ℕ) (image : Image) (holds : HoldsTable frames (table_b
   spelled-table = ap (take (length frames)) whole ∙ take_at frames behind (length frames) refl
 
   pub spelled-past : are_zeros (drop (length frames) (whole_table image (length frames))) ≡ true
-  spelled-past =
-      ap (λ xs. are_zeros (drop (length frames) xs)) whole
-      ∙ ap are_zeros (drop_at frames behind (length frames) refl)
-      ∙ are_zeros-replicate (512 * table_blocks (length frames) - length frames)
+  spelled-past = grind (arith, whole, drop_at, are_zeros-replicate)

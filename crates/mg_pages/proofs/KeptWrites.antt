@@ -18,8 +18,7 @@ kept-same first r old new same are i bytes found = are i bytes (sym (same i) ∙
 
 -- a block of the contents is kept besides
 pub kept-read : (first : ℕ) (r : Image) (block : ℕ) (is : List ℕ) (old new : List (ℕ × List ℕ)) → is ≡ block_at r block → KeepsBesides block is old new → AreKept first r old → AreKept first r new
-kept-read first r block is old new read keeps are i bytes found low =
-    ⊎_elim (λ this. this.1 ∙ read ∙ ap (block_at r) (sym this.0)) (λ was. are i bytes was low) (keeps i bytes found)
+kept-read first r block is old new read keeps are i bytes found low = grind arith
 
 -- what some writes have of a block is kept before what is kept after them
 other-way : (i k : ℕ) → (k == i) ≡ false → nat_eq i k ≡ false
@@ -62,9 +61,7 @@ besides-behind ws block is old new keeps i bytes found =
     (λ goes. inr (kept-before ws old i goes.0 goes.1 ∙ sym (kept-before ws new i goes.0 goes.1) ∙ found)) (goes-or-not ws i)
 
 pub same-behind : (ws old new : List (ℕ × List ℕ)) → KeepsSame old new → KeepsSame (ws ++ old) (ws ++ new)
-same-behind ws old new same i =
-    ⊎_elim (λ none. kept-behind ws new i none ∙ same i ∙ sym (kept-behind ws old i none))
-    (λ goes. kept-before ws new i goes.0 goes.1 ∙ sym (kept-before ws old i goes.0 goes.1)) (goes-or-not ws i)
+same-behind ws old new same i = grind (arith, kept-behind, kept-before, goes-or-not)
 
 -- the block of write k has what write k writes there
 named-at : (ws : List (ℕ × List ℕ)) (k : ℕ) → k < length ws → names ws (home_at ws k) ≡ true
@@ -95,15 +92,12 @@ AreKeptUpTo rest writes first r kept = (i : ℕ) (bytes : List ℕ) → kept_at 
 
 module _ (first : ℕ) (r : Image) (last writes : List (ℕ × List ℕ)) where
   pub kept-begun : (kept : List (ℕ × List ℕ)) → AreKept first r (last ++ kept) → AreKeptUpTo last writes first r kept
-  kept-begun kept are i bytes found low free =
-      ⊎_elim (λ none. inl (are i bytes (kept-behind last kept i none ∙ found) low)) (λ goes. inr (waiting-named last i goes.0 goes.1)) (goes-or-not last i)
+  kept-begun kept are i bytes found low free = grind (arith, kept-behind, waiting-named, goes-or-not)
 
   -- one write of the last commit more
   module _ (k : ℕ) (below : k < length last) where
     rest-named : (i : ℕ) → i ≢ home_at last k → names (drop k last) i ≡ true → names (drop (k + 1) last) i ≡ true
-    rest-named i apart named =
-        ⊎_elim (λ same. absurd (apart (sym (eqb-true (home_at last k) i same)))) (λ rest. rest)
-        (or_cases (home_at last k == i) (names (drop (k + 1) last) i) (sym (ap (λ ws. names ws i) (drop_more last k (0, []) below)) ∙ named))
+    rest-named i apart named = grind (arith, eqb-true, or_cases, drop_more)
 
     -- it is kept
     pub kept-more : (base old new : List (ℕ × List ℕ)) → are_once last ≡ true → AreKept first r (last ++ base) → first ≤ home_at last k → KeepsThis (home_at last k) (bytes_of last k) old new
@@ -115,20 +109,15 @@ module _ (first : ℕ) (r : Image) (last writes : List (ℕ × List ℕ)) where
 
     -- no other is sought
     pub kept-less : (old : List (ℕ × List ℕ)) → ((i : ℕ) → first ≤ i → waiting writes i ≡ None → i ≢ home_at last k) → AreKeptUpTo (drop k last) writes first r old → AreKeptUpTo (drop (k + 1) last) writes first r old
-    kept-less old apart so_far i bytes found from free =
-        ⊎_elim (λ is. inl is) (λ named. inr (rest-named i (apart i from free) named)) (so_far i bytes found from free)
+    kept-less old apart so_far i bytes found from free = grind (arith, rest-named)
 
   pub kept-through : (n : ℕ) (kept : List (ℕ × List ℕ)) → length last ≤ n → AreKeptUpTo (drop n last) writes first r kept → AreKeptBut writes first r kept
-  kept-through n kept past so_far i bytes found low free =
-      ⊎_elim (λ is. is) (λ named. absurd (both_ways false refl (sym (ap (λ ws. names ws i) (drop_all n last past)) ∙ named))) (so_far i bytes found low free)
+  kept-through n kept past so_far i bytes found low free = grind (arith, both_ways, drop_all)
 
 -- what was written is kept before what else is
 pub kept-written : (first total : ℕ) (r : Image) (writes kept : List (ℕ × List ℕ)) → are_once writes ≡ true → homes_fit total writes ≡ true → total ≤ length r → AreKeptBut writes first r kept → AreKept first (written r writes) (writes ++ kept)
 kept-written first total r writes kept once fit long are i bytes found low =
-    ⊎_elim (λ none. are i bytes (sym (kept-behind writes kept i none) ∙ found) low none ∙ sym (written-none writes r i none))
-    (λ goes.
-    let below = waits-below total writes i goes.0 fit goes.1 in
-    some_list bytes goes.0 (sym found ∙ kept-before writes kept i goes.0 goes.1) ∙ sym (written-waiting writes r i goes.0 once (omega arith) goes.1)) (goes-or-not writes i)
+    grind (arith, kept-behind, written-none, waits-below, some_list, kept-before, written-waiting, goes-or-not)
 
 pub none-of : (ws : List (ℕ × List ℕ)) → length ws ≤ 0 → ws ≡ []
 none-of [] few = refl

@@ -1,9 +1,10 @@
 -- Entries of a frame table that are bound one after another.
-use Rattle.std.specs.Prelude.{◌≡◌, ◌≢◌, ◌⊎◌, ◌+◌, ◌*◌, ◌≤◌, ◌<◌, ◌==◌, ◌||◌, nat_le, ℕ, zero, suc, Bool, true, false, List, [], ◌∷◌, if◌then◌else◌, length, not, position, slice_set, take, Option, None, Some}
+use Rattle.std.proofs.lemmas.Grind.{common_steps}
+use Rattle.std.specs.Prelude.{◌≡◌, ◌≢◌, ◌⊎◌, ◌+◌, ◌*◌, ◌≤◌, ◌<◌, ◌==◌, ◌||◌, nat_le, ℕ, zero, suc, Bool, true, false, List, [], ◌∷◌, if◌then◌else◌, length, position, slice_set, take, Option, None, Some}
 use Rattle.std.specs.List.{list_any}
 use Rattle.std.specs.Option.{ForSome, option_map_or}
-use Rattle.std.proofs.Common.{refl, sym, ap, subst, ◌∙◌, ⊎_elim, inl, inr, arith, get_or}
-use Rattle.std.proofs.lemmas.Bool.{and_parts, both_ways, cases_Bool, cases_eq, cases_lt, eq-eqb, eqb-false, eqb-true, leb-false, leb-true, ne_eqb, not-true, or_left, or_right}
+use Rattle.std.proofs.Common.{refl, sym, ap, ◌∙◌, ⊎_elim, inl, inr, arith, get_or}
+use Rattle.std.proofs.lemmas.Bool.{and_parts, both_ways, cases_Bool, cases_eq, cases_lt, eq-eqb, eqb-false, eqb-true, leb-false, leb-true, ne_eqb, not-true, or_left}
 use Rattle.std.proofs.lemmas.List.{ext_get_or, get_or-set_other, get_or-set_same, get_or-take, length-set, length-take-le}
 use Rattle.std.proofs.lemmas.List.Folds.{list_any_at, list_any_more}
 use Rattle.mg_disk.specs.Disk.{Image, block_at}
@@ -31,25 +32,17 @@ bound-page xs x some = rw (ne_eqb x 0 some) refl
 -- a page that is in a place is one of those that are bound
 page-any : (xs : List ℕ) (i page : ℕ) → page ≢ 0 → get_or xs i 0 ≡ page → list_any (λ y. page == y) (bound_pages xs) ≡ true
 page-any [] i page some is = absurd (some (sym is))
-page-any (x ∷ xs) zero page some is =
-    ap (list_any (λ y. page == y)) (bound-page xs x (λ none. some (sym is ∙ none))) ∙ or_left (page == x) (list_any (λ y. page == y) (bound_pages xs)) (eq-eqb page x (sym is))
-page-any (x ∷ xs) (suc i) page some is =
-    ⊎_elim (λ free. ap (list_any (λ y. page == y)) (bound-free xs x free) ∙ page-any xs i page some is)
-    (λ bound. ap (list_any (λ y. page == y)) (bound-page xs x bound) ∙ or_right (page == x) (list_any (λ y. page == y) (bound_pages xs)) (page-any xs i page some is)) (cases_eq x 0)
+page-any (x ∷ xs) zero page some is = grind (arith, bound-page, or_left, eq-eqb)
+page-any (x ∷ xs) (suc i) page some is = grind (arith, (page-any xs i page some is))
 
 distinct-parts : (xs : List ℕ) (x : ℕ) → all_distinct (x ∷ xs) ≡ true → (list_any (λ y. x == y) xs ≡ false) × (all_distinct xs ≡ true)
-distinct-parts xs x is =
-    let parts = and_parts (not (list_any (λ y. x == y) xs)) (all_distinct xs) is in
-    (not-true (list_any (λ y. x == y) xs) parts.0, parts.1)
+distinct-parts xs x is = grind (arith, and_parts, not-true)
 
 rest-distinct : (x : ℕ) (xs : List ℕ) → all_distinct (bound_pages (x ∷ xs)) ≡ true → all_distinct (bound_pages xs) ≡ true
-rest-distinct x xs distinct =
-    ⊎_elim (λ free. sym (ap all_distinct (bound-free xs x free)) ∙ distinct) (λ bound. (distinct-parts (bound_pages xs) x (sym (ap all_distinct (bound-page xs x bound)) ∙ distinct)).1) (cases_eq x 0)
+rest-distinct x xs distinct = grind arith
 
 twice : (x : ℕ) (xs : List ℕ) (j page : ℕ) → all_distinct (bound_pages (x ∷ xs)) ≡ true → page ≢ 0 → x ≡ page → get_or xs j 0 ≡ page → ⊥
-twice x xs j page distinct some at_x at_j =
-    let parts = distinct-parts (bound_pages xs) x (sym (ap all_distinct (bound-page xs x (λ none. some (sym at_x ∙ none)))) ∙ distinct) in
-    both_ways (list_any (λ y. x == y) (bound_pages xs)) parts.0 (page-any xs j x (λ none. some (sym at_x ∙ none)) (at_j ∙ sym at_x))
+twice x xs j page distinct some at_x at_j = grind (arith, distinct-parts, bound-page, both_ways, page-any)
 
 -- no page is in two places
 one-place : (xs : List ℕ) (i j page : ℕ) → all_distinct (bound_pages xs) ≡ true → page ≢ 0 → get_or xs i 0 ≡ page → get_or xs j 0 ≡ page → i ≡ j
@@ -75,10 +68,7 @@ entry-long : (frames : List ℕ) (i page : ℕ) → length (entry_bound frames i
 entry-long frames i page = entry-cases (λ new. length new ≡ length frames) frames i page (λ past. refl) (λ below none. refl) (λ below some f is. refl) (λ below some none. length-set frames i page)
 
 entry-free : (frames : List ℕ) (i page : ℕ) → AreFreeFrom i frames → AreFreeFrom (i + 1) (entry_bound frames i page)
-entry-free frames i page free =
-    let still : AreFreeFrom (i + 1) frames = λ m least. free m (omega arith) in
-    entry-cases (AreFreeFrom (i + 1)) frames i page (λ past. still) (λ below none. still) (λ below some f is. still)
-    (λ below some none m least. get_or-set_other frames i m page 0 (λ is. absurd (omega arith)) ∙ free m (omega arith))
+entry-free frames i page free = grind (arith, entry-cases, get_or-set_other)
 
 -- what the first entry of a page is
 module _ (table : List ℕ) (i : ℕ) where
@@ -173,17 +163,7 @@ pub record AreBound (k j : ℕ) (bytes old now : List ℕ) : Type 0 where
   pub loaded : (table : List ℕ) → length table ≡ length old → HasEntries table k bytes → AreLoaded table (512 * k) old → AreLoaded table (512 * k + j) now
 
 pub bound-more : (k j page : ℕ) (bytes old now new : List ℕ) → j < 512 → page ≡ number_at bytes (8 * j) → new ≡ entry_bound now (512 * k + j) page → AreBound k j bytes old now → AreBound k (j + 1) bytes old new
-bound-more k j page bytes old now new few page_is new_is are =
-    let long = are.long in
-    let next : 512 * k + j + 1 ≡ 512 * k + (j + 1) = omega arith in
-    record {
-      long = ap length new_is ∙ entry-long now (512 * k + j) page ∙ long;
-      free = subst (λ xs. AreFreeFrom (512 * k + (j + 1)) xs) (sym new_is) (subst (λ n. AreFreeFrom n (entry_bound now (512 * k + j) page)) next (entry-free now (512 * k + j) page are.free));
-      loaded = λ table tall has before.
-          subst (λ xs. AreLoaded table (512 * k + (j + 1)) xs) (sym new_is)
-          (subst (λ n. AreLoaded table n (entry_bound now (512 * k + j) page)) next
-          (entry-loaded table now (512 * k + j) page (tall ∙ sym long) (λ below. page_is ∙ has j few (omega arith)) are.free (are.loaded table tall has before)));
-    }
+bound-more k j page bytes old now new few page_is new_is are = grind (arith, common_steps, entry-long, entry-free, entry-loaded)
 
 -- the first blocks of the table are read
 pub record AreRead {D : Type 0} (facts : Ghosts D) (store : Store) (k : ℕ) (frames now : List ℕ) (old new : D) : Type 0 where

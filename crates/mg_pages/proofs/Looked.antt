@@ -1,4 +1,5 @@
 -- What is kept of a block once a cache has moved, removed or added an entry.
+use Rattle.std.proofs.Common.{arith}
 use Rattle.std.specs.Prelude.{◌≡◌, ◌≢◌, ◌⊎◌, ◌-◌, ℕ, zero, suc, true, false, cond, List, [], ◌∷◌, take, Option, Some, None, IsSome, is_some, nat_eq}
 use Rattle.std.specs.Map.{lookup, lookup_entry, remove_entry, set_value}
 use Rattle.std.specs.Option.{option_map_or}
@@ -31,9 +32,7 @@ look-removed [] k j other = refl
 look-removed ((x, b) ∷ es) k j other = ⊎_elim here (there (look-removed es k j other)) (cases_Bool (nat_eq k x))
   where
     here : nat_eq k x ≡ true → lookup (nat_eq j) (remove_entry (nat_eq k) ((x, b) ∷ es)) ≡ lookup (nat_eq j) ((x, b) ∷ es)
-    here is =
-        ⊎_elim (λ same. absurd (other (eqb-true j x same ∙ sym (eqb-true k x is))))
-        (λ not. ap (lookup (nat_eq j)) (gone-here k x b es is) ∙ sym (look-there j x b es not)) (cases_Bool (nat_eq j x))
+    here is = grind (arith, eqb-true, gone-here, look-there, cases_Bool)
 
     there : lookup (nat_eq j) (remove_entry (nat_eq k) es) ≡ lookup (nat_eq j) es → nat_eq k x ≡ false → lookup (nat_eq j) (remove_entry (nat_eq k) ((x, b) ∷ es)) ≡ lookup (nat_eq j) ((x, b) ∷ es)
     there rest is = ap (lookup (nat_eq j)) (gone-there k x b es is) ∙ ap (λ o. cond (nat_eq j x) (Some b) o) rest
@@ -47,14 +46,10 @@ look-entry ((y, c) ∷ es) k x b is = ⊎_elim here (there (look-entry es k x b)
     first u v same = cc
 
     here : nat_eq k y ≡ true → (k ≡ x) × (lookup (nat_eq k) ((y, c) ∷ es) ≡ Some b)
-    here at =
-        let same = first (y, c) (x, b) (sym (entry-here k y c es at) ∙ is) in
-        (eqb-true k y at ∙ ap (λ e. e.0) same, look-here k y c es at ∙ ap (λ (e : ℕ × List ℕ). Some e.1) same)
+    here at = grind (arith, first, entry-here, eqb-true, look-here)
 
     there : (lookup_entry (nat_eq k) es ≡ Some (x, b) → (k ≡ x) × (lookup (nat_eq k) es ≡ Some b)) → nat_eq k y ≡ false → (k ≡ x) × (lookup (nat_eq k) ((y, c) ∷ es) ≡ Some b)
-    there rest at =
-        let found = rest (sym (entry-there k y c es at) ∙ is) in
-        (found.0, look-there k y c es at ∙ found.1)
+    there rest at = grind (arith, entry-there, look-there)
 
 look-none : (es : List (ℕ × List ℕ)) (k : ℕ) → lookup_entry (nat_eq k) es ≡ None → lookup (nat_eq k) es ≡ None
 look-none [] k is = refl
@@ -82,9 +77,7 @@ module _ (es : List (ℕ × List ℕ)) (k i : ℕ) where
       here at = look-here i x b (remove_entry (nat_eq k) es) at ∙ sym found.1 ∙ ap (λ n. lookup (nat_eq n) es) (found.0 ∙ sym (eqb-true i x at))
 
       there : nat_eq i x ≡ false → lookup (nat_eq i) ((x, b) ∷ remove_entry (nat_eq k) es) ≡ lookup (nat_eq i) es
-      there at =
-          look-there i x b (remove_entry (nat_eq k) es) at
-          ∙ look-removed es k i (λ same. both_ways (nat_eq i x) at (eq-eqb i x (same ∙ found.0)))
+      there at = grind (arith, look-there, look-removed, both_ways, eq-eqb, found)
 
   pub look-promoted : kept_at (promoted (nat_eq k) es) i ≡ kept_at es i
   look-promoted = moved (lookup_entry (nat_eq k) es) refl
@@ -119,8 +112,7 @@ module _ (c : LruCache ℕ (List ℕ)) (k : ℕ) (bytes : List ℕ) where
       here at = inl (eqb-true i k at, some_same b bytes (sym found ∙ look-here i k bytes (take (c.cap - 1) c.entries) at))
 
       there : nat_eq i k ≡ false → ((i ≡ k) × (b ≡ bytes)) ⊎ ((i ≢ k) × (kept_at c.entries i ≡ Some b))
-      there at =
-          inr ((λ same. both_ways (nat_eq i k) at (eq-eqb i k same)), look-taken (c.cap - 1) c.entries i b (sym (look-there i k bytes (take (c.cap - 1) c.entries) at) ∙ found))
+      there at = grind (arith, both_ways, eq-eqb, look-taken, look-there, found)
   put-cases (Some (x, old)) is i b found = ⊎_elim here there (cases_Bool (nat_eq i x))
     where
       was : (k ≡ x) × (lookup (nat_eq k) c.entries ≡ Some old)
@@ -163,9 +155,7 @@ module _ (es : List (ℕ × List ℕ)) (k : ℕ) (bytes : List ℕ) where
           here at = inl (eqb-true i x at ∙ sym was.0, first-same b bytes (sym set ∙ look-here i x bytes (remove_entry (nat_eq k) es) at))
 
           there : nat_eq i x ≡ false → ((i ≡ k) × (b ≡ bytes)) ⊎ ((i ≢ k) × (kept_at es i ≡ Some b))
-          there at =
-              let apart : i ≢ k = λ same. both_ways (nat_eq i x) at (eq-eqb i x (same ∙ was.0)) in
-              inr (apart, sym (look-removed es k i apart) ∙ sym (look-there i x bytes (remove_entry (nat_eq k) es) at) ∙ set)
+          there at = grind (arith, both_ways, eq-eqb, was, look-removed, look-there, set)
 
   pub look-set : (old : List ℕ) → lookup (nat_eq k) es ≡ Some old → KeepsThis k bytes es (set_value (nat_eq k) (promoted (nat_eq k) es) bytes)
   look-set old found = set-cases (lookup_entry (nat_eq k) es) (ap is_some found) refl

@@ -24,12 +24,7 @@ numbers-set n old new k word below is others =
     at bytes i low = let e : 0 + 8 * i ≡ 8 * i = omega arith in number-of bytes 0 n i low ∙ ap (number_at bytes) e
 
     here : (i : ℕ) → i ≡ k → get_or (numbers_at new 0 n) i 0 ≡ get_or (slice_set (numbers_at old 0 n) k word) i 0
-    here i same =
-        ap (λ j. get_or (numbers_at new 0 n) j 0) same
-        ∙ at new k below
-        ∙ is
-        ∙ sym (get_or-set_same (numbers_at old 0 n) k word 0 (let e = length-numbers old 0 n in omega arith))
-        ∙ ap (λ j. get_or (slice_set (numbers_at old 0 n) k word) j 0) (sym same)
+    here i same = grind (arith, at, get_or-set_same, length-numbers)
 
     there : (i : ℕ) → i < n → i ≢ k → get_or (numbers_at new 0 n) i 0 ≡ get_or (slice_set (numbers_at old 0 n) k word) i 0
     there i low other = at new i low ∙ others i low other ∙ sym (at old i low) ∙ sym (get_or-set_other (numbers_at old 0 n) k i word 0 other)

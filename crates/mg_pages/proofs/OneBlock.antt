@@ -36,11 +36,7 @@ module _ (p q : Pages) (block : ℕ) (bytes : List ℕ) (blocks : q.blocks ≡ w
 
   pub stages-more : StagesMore 1 p q
   unfolding staged_of is_staged
-  stages-more = record {
-    least = rw writes (length-kept p.blocks.writes block bytes);
-    staged = rw writes (length-staged p.blocks.writes block bytes);
-    still = λ k is. rw writes (still-named p.blocks.writes block bytes k is);
-  }
+  stages-more = grind (arith, writes, length-kept, length-staged, still-named)
 
   pub here-more : is_staged q block ≡ true
   unfolding is_staged

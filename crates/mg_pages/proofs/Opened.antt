@@ -1,6 +1,6 @@
 -- Pages that stand on a disk.
 use Rattle.std.specs.Prelude.{◌≡◌, length, Some}
-use Rattle.std.proofs.Common.{sym, ap, ◌∙◌, arith}
+use Rattle.std.proofs.Common.{ap, arith}
 use Rattle.std.proofs.Props.{props}
 use mathlib.Core.HLevel.{is_prop→PathP}
 use Rattle.mg_disk.specs.Disk.{Image}
@@ -36,16 +36,10 @@ same-shape p q store many = record { total = ap (λ (s : Store). s.total) store;
 -- the journal stands on the disk on which the pages do
 pub stands-store : {D : Type 0} (facts : Ghosts D) (disk : D) (p : Pages) → StandsOn facts p disk → journal.Stands facts p.blocks.store disk
 unfolding total_of IsSpelledBy
-stands-store facts disk p stands =
-    let room = stands.room in
-    let size = p.sound.size in
-    record { journal = omega arith; room = omega arith; settled = stands.settled; fits = λ image told. (stands.fits image told).fitting }
+stands-store facts disk p stands = grind arith
 
 -- the pages stand after calls that write nothing
 pub stands-again : {D : Type 0} (facts : Ghosts D) (p q : Pages) (disk disk' : D) → StandsOn facts p disk → facts.seen disk' ≡ facts.seen disk → facts.block_count disk' ≡ facts.block_count disk
     → NothingPending facts disk' → q.blocks.store ≡ p.blocks.store → ((image : Image) → facts.seen disk ≡ Some image → IsSpelledBy p image → IsSpelledBy q image) → StandsOn facts q disk'
 unfolding total_of
-stands-again facts p q disk disk' stands seen blocks settled store step =
-    let room = stands.room in
-    let total = ap (λ (s : Store). s.total) store in
-    record { room = omega arith; settled = settled; fits = λ image told. step image (sym seen ∙ told) (stands.fits image (sym seen ∙ told)) }
+stands-again facts p q disk disk' stands seen blocks settled store step = grind arith

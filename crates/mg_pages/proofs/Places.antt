@@ -28,6 +28,4 @@ any-set p (x ∷ xs) (suc i) y is =
 
 -- the frame that a search gives
 pub place-of : (xs : List ℕ) (page f : ℕ) → position (λ entry. entry == page) xs ≡ Some f → (f < length xs) × (get_or xs f 0 ≡ page)
-place-of xs page f is =
-    let found = position-Some (λ entry. entry == page) xs f 0 is in
-    (found.0, eqb-true (get_or xs f 0) page found.1)
+place-of xs page f is = grind (arith, position-Some, eqb-true)

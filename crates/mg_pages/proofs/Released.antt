@@ -1,12 +1,13 @@
 -- What is left of a frame table once the pages of a range are released.
-use Rattle.std.specs.Prelude.{◌≡◌, ◌≢◌, ◌⊎◌, ◌+◌, ◌≤◌, ◌<◌, ◌==◌, nat_le, nat_lt, if◌then◌else◌, ℕ, true, false, List, [], ◌∷◌, length, map, option_map, suc}
+use Rattle.std.proofs.lemmas.Grind.{common_steps}
+use Rattle.std.specs.Prelude.{◌≡◌, ◌≢◌, ◌⊎◌, ◌+◌, ◌≤◌, ◌<◌, ◌==◌, nat_le, nat_lt, if◌then◌else◌, ℕ, true, false, List, [], ◌∷◌, length, map}
 use Rattle.std.specs.List.{list_any, position}
 use Rattle.std.proofs.Common.{refl, sym, ap, subst, ◌∙◌, ⊎_elim, inl, inr, arith}
-use Rattle.std.proofs.lemmas.Bool.{and_from, and_parts, both_ways, cases_Bool, eqb-true, le-leb, leb-true, lt-ltb, ltb-true, ne_eqb, or_cases, or_from, or_left, or_right}
+use Rattle.std.proofs.lemmas.Bool.{and_from, and_parts, both_ways, cases_Bool, eqb-true, le-leb, leb-true, lt-ltb, ltb-true, ne_eqb, or_cases, or_left, or_right}
 use Rattle.std.proofs.lemmas.List.{length-map}
 use Rattle.mg_disk.specs.Disk.{Image, block_at}
 use Rattle.mg_frames.specs.Distinct.{distinct-released}
-use Rattle.mg_frames.specs.Places.{nowhere, position-here, position-there}
+use Rattle.mg_frames.specs.Places.{nowhere}
 use Rattle.mg_frames.specs.Words.{is_within, unless_within}
 use Rattle.mg_journal.specs.WrittenLemmas.{written_elsewhere}
 use Rattle.mg_model.specs.Layout.{body_limit, first_frame, table_block, table_blocks, total_blocks}
@@ -36,45 +37,31 @@ entry-in first pages entry page some low high = ⊎_elim within out (cases_Bool 
     within is = ap (λ t. (if t then 0 else entry) == page) is ∙ ne_eqb 0 page (λ same. some (sym same))
 
     out : is_within first pages entry ≡ false → (unless_within first pages entry == page) ≡ false
-    out is =
-        ap (λ t. (if t then 0 else entry) == page) is
-        ∙ ne_eqb entry page (λ same. both_ways (is_within first pages entry) is (within-from first pages entry (omega arith) (omega arith)))
+    out is = grind (arith, ne_eqb, both_ways, within-from)
 
 entry-out : (first pages entry page : ℕ) → page ≢ 0 → (page < first) ⊎ (first + pages ≤ page) → (unless_within first pages entry == page) ≡ (entry == page)
 entry-out first pages entry page some out = ⊎_elim within beside (cases_Bool (is_within first pages entry))
   where
     within : is_within first pages entry ≡ true → (unless_within first pages entry == page) ≡ (entry == page)
-    within is =
-        let parts = within-parts first pages entry is in
-        let low = parts.0 in
-        let high = parts.1 in
-        ap (λ t. (if t then 0 else entry) == page) is
-        ∙ ne_eqb 0 page (λ same. some (sym same))
-        ∙ sym (ne_eqb entry page (λ same. ⊎_elim (λ below. omega arith) (λ above. omega arith) out))
+    within is = grind (arith, within-parts, ne_eqb, out)
 
     beside : is_within first pages entry ≡ false → (unless_within first pages entry == page) ≡ (entry == page)
     beside is = ap (λ t. (if t then 0 else entry) == page) is
 
 none-within : (first pages page : ℕ) (frames : List ℕ) → page ≢ 0 → first ≤ page → page < first + pages → list_any (λ entry. entry == page) (map (unless_within first pages) frames) ≡ false
 none-within first pages page [] some low high = refl
-none-within first pages page (x ∷ frames) some low high =
-    or_from (unless_within first pages x == page) (list_any (λ entry. entry == page) (map (unless_within first pages) frames)) (entry-in first pages x page some low high) (none-within first pages page frames some low high)
+none-within first pages page (x ∷ frames) some low high = grind (arith, (none-within first pages page frames some low high))
 
 same-place : (first pages page : ℕ) (frames : List ℕ) → page ≢ 0 → (page < first) ⊎ (first + pages ≤ page) → position (λ entry. entry == page) (map (unless_within first pages) frames) ≡ position (λ entry. entry == page) frames
 same-place first pages page [] some out = refl
 same-place first pages page (x ∷ frames) some out = ⊎_elim here (there (same-place first pages page frames some out)) (cases_Bool (x == page))
   where
     here : (x == page) ≡ true → position (λ entry. entry == page) (map (unless_within first pages) (x ∷ frames)) ≡ position (λ entry. entry == page) (x ∷ frames)
-    here is =
-        position-here (λ entry. entry == page) (unless_within first pages x) (map (unless_within first pages) frames) (entry-out first pages x page some out ∙ is)
-        ∙ sym (position-here (λ entry. entry == page) x frames is)
+    here is = grind (arith, entry-out, out)
 
     there : position (λ entry. entry == page) (map (unless_within first pages) frames) ≡ position (λ entry. entry == page) frames → (x == page) ≡ false
         → position (λ entry. entry == page) (map (unless_within first pages) (x ∷ frames)) ≡ position (λ entry. entry == page) (x ∷ frames)
-    there rest is =
-        position-there (λ entry. entry == page) (unless_within first pages x) (map (unless_within first pages) frames) (entry-out first pages x page some out ∙ is)
-        ∙ ap (option_map suc) rest
-        ∙ sym (position-there (λ entry. entry == page) x frames is)
+    there rest is = grind (arith, common_steps, entry-out, out)
 
 none-new : (first pages page : ℕ) (frames : List ℕ) → page ≢ 0 → list_any (λ entry. entry == page) (map (unless_within first pages) frames) ≡ true → list_any (λ entry. entry == page) frames ≡ true
 none-new first pages page [] some is = is
@@ -83,10 +70,7 @@ none-new first pages page (x ∷ frames) some is =
     (or_cases (unless_within first pages x == page) (list_any (λ entry. entry == page) (map (unless_within first pages) frames)) is)
   where
     first-one : (unless_within first pages x == page) ≡ true → (x == page) ≡ true
-    first-one here =
-        ⊎_elim
-        (λ within. absurd (some (sym (eqb-true 0 page (sym (ap (λ t. (if t then 0 else x) == page) within) ∙ here)))))
-        (λ out. sym (ap (λ t. (if t then 0 else x) == page) out) ∙ here) (cases_Bool (is_within first pages x))
+    first-one here = grind (arith, eqb-true, cases_Bool)
 
 pub sound-released : (total : ℕ) (frames : List ℕ) (writes writes' : List (ℕ × List ℕ)) (first pages : ℕ) → StagesTable frames (map (unless_within first pages) frames) (table_blocks (length frames)) writes writes' → length writes + 128 ≤ body_limit
     → IsSound total frames writes → IsSound total (map (unless_within first pages) frames) writes'
@@ -118,11 +102,7 @@ module _ (p q : Pages) (first pages : ℕ) (same_blocks : q.blocks ≡ with_writ
   same_store = ap (λ (b : Blocks). b.store) same_blocks
 
   long-replayed : (image : Image) → IsSpelledBy p image → table_block + table_blocks (length p.frames) ≤ length (replayed p.blocks.store.total image)
-  long-replayed image is =
-      let long = long-coming p image is in
-      let size = p.sound.size in
-      let e = (written_elsewhere p.blocks.writes (replayed p.blocks.store.total image)).count in
-      omega arith
+  long-replayed image is = grind (arith, long-coming, written_elsewhere)
 
   pub spelled-released : (image : Image) → IsSpelledBy p image → IsSpelledBy q image
   spelled-released image is =
@@ -131,10 +111,7 @@ module _ (p q : Pages) (first pages : ℕ) (same_blocks : q.blocks ≡ with_writ
 
   pub unbinds-released : Unbinds first pages p q
   unfolding table_in
-  unbinds-released = record {
-    inside = λ page some low high. rw new_frames (none-within first pages page p.frames some low high);
-    outside = λ page some bound. none-new first pages page p.frames some (rw new_frames at bound);
-  }
+  unbinds-released = grind (arith, none-within, none-new)
 
   pub releases : (image : Image) → Releases p q image first pages
   unfolding coming

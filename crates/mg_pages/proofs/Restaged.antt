@@ -18,10 +18,7 @@ use Rattle.mg_pages.specs.Meaning.{IsSpelledBy, Restages, coming, is_staged, sta
 pub was-there : (p : Pages) (block : ℕ) → block < table_block → (o : Option (List ℕ)) → waiting p.blocks.writes block ≡ o → IfSome o (λ bytes. (image : Image) → IsSpelledBy p image → block_at (coming p image) block ≡ bytes)
 unfolding IsSpelledBy coming total_of
 was-there p block high None is = tt
-was-there p block high (Some bytes) is = λ image spelled.
-    let long = spelled.long in
-    let size = p.sound.size in
-    coming-waiting p.blocks.store p.blocks.writes image block bytes spelled.fitting p.sound.once (omega arith) is
+was-there p block high (Some bytes) is = grind (arith, coming-waiting)
 
 pub restages : (p q : Pages) (block : ℕ) (old bytes : List ℕ) → globals_block ≤ block → block < table_block → waiting p.blocks.writes block ≡ Some old
     → q.blocks ≡ with_writes p.blocks (staged p.blocks.writes block bytes) → q.frames ≡ p.frames → q.count ≡ p.count → Restages block bytes p q

@@ -1,5 +1,6 @@
 -- A cache that shows other values than it has is searched, ordered and written to as a cache that has them.
-use Rattle.std.specs.Prelude.{◌≡◌, ◌-◌, ℕ, Bool, true, false, cond, List, [], ◌∷◌, take, Option, Some, None, option_map, nat_eq}
+use Rattle.std.proofs.Common.{arith}
+use Rattle.std.specs.Prelude.{◌≡◌, ℕ, Bool, true, false, cond, List, [], ◌∷◌, Option, Some, None, option_map, nat_eq}
 use Rattle.std.specs.Map.{lookup, lookup_entry, remove_entry, set_value}
 use Rattle.std.specs.Option.{option_map_or}
 use Rattle.std.proofs.Common.{refl, ap, subst, sym, ◌∙◌}
@@ -41,10 +42,7 @@ module _ {V : Type 0} (f : V → List ℕ) where
     front (Some e) rest es = refl
 
     pub promoted-shown : (es : List (ℕ × V)) → promoted test (shown f es) ≡ shown f (promoted test es)
-    promoted-shown es =
-        ap (λ l. option_map_or (λ (e : ℕ × List ℕ). e ∷ l) (lookup_entry test (shown f es)) (shown f es)) (removed-shown es)
-        ∙ ap (λ o. option_map_or (λ (e : ℕ × List ℕ). e ∷ shown f (remove_entry test es)) o (shown f es)) (entry-shown es)
-        ∙ front (lookup_entry test es) (remove_entry test es) es
+    promoted-shown es = grind (arith, removed-shown, entry-shown, front)
 
   -- a value that is added
   placed : (o : Option (ℕ × V)) (v : V) (rest es : List (ℕ × V))
@@ -53,14 +51,7 @@ module _ {V : Type 0} (f : V → List ℕ) where
   placed (Some e) v rest es = refl
 
   pub put-shown : (c : LruCache ℕ V) (k : ℕ) (v : V) → put_entries nat_eq (lru_cache (shown f c.entries) c.cap) k (f v) ≡ shown f (put_entries nat_eq c k v)
-  put-shown c k v =
-      ap (λ l. option_map_or (λ (e : ℕ × List ℕ). (e.0, f v) ∷ l) (lookup_entry (nat_eq k) (shown f c.entries)) ((k, f v) ∷ take (c.cap - 1) (shown f c.entries)))
-      (removed-shown (nat_eq k) c.entries)
-      ∙ ap (λ o. option_map_or (λ (e : ℕ × List ℕ). (e.0, f v) ∷ shown f (remove_entry (nat_eq k) c.entries)) o ((k, f v) ∷ take (c.cap - 1) (shown f c.entries)))
-      (entry-shown (nat_eq k) c.entries)
-      ∙ ap (λ l. option_map_or (λ (e : ℕ × List ℕ). (e.0, f v) ∷ shown f (remove_entry (nat_eq k) c.entries)) (option_map one (lookup_entry (nat_eq k) c.entries)) ((k, f v) ∷ l))
-      (take-map one (c.cap - 1) c.entries)
-      ∙ placed (lookup_entry (nat_eq k) c.entries) v (remove_entry (nat_eq k) c.entries) ((k, v) ∷ take (c.cap - 1) c.entries)
+  put-shown c k v = grind (arith, removed-shown, entry-shown, take-map, placed)
 
   -- what is kept of a block, by what a search of the cache found
   pub kept-found : (es : List (ℕ × V)) (k : ℕ) (v : V) → Some v ≡ lookup (nat_eq k) es → kept_at (shown f es) k ≡ Some (f v)

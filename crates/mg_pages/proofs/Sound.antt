@@ -1,10 +1,10 @@
 -- What every value of the pages keeps.
 use Rattle.std.specs.Prelude.{◌≡◌, ◌⊎◌, ◌≤◌, ◌<◌, ℕ, true, List, length, IsSome}
 use Rattle.std.specs.List.{position}
-use Rattle.std.proofs.Common.{ap, ◌∙◌, ⊎_elim, inl, inr, sym, arith}
+use Rattle.std.proofs.Common.{⊎_elim, inl, inr, arith}
 use Rattle.mg_journal.specs.Contents.{names}
 use Rattle.mg_journal.specs.Staged.{goes_to, staged}
-use Rattle.mg_model.specs.Layout.{body_limit, globals_block, total_blocks}
+use Rattle.mg_model.specs.Layout.{body_limit, globals_block}
 use Rattle.mg_model.specs.Tests.{all_distinct}
 use Rattle.mg_model.specs.Volume.{bound_pages}
 use Rattle.mg_pages.proofs.Staging.{fit-staged, length-again, length-staged, once-staged, place-named}
@@ -15,24 +15,12 @@ pub room-staged : (writes : List (ℕ × List ℕ)) (block : ℕ) → (names wri
 room-staged writes block room = ⊎_elim (λ named. inl (place-named writes block named)) (λ few. inr few) room
 
 pub few-staged : (writes : List (ℕ × List ℕ)) (block : ℕ) (bytes : List ℕ) → length writes ≤ body_limit → (names writes block ≡ true) ⊎ (length writes < body_limit) → length (staged writes block bytes) ≤ body_limit
-few-staged writes block bytes few room =
-    ⊎_elim (λ named. let e = length-again writes block bytes named in omega arith) (λ less. let e = length-staged writes block bytes in omega arith) room
+few-staged writes block bytes few room = grind (arith, length-again, length-staged)
 
 pub sound-staged : (total : ℕ) (frames : List ℕ) (writes : List (ℕ × List ℕ)) (block : ℕ) (bytes : List ℕ) → globals_block ≤ block → block < total
     → (names writes block ≡ true) ⊎ (length writes < body_limit) → IsSound total frames writes → IsSound total frames (staged writes block bytes)
-sound-staged total frames writes block bytes low high room sound = record {
-  some = sound.some;
-  few = sound.few;
-  size = sound.size;
-  distinct = sound.distinct;
-  waiting = few-staged writes block bytes sound.waiting room;
-  homes = fit-staged total writes block bytes low high sound.homes;
-  once = once-staged writes block bytes sound.once;
-}
+sound-staged total frames writes block bytes low high room sound = grind (arith, few-staged, fit-staged, once-staged)
 
 -- other frames, as many
 pub sound-frames : (total : ℕ) (frames frames' : List ℕ) (writes : List (ℕ × List ℕ)) → length frames' ≡ length frames → all_distinct (bound_pages frames') ≡ true → IsSound total frames writes → IsSound total frames' writes
-sound-frames total frames frames' writes same distinct sound =
-    let some = sound.some in
-    let few = sound.few in
-    record { some = omega arith; few = omega arith; size = sound.size ∙ ap total_blocks (sym same); distinct = distinct; waiting = sound.waiting; homes = sound.homes; once = sound.once }
+sound-frames total frames frames' writes same distinct sound = grind arith

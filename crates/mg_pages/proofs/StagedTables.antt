@@ -1,13 +1,12 @@
 -- Blocks of the frame table are staged one after another.
-use Rattle.std.specs.Prelude.{◌≡◌, ◌≢◌, ◌+◌, ◌*◌, ◌/◌, ◌≤◌, ◌<◌, ℕ, false, if◌then◌else◌, List, [], length, map, slice_index}
-use Rattle.std.proofs.Common.{sym, ap, ◌∙◌, ⊎_elim, inl, inr, arith}
+use Rattle.std.specs.Prelude.{◌≡◌, ◌≢◌, ◌+◌, ◌*◌, ◌/◌, ◌≤◌, ◌<◌, ℕ, false, List, [], length, map, slice_index}
+use Rattle.std.proofs.Common.{ap, ◌∙◌, ⊎_elim, inl, inr, arith}
 use Rattle.std.proofs.lemmas.Bool.{cases_eq, cases_lt}
 use Rattle.std.proofs.lemmas.List.{get_or-map, get_or-set_other, get_or-set_same, get_or_past, length-map}
 use Rattle.mg_disk.specs.Disk.{Image, block_at}
 use Rattle.mg_frames.specs.Words.{is_within, unless_within}
 use Rattle.mg_journal.specs.Staged.{staged}
 use Rattle.mg_journal.specs.WrittenLemmas.{written_elsewhere}
-use Rattle.mg_model.specs.Bytes.{number_at}
 use Rattle.mg_model.specs.Layout.{table_block}
 use Rattle.mg_model.specs.Replay.{written}
 use Rattle.mg_pages.proofs.OneBlock.{still-named}
@@ -32,17 +31,10 @@ module _ (frames new_frames : List ℕ) (k : ℕ) (old mid : List (ℕ × List �
       elsewhere r block other = ap (λ i. block_at i block) (written-staged mid r (table_block + k) entries so_far.once) ∙ get_or-set_other (written r mid) (table_block + k) block entries [] other
 
       here : (r : Image) (j : ℕ) → table_block + (k + 1) ≤ length r → j ≡ k → HoldsEntries new_frames j (block_at (written r (staged mid (table_block + k) entries)) (table_block + j))
-      here r j long is i below =
-          let e = (written_elsewhere mid r).count in
-          ap (λ n. number_at (block_at (written r (staged mid (table_block + k) entries)) (table_block + n)) (8 * i)) is
-          ∙ ap (λ bytes. number_at bytes (8 * i)) (ap (λ x. block_at x (table_block + k)) (written-staged mid r (table_block + k) entries so_far.once) ∙ get_or-set_same (written r mid) (table_block + k) entries [] (omega arith))
-          ∙ hold i below
-          ∙ ap (λ n. slice_index new_frames (512 * n + i)) (sym is)
+      here r j long is i below = grind (arith, written_elsewhere, written-staged, get_or-set_same)
 
       there : (r : Image) (j : ℕ) → j < k + 1 → table_block + (k + 1) ≤ length r → HoldsEntries frames j (block_at (written r old) (table_block + j)) → j ≢ k → HoldsEntries new_frames j (block_at (written r (staged mid (table_block + k) entries)) (table_block + j))
-      there r j below long hold_old other i few =
-          ap (λ bytes. number_at bytes (8 * i)) (elsewhere r (table_block + j) (λ same. other (omega arith)))
-          ∙ so_far.holds r j (omega arith) (omega arith) hold_old i few
+      there r j below long hold_old other i few = grind (arith, elsewhere)
 
   -- a block that is as it was
   pub more-same : ((i : ℕ) → i < 512 → slice_index new_frames (512 * k + i) ≡ slice_index frames (512 * k + i)) → StagesTable frames new_frames (k + 1) old mid
@@ -57,21 +49,9 @@ module _ (frames new_frames : List ℕ) (k : ℕ) (old mid : List (ℕ × List �
   }
     where
       here : (r : Image) (j : ℕ) → HoldsEntries frames j (block_at (written r old) (table_block + j)) → j ≡ k → HoldsEntries new_frames j (block_at (written r mid) (table_block + j))
-      here r j hold_old is i few =
-          ap (λ bytes. number_at bytes (8 * i)) (so_far.apart r (table_block + j) (inr (omega arith)))
-          ∙ hold_old i few
-          ∙ ap (λ n. slice_index frames (512 * n + i)) is
-          ∙ sym (same i few)
-          ∙ ap (λ n. slice_index new_frames (512 * n + i)) (sym is)
+      here r j hold_old is i few = grind arith
 
 -- a block that names no page of the range is the same once they are released
 pub same-entries : (frames : List ℕ) (first pages k : ℕ) → ((i : ℕ) → i < length frames → i / 512 ≡ k → is_within first pages (slice_index frames i) ≡ false) → (i : ℕ) → i < 512
     → slice_index (map (unless_within first pages) frames) (512 * k + i) ≡ slice_index frames (512 * k + i)
-same-entries frames first pages k none i few =
-    ⊎_elim
-    (λ below.
-    get_or-map (unless_within first pages) frames (512 * k + i) 0 0 below
-    ∙ ap (λ t. if t then 0 else slice_index frames (512 * k + i)) (none (512 * k + i) below (omega arith)))
-    (λ past.
-    get_or_past (map (unless_within first pages) frames) (512 * k + i) 0 (let e = length-map frames (unless_within first pages) in omega arith) ∙ sym (get_or_past frames (512 * k + i) 0 past))
-    (cases_lt (512 * k + i) (length frames))
+same-entries frames first pages k none i few = grind (arith, get_or-map, get_or_past, length-map, cases_lt)

@@ -1,4 +1,5 @@
 -- What a write more does to the writes that wait, and to the image with them.
+use Rattle.std.proofs.lemmas.Grind.{common_steps}
 use Rattle.std.specs.Prelude.{◌≡◌, ◌+◌, ◌≤◌, ◌<◌, ◌==◌, ◌&&◌, ◌||◌, nat_le, nat_lt, ℕ, suc, Bool, true, false, not, List, [], ◌∷◌, ◌++◌, length, option_map, slice_set, Option, Some, None, IsSome}
 use Rattle.std.specs.List.{position}
 use Rattle.std.specs.Option.{option_map_or}
@@ -15,8 +16,7 @@ use Rattle.mg_model.specs.Replay.{homes_fit, written}
 
 -- one more write, by the first of those that wait
 pub staged-here : (i b : ℕ) (x y : List ℕ) (ws : List (ℕ × List ℕ)) → (i == b) ≡ true → staged ((i, x) ∷ ws) b y ≡ (b, y) ∷ ws
-staged-here i b x y ws is =
-    ap (λ place. option_map_or (λ k. slice_set ((i, x) ∷ ws) k (b, y)) place (((i, x) ∷ ws) ++ (b, y) ∷ [])) (position-here (goes_to b) (i, x) ws is)
+staged-here i b x y ws is = grind arith
 
 pub staged-there : (i b : ℕ) (x y : List ℕ) (ws : List (ℕ × List ℕ)) → (i == b) ≡ false → staged ((i, x) ∷ ws) b y ≡ (i, x) ∷ staged ws b y
 staged-there i b x y ws is =
@@ -46,12 +46,7 @@ written-staged ((i, x) ∷ ws) r b y once = ⊎_elim here (there (λ rest. writt
     those = once-parts i x ws once
 
     here : (i == b) ≡ true → written r (staged ((i, x) ∷ ws) b y) ≡ slice_set (written r ((i, x) ∷ ws)) b y
-    here same =
-        let is : i ≡ b = eqb-true i b same in
-        let apart : names ws b ≡ false = ap (names ws) (sym is) ∙ those.0 in
-        ap (written r) (staged-here i b x y ws same)
-        ∙ written-apart ws r b y apart
-        ∙ sym (ap (λ image. slice_set image b y) (ap (λ k. written (slice_set r k x) ws) is ∙ written-apart ws r b x apart) ∙ set-set (written r ws) b x y)
+    here same = grind (arith, eqb-true, those, staged-here, written-apart, set-set)
 
     there : (are_once ws ≡ true → written (slice_set r i x) (staged ws b y) ≡ slice_set (written (slice_set r i x) ws) b y) → (i == b) ≡ false → written r (staged ((i, x) ∷ ws) b y) ≡ slice_set (written r ((i, x) ∷ ws)) b y
     there rest not_same = ap (written r) (staged-there i b x y ws not_same) ∙ rest those.1
@@ -71,13 +66,10 @@ names-staged ((i, x) ∷ ws) b y k = ⊎_elim here (there (names-staged ws b y k
     turned false t u = refl
 
     here : (i == b) ≡ true → names (staged ((i, x) ∷ ws) b y) k ≡ (b == k || (i == k || names ws k))
-    here same =
-        let is : i ≡ b = eqb-true i b same in
-        ap (λ w. names w k) (staged-here i b x y ws same) ∙ twice (b == k) (names ws k) ∙ ap (λ n. b == k || (n == k || names ws k)) (sym is)
+    here same = grind (arith, eqb-true, staged-here, twice)
 
     there : names (staged ws b y) k ≡ (b == k || names ws k) → (i == b) ≡ false → names (staged ((i, x) ∷ ws) b y) k ≡ (b == k || (i == k || names ws k))
-    there rest not_same =
-        ap (λ w. names w k) (staged-there i b x y ws not_same) ∙ ap (λ t. i == k || t) rest ∙ turned (i == k) (b == k) (names ws k)
+    there rest not_same = grind (arith, staged-there, turned)
 
 pub once-staged : (ws : List (ℕ × List ℕ)) (b : ℕ) (y : List ℕ) → are_once ws ≡ true → are_once (staged ws b y) ≡ true
 once-staged [] b y once = refl
@@ -87,15 +79,10 @@ once-staged ((i, x) ∷ ws) b y once = ⊎_elim here (there (once-staged ws b y)
     those = once-parts i x ws once
 
     here : (i == b) ≡ true → are_once (staged ((i, x) ∷ ws) b y) ≡ true
-    here same =
-        let is : i ≡ b = eqb-true i b same in
-        ap are_once (staged-here i b x y ws same) ∙ and_from (not (names ws b)) (are_once ws) (not_from_false (names ws b) (ap (names ws) (sym is) ∙ those.0)) those.1
+    here same = grind arith
 
     there : (are_once ws ≡ true → are_once (staged ws b y) ≡ true) → (i == b) ≡ false → are_once (staged ((i, x) ∷ ws) b y) ≡ true
-    there rest not_same =
-        let apart : (b == i) ≡ false = ne_eqb b i (λ is. both_ways (i == b) not_same (eq-eqb i b (sym is))) in
-        ap are_once (staged-there i b x y ws not_same)
-        ∙ and_from (not (names (staged ws b y) i)) (are_once (staged ws b y)) (not_from_false (names (staged ws b y) i) (names-staged ws b y i ∙ or_from (b == i) (names ws i) apart those.0)) (rest those.1)
+    there rest not_same = grind (arith, ne_eqb, both_ways, eq-eqb, staged-there, and_from, not_from_false, names-staged, or_from, those)
 
 home_fits : (total b : ℕ) → globals_block ≤ b → b < total → (nat_le globals_block b && nat_lt b total) ≡ true
 home_fits total b low high = and_from (nat_le globals_block b) (nat_lt b total) (le-leb globals_block b low) (lt-ltb b total high)
@@ -132,11 +119,7 @@ length-again ((i, x) ∷ ws) b y named = ⊎_elim here (there (length-again ws b
     here same = ap (λ w. length w) (staged-here i b x y ws same)
 
     there : (names ws b ≡ true → length (staged ws b y) ≡ length ws) → (i == b) ≡ false → length (staged ((i, x) ∷ ws) b y) ≡ length ((i, x) ∷ ws)
-    there rest not_same =
-        let named_there : names ws b ≡ true = sym (ap (λ t. t || names ws b) not_same) ∙ named in
-        let n = rest named_there in
-        let e = ap (λ w. length w) (staged-there i b x y ws not_same) in
-        omega arith
+    there rest not_same = grind (arith, staged-there)
 
 -- a write is replaced if one goes to that block
 pub place-named : (ws : List (ℕ × List ℕ)) (b : ℕ) → names ws b ≡ true → IsSome (position (goes_to b) ws)
@@ -151,9 +134,7 @@ place-named ((i, x) ∷ ws) b named = ⊎_elim here (there (place-named ws b)) (
     here same = rw (position-here (goes_to b) (i, x) ws same) refl
 
     there : (names ws b ≡ true → IsSome (position (goes_to b) ws)) → (i == b) ≡ false → IsSome (position (goes_to b) ((i, x) ∷ ws))
-    there rest not_same =
-        let named_there : names ws b ≡ true = sym (ap (λ t. t || names ws b) not_same) ∙ named in
-        rw (position-there (goes_to b) (i, x) ws not_same) (some_suc (position (goes_to b) ws) (rest named_there))
+    there rest not_same = grind (arith, some_suc)
 
 -- what waits for a block is what is there once all is written
 pub some_list : (x y : List ℕ) → Some x ≡ Some y → x ≡ y
@@ -189,13 +170,7 @@ written-waiting ((i, y) ∷ ws) r k x once below is = ⊎_elim here (there (λ r
     those = once-parts i y ws once
 
     here : (i == k) ≡ true → block_at (written (slice_set r i y) ws) k ≡ x
-    here same =
-        let at : i ≡ k = eqb-true i k same in
-        let apart : names ws k ≡ false = ap (names ws) (sym at) ∙ those.0 in
-        (written_elsewhere ws (slice_set r i y)).others k (λ named. both_ways (names ws k) apart named)
-        ∙ ap (λ n. block_at (slice_set r n y) k) at
-        ∙ get_or-set_same r k y [] below
-        ∙ some_list y x (sym (waiting-here i k y ws same) ∙ is)
+    here same = grind (arith, common_steps, eqb-true, those, written_elsewhere, both_ways, get_or-set_same, some_list, waiting-here)
 
     there : (are_once ws ≡ true → k < length (slice_set r i y) → waiting ws k ≡ Some x → block_at (written (slice_set r i y) ws) k ≡ x) → (i == k) ≡ false → block_at (written (slice_set r i y) ws) k ≡ x
     there rest not_same = rest those.1 (let n = length-set r i y in omega arith) (sym (waiting-there i k y ws not_same) ∙ is)

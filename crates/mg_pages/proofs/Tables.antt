@@ -1,6 +1,6 @@
 -- What changes of an image and of the frames leave of the frame table.
 use Rattle.std.specs.Prelude.{◌≡◌, ◌≢◌, ◌+◌, ◌*◌, ◌/◌, ◌≤◌, ◌<◌, ℕ, List, length, slice_set}
-use Rattle.std.proofs.Common.{sym, ap, subst, ◌∙◌, ⊎_elim, arith, get_or}
+use Rattle.std.proofs.Common.{sym, ap, subst, ◌∙◌, arith}
 use Rattle.std.proofs.lemmas.Bool.{cases_eq}
 use Rattle.std.proofs.lemmas.List.{get_or-set_other}
 use Rattle.mg_disk.specs.Disk.{Image, block_at}
@@ -42,14 +42,4 @@ holds-apart frames n r r' same holds k few j below = ap (λ bytes. number_at byt
 -- one entry is another, and its block is given
 pub holds-bound : (frames entries : List ℕ) (n : ℕ) (r r' : Image) (f page : ℕ) → HoldsEntries (slice_set frames f page) (f / 512) entries → block_at r' (table_block + f / 512) ≡ entries
     → ((k : ℕ) → k < n → k ≢ f / 512 → block_at r' (table_block + k) ≡ block_at r (table_block + k)) → HoldsTable frames n r → HoldsTable (slice_set frames f page) n r'
-holds-bound frames entries n r r' f page hold here same holds k few j below =
-    ⊎_elim
-    (λ is.
-    ap (λ i. number_at (block_at r' (table_block + i)) (8 * j)) is
-    ∙ ap (λ bytes. number_at bytes (8 * j)) here
-    ∙ hold j below
-    ∙ ap (λ i. get_or (slice_set frames f page) (512 * i + j) 0) (sym is))
-    (λ other.
-    ap (λ bytes. number_at bytes (8 * j)) (same k few other)
-    ∙ holds k few j below
-    ∙ sym (get_or-set_other frames f (512 * k + j) page 0 (λ is. other (omega arith)))) (cases_eq k (f / 512))
+holds-bound frames entries n r r' f page hold here same holds k few j below = grind (arith, get_or-set_other, cases_eq)

@@ -1,5 +1,5 @@
 -- The frames of a thread that entered an object, with the last one returning a word further on.
-use Rattle.std.proofs.Common.{◌+◌, ◌-◌, ◌%◌, ◌≤◌, ◌≡◌, ◌++◌, leb, List, [], ◌∷◌, length, take, Some, refl, ap, ◌∙◌, arith}
+use Rattle.std.proofs.Common.{◌+◌, ◌-◌, ◌%◌, ◌≤◌, ◌≡◌, ◌++◌, List, [], ◌∷◌, length, Some, ap, ◌∙◌, arith}
 use Rattle.std.proofs.lemmas.Bool.{cond_both, cond-false}
 use Rattle.std.proofs.lemmas.Bool.Decides.{nat_tests}
 use Rattle.std.proofs.lemmas.List.{length-append}
@@ -31,18 +31,8 @@ last_back-is frames frame = ap (λ o. option_map_or (λ (f : CallFrame). f.back)
 
 -- a frame on top of others returns a word further on
 pub returning_on-put : (frames : List CallFrame) (frame : CallFrame) → 1 ≤ length frames → returning_on (frames ++ frame ∷ []) ≡ frames ++ record { back = (frame.back + 8) % word_end; slots = frame.slots } ∷ []
-returning_on-put frames frame some =
-    let all = frames ++ frame ∷ [] in
-    let long : length (frames ++ frame ∷ []) ≡ length frames + 1 = length-append frames (frame ∷ []) in
-    cond-false (leb (length all) 1) all (take (length all - 1) all ++ record { back = (last_back all + 8) % word_end; slots = last_slots all } ∷ []) (grind (arith, nat_tests))
-    ∙ ap (λ n. take n all ++ record { back = (last_back all + 8) % word_end; slots = last_slots all } ∷ []) (below_last frames frame)
-    ∙ ap (λ below. below ++ record { back = (last_back all + 8) % word_end; slots = last_slots all } ∷ []) (take-append_seam frames (frame ∷ []))
-    ∙ ap (λ back. frames ++ record { back = (back + 8) % word_end; slots = last_slots all } ∷ []) (last_back-is frames frame)
-    ∙ ap (λ slots. frames ++ record { back = (frame.back + 8) % word_end; slots = slots } ∷ []) (last_slots-is frames frame)
+returning_on-put frames frame some = grind (arith, length-append, cond-false, nat_tests, below_last, take-append_seam, last_back-is, last_slots-is)
 
 -- and the slots of the last frame stay
 pub returning_on-slots : (frames : List CallFrame) → last_slots (returning_on frames) ≡ last_slots frames
-returning_on-slots frames =
-    cond_both (leb (length frames) 1) frames (take (length frames - 1) frames ++ record { back = (last_back frames + 8) % word_end; slots = last_slots frames } ∷ []) (λ fs. last_slots fs ≡ last_slots frames)
-    (λ _. refl)
-    (λ _. last_slots-is (take (length frames - 1) frames) (record { back = (last_back frames + 8) % word_end; slots = last_slots frames }))
+returning_on-slots frames = grind (arith, cond_both, last_slots-is)

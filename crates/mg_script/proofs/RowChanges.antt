@@ -68,10 +68,7 @@ threads-like t f g row (x ∷ xs) apart there same = by_number (λ was. threads-
         ap (λ ys. changed t f x ∷ ys) (above t f xs larger)
         ∙ ap (λ y. y ∷ xs) (either t f x true at ∙ ap (λ r. record x { row = r }) (ap f own ∙ same ∙ ap g (sym own)) ∙ sym (either t g x true at))
         ∙ ap (λ ys. changed t g x ∷ ys) (sym (above t g xs larger))
-    by_number rest false other was =
-        ap (λ y. y ∷ map (changed t f) xs) (either t f x false other)
-        ∙ ap (λ ys. x ∷ ys) (rest was)
-        ∙ ap (λ y. y ∷ map (changed t g) xs) (sym (either t g x false other))
+    by_number rest false other was = grind (arith, either)
 
 -- if numbers differ, two changes are equal that agree at the row that the thread has
 pub with_thread-like : (state : State) (t : ℕ) (f g : ThreadRow → ThreadRow) (row : ThreadRow) → AllPairs IsBelow state.threads → row_of state t ≡ Some row → f row ≡ g row → with_thread state t f ≡ with_thread state t g

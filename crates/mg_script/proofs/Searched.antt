@@ -1,7 +1,7 @@
 -- What a turn reads and costs, by the instruction that its word spells.
 use Rattle.std.specs.Prelude.{ℕ, ◌≡◌, ◌+◌, ◌&&◌, Bool, true, false, not, nat_lt, [], ◌∷◌, if◌then◌else◌, Option, Some, None}
 use Rattle.std.specs.Option.{option_map_or}
-use Rattle.std.proofs.Common.{arith, refl, sym, ap, ◌∙◌}
+use Rattle.std.proofs.Common.{arith, refl}
 use Rattle.std.proofs.lemmas.Bool.{false≢true}
 use Rattle.mg_model.specs.declared.calls.Call.{Call}
 use Rattle.mg_model.specs.declared.calls.Call.TheVariants as call
@@ -9,20 +9,16 @@ use Rattle.mg_model.specs.declared.instructions.Instr.{Instr}
 use Rattle.mg_model.specs.declared.instructions.Instr.TheVariants as op
 use Rattle.mg_model.specs.declared.replies.Refusal.TheVariants.{Align, Denied}
 use Rattle.mg_model.specs.declared.replies.Reply.TheVariants.{Done}
-use Rattle.mg_model.specs.declared.rights.Right.TheVariants.{W, X, P}
-use Rattle.mg_model.specs.Access.{allowed}
-use Rattle.mg_model.specs.Accesses.{call_accesses, call_words, fetched, instruction_accesses, instruction_words, word_access}
-use Rattle.mg_model.specs.ObjectCalls.{is_aligned}
-use Rattle.mg_model.specs.Objects.{word_at}
+use Rattle.mg_model.specs.declared.rights.Right.TheVariants.{P}
+use Rattle.mg_model.specs.Accesses.{call_accesses, call_words, instruction_accesses, instruction_words, word_access}
 use Rattle.mg_model.specs.Refused.{row}
 use Rattle.mg_model.specs.Script.{decoded, operand, register}
 use Rattle.mg_model.specs.State.{State, ThreadRow}
 use Rattle.mg_model.specs.Turn.{thread_call}
-use Rattle.mg_model.specs.Warmth.{disturbs, in_first_page, is_calm, is_ok}
+use Rattle.mg_model.specs.Warmth.{disturbs, is_calm, is_ok}
 use Rattle.mg_script.specs.Actions.{call_of}
 use Rattle.mg_script.specs.Effects.{begun}
 use Rattle.mg_script.specs.TurnCosts.{TurnsSearchAsCalls}
-use Rattle.mg_script.specs.Turns.{turn_call}
 
 -- the call of what a word spells
 abbrev asked : ThreadRow → Option Instr → Call
@@ -74,24 +70,11 @@ module _ (state : State) (t : ℕ) (thread : ThreadRow) where
   asked-calm : (o : Option Instr) → is_calm state t thread o ≡ true → (is_ok (thread_call state t (asked thread o)).1 && disturbs state t (asked thread o)) ≡ false
   asked-calm None calm = refl
   asked-calm (Some (op.Load a b i)) calm = quiet (is_ok (thread_call state t (call.Load (operand thread b i))).1)
-  asked-calm (Some (op.Store a b i)) calm =
-      let address = operand thread b i in
-      stored-calm state _ (is_aligned address) (allowed state t address W) (in_first_page state.objects address) calm
+  asked-calm (Some (op.Store a b i)) calm = grind (arith, stored-calm)
   asked-calm (Some (op.Pdx a b)) calm = absurd (false≢true calm)
   asked-calm (Some op.Ret) calm = absurd (false≢true calm)
   asked-calm (Some op.Sys) calm = absurd (false≢true calm)
   asked-calm (Some other) calm = refl
 
 pub turns-search : TurnsSearchAsCalls
-turns-search state t thread =
-    let may = allowed state t thread.pc X in
-    let word = word_at state.objects thread.pc in
-    let spelled = fetched state (record { number = t; row = thread }) in
-    let made : turn_call state t thread ≡ asked thread spelled = begun-asked thread word may in
-    record {
-      accesses = ap (λ more. record { thread = t; address = thread.pc; right = X } ∷ more) (asked-accesses state t thread spelled ∙ sym (ap (λ c. call_accesses state t c) made));
-      words =
-          fetch-words may (instruction_words state t thread spelled) (λ none. ap (λ v. instruction_words state t thread (if v then decoded word else None)) none)
-          ∙ ap (λ own. (if may then 1 else 0) + own) (asked-words state t thread spelled ∙ sym (ap (λ c. call_words state t c) made));
-      calm = λ calm. ap (λ c. is_ok (thread_call state t c).1 && disturbs state t c) made ∙ asked-calm state t thread spelled calm;
-    }
+turns-search state t thread = grind (arith, begun-asked, asked-accesses, fetch-words, asked-words, asked-calm)

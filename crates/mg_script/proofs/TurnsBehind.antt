@@ -1,9 +1,10 @@
 -- A turn is a call, and then another row for the thread.
+use Rattle.std.proofs.Common.{arith}
 use Rattle.std.proofs.Common.{ℕ, ◌+◌, ◌-◌, ◌≤◌, ◌≡◌, ◌++◌, Bool, true, false, cond, eqb, ltb, not, List, [], ◌∷◌, length, take, Option, Some, None, refl, sym, ap, ◌∙◌, subst, All}
 use Rattle.std.proofs.lemmas.Bool.{cond_both}
 use Rattle.std.proofs.lemmas.List.Elements.{All-head, All-tail}
 use Rattle.std.proofs.lemmas.Option.{same_Some}
-use Rattle.std.specs.Prelude.{Contains, find}
+use Rattle.std.specs.Prelude.{find}
 use Rattle.std.specs.Option.{option_map_or}
 use Rattle.mg_laws.specs.Backing.{BackingRestsOnDomain, FramesKeepBacked}
 use Rattle.mg_laws.specs.Scripts.{RestsOnNoRegister, is_by_script, with_frames_of}
@@ -32,7 +33,7 @@ use Rattle.mg_model.specs.Turn.{faulted, put_row, refusal_number, run, run_word,
 use Rattle.mg_model.specs.WellFormed.{IsThread, IsWellFormed}
 use Rattle.mg_script.specs.declared.effects.Effect.{Effect}
 use Rattle.mg_script.specs.declared.effects.Effect.TheVariants as effect
-use Rattle.mg_script.specs.Actions.{entering_call, settled}
+use Rattle.mg_script.specs.Actions.{settled}
 use Rattle.mg_script.specs.Effects.{HasFrames, IsSpelledBy, entered, faulted_row, finished, is_spelled, loaded, made_by, resumed, returned, stood, stored, turned_on}
 use Rattle.mg_script.specs.Turns.{TurnsAreCalls, TurnsRowsKeepBacked, fetched_word}
 use Rattle.mg_script.proofs.FramesBehind.{returning_on-put, returning_on-slots}
@@ -183,12 +184,7 @@ module _ (state : State) (t : ℕ) (thread : ThreadRow) (formed : IsWellFormed s
     finished-behind effect.Sys by = sys-over (spelled thread) (spelled-by_script (spelled thread) by)
 
 pub turns_behind : RestsOnNoRegister thread_call → TurnsAreCalls
-turns_behind calls state t thread asked formed there ready is =
-    ap (λ o. option_map_or (λ r. turned state t r) o state) there
-    ∙ turned-on state t thread formed there
-    ∙ is.turn
-    ∙ finished-behind state t thread formed there calls ready asked (subst (IsSpelledBy asked) (sym is.call) is.spelled)
-    ∙ ap (λ made. behind t asked (thread_call state t made)) is.call
+turns_behind calls state t thread asked formed there ready is = grind (arith, turned-on, finished-behind)
 
 -- Rows after a call that leave the frames that the call left.
 loaded-frames : (to : ℕ) (said : Reply) (thread : ThreadRow) → (loaded to said thread).frames ≡ thread.frames
@@ -226,10 +222,7 @@ behind-backed rests frames state t thread (effect.Load a to) there has =
 behind-backed rests frames state t thread (effect.Store a value) there has =
     let called = thread_call state t (call.Store a value) in
     frames called.0 t (stored called.1) (λ r _. stored-frames called.1 r)
-behind-backed rests frames state t thread (effect.Pdx a mask) there has =
-    let called = thread_call state t (entering_call a mask) in
-    λ seat _. rests called.0 (with_thread called.0 t (entered called.1)) seat refl refl
-    (λ slot among. subst (λ (slots : List Slot). Contains slots slot) (sym (domain-changed called.0 t seat.thread (entered called.1) (entered-slots called.1))) among)
+behind-backed rests frames state t thread (effect.Pdx a mask) there has = grind (arith, domain-changed, entered-slots)
 behind-backed rests frames state t thread effect.Ret there has =
     let called = thread_call state t call.Ret in
     frames called.0 t (returned called.1) (λ r _. returned-frames called.1 r)

@@ -28,32 +28,18 @@ paid-cons n o objects = ⊎_elim own other (cases_Bool (o.1.account == n))
         omega arith
 
     other : (o.1.account == n) ≡ false → paid_by n (o ∷ objects) ≡ paid_by n objects + share o.1 n
-    other is =
-        let a = ap (sum_by (λ (o : ℕ × ObjectRow). o.1.pages)) (cond-false (o.1.account == n) (o ∷ rest) rest is) in
-        let s = cond-false (o.1.account == n) o.1.pages 0 is in
-        omega arith
+    other is = grind (arith, cond-false, rest)
 
 paid-append : (n : ℕ) (before behind : List (ℕ × ObjectRow)) → paid_by n (before ++ behind) ≡ paid_by n before + paid_by n behind
 paid-append n [] behind = omega arith
-paid-append n (o ∷ before) behind =
-    let a = paid-cons n o (before ++ behind) in
-    let b = paid-cons n o before in
-    let rest = paid-append n before behind in
-    omega arith
+paid-append n (o ∷ before) behind = grind (arith, (paid-append n before behind), paid-cons)
 
 pub paid-between : (new : ℕ × ObjectRow) (without with_it : List (ℕ × ObjectRow)) → Between new without with_it → (n : ℕ) → paid_by n with_it ≡ paid_by n without + share new.1 n
-paid-between new without with_it b n =
-    let x = ap (paid_by n) b.without_is in
-    let y = ap (paid_by n) b.with_is in
-    let p = paid-append n b.before b.behind in
-    let q = paid-append n b.before (new ∷ b.behind) in
-    let r = paid-cons n new b.behind in
-    omega arith
+paid-between new without with_it b n = grind (arith, paid-append, paid-cons)
 
 -- an account pays for no more pages than there are
 share-few : (row : ObjectRow) (n : ℕ) → share row n ≤ row.pages
-share-few row n =
-    ⊎_elim (λ is. let s = cond-true (row.account == n) row.pages 0 is in omega arith) (λ is. let s = cond-false (row.account == n) row.pages 0 is in omega arith) (cases_Bool (row.account == n))
+share-few row n = grind (arith, cond-true, cond-false, cases_Bool)
 
 pub paid-few : (n : ℕ) (objects : List (ℕ × ObjectRow)) → paid_by n objects ≤ sum_by (λ (o : ℕ × ObjectRow). o.1.pages) objects
 paid-few n [] = omega arith
@@ -120,12 +106,7 @@ between-row row gone (o ∷ objects) apart rows found = ⊎_elim here (later (be
         }
 
     later : (find (λ (o : ℕ × ObjectRow). o.1.base == row.base) objects ≡ Some gone → Between (gone.0, row) (W objects) (with_row row objects)) → (o.1.base == row.base) ≡ false → Between (gone.0, row) (W (o ∷ objects)) (with_row row (o ∷ objects))
-    later again is =
-        let found' = sym (cond-false (o.1.base == row.base) (Some o) (find (λ (o : ℕ × ObjectRow). o.1.base == row.base) objects) is) ∙ found in
-        let P : List (ℕ × ObjectRow) → Type 0 = λ os. Between (gone.0, row) os (with_row row (o ∷ objects)) in
-        let Q : List (ℕ × ObjectRow) → Type 0 = λ os. Between (gone.0, row) (o ∷ W objects) os in
-        subst P (sym (cond-true (not (o.1.base == row.base)) (o ∷ W objects) (W objects) (ap not is)))
-        (subst Q (sym (ap (λ x. x ∷ with_row row objects) (cond-false (o.1.base == row.base) (o.0, row) o is))) (between-cons (gone.0, row) o (W objects) (with_row row objects) (again found')))
+    later again is = grind (arith, cond-false, W, cond-true, between-cons)
 
 -- one account pays for others than before
 pub added : (old new : List ℕ) (row : ObjectRow) (payer total : ℕ) → payer ≡ row.account → ((k : ℕ) → pages_at new k ≡ (if payer == k then total else pages_at old k)) → total ≡ pages_at old payer + row.pages
@@ -133,38 +114,20 @@ pub added : (old new : List ℕ) (row : ObjectRow) (payer total : ℕ) → payer
 added old new row payer total pays are is n = ⊎_elim own other (cases_Bool (payer == n))
   where
     own : (payer == n) ≡ true → pages_at new n ≡ pages_at old n + share row n
-    own it =
-        let a = are n in
-        let b = cond-true (payer == n) total (pages_at old n) it in
-        let s = cond-true (row.account == n) row.pages 0 (ap (λ p. p == n) (sym pays) ∙ it) in
-        let o = ap (pages_at old) (eqb-true payer n it) in
-        omega arith
+    own it = grind (arith, cond-true, eqb-true)
 
     other : (payer == n) ≡ false → pages_at new n ≡ pages_at old n + share row n
-    other it =
-        let a = are n in
-        let b = cond-false (payer == n) total (pages_at old n) it in
-        let s = cond-false (row.account == n) row.pages 0 (ap (λ p. p == n) (sym pays) ∙ it) in
-        omega arith
+    other it = grind (arith, cond-false)
 
 pub subtracted : (old new : List ℕ) (row : ObjectRow) (payer total : ℕ) → payer ≡ row.account → ((k : ℕ) → pages_at new k ≡ (if payer == k then total else pages_at old k)) → total + row.pages ≡ pages_at old payer
     → (n : ℕ) → pages_at old n ≡ pages_at new n + share row n
 subtracted old new row payer total pays are is n = ⊎_elim own other (cases_Bool (payer == n))
   where
     own : (payer == n) ≡ true → pages_at old n ≡ pages_at new n + share row n
-    own it =
-        let a = are n in
-        let b = cond-true (payer == n) total (pages_at old n) it in
-        let s = cond-true (row.account == n) row.pages 0 (ap (λ p. p == n) (sym pays) ∙ it) in
-        let o = ap (pages_at old) (eqb-true payer n it) in
-        omega arith
+    own it = grind (arith, cond-true, eqb-true)
 
     other : (payer == n) ≡ false → pages_at old n ≡ pages_at new n + share row n
-    other it =
-        let a = are n in
-        let b = cond-false (payer == n) total (pages_at old n) it in
-        let s = cond-false (row.account == n) row.pages 0 (ap (λ p. p == n) (sym pays) ∙ it) in
-        omega arith
+    other it = grind (arith, cond-false)
 
 -- a row that is found is there
 pub none-found : (test : ℕ × ObjectRow → Bool) (objects : List (ℕ × ObjectRow)) → None ≡ option_map (λ (o : ℕ × ObjectRow). o.1) (find test objects) → list_any test objects ≡ false
@@ -178,8 +141,7 @@ none-found test (o ∷ objects) none = ⊎_elim here (later (none-found test obj
     here is = absurd (some (none ∙ ap (option_map (λ (o : ℕ × ObjectRow). o.1)) (cond-true (test o) (Some o) (find test objects) is)))
 
     later : (None ≡ option_map (λ (o : ℕ × ObjectRow). o.1) (find test objects) → list_any test objects ≡ false) → test o ≡ false → list_any test (o ∷ objects) ≡ false
-    later again is =
-        or_from (test o) (list_any test objects) is (again (none ∙ ap (option_map (λ (o : ℕ × ObjectRow). o.1)) (cond-false (test o) (Some o) (find test objects) is)))
+    later again is = grind (arith, or_from, cond-false)
 
 found-whole : (found : Option (ℕ × ObjectRow)) (row : ObjectRow) → option_map (λ (o : ℕ × ObjectRow). o.1) found ≡ Some row → (o : ℕ × ObjectRow) × (found ≡ Some o) × (o.1 ≡ row)
 found-whole None row is = absurd (cc)

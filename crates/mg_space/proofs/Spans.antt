@@ -5,7 +5,7 @@ use Rattle.std.proofs.lemmas.Bool.{cases_Bool, cond-false, cond-true, eqb-true, 
 use Rattle.std.proofs.lemmas.List.{length-map, length-take-le, map-append, take_more}
 use Rattle.std.proofs.lemmas.List.Elements.{All-cons, All-head, All-nil, All-tail, All-take}
 use Rattle.std.proofs.lemmas.List.Sums.{sum_by-append, sum_by-cons}
-use Rattle.mg_model.specs.Limits.{first_page, page_end}
+use Rattle.mg_model.specs.Limits.{page_end}
 use Rattle.mg_model.specs.Objects.{page_behind, page_of}
 use Rattle.mg_model.specs.Ranges.{IsObjectRow}
 use Rattle.mg_model.specs.State.{Object, ObjectRow}
@@ -28,9 +28,7 @@ lie-spans page (o ∷ objects) within low apart rows =
     (All-head P o objects low, row.place.some, lie-spans (page_behind o.1) objects row.place.high behind rest (All-tail R o objects rows))
 
 pub taken-spans : (objects : List (ℕ × ObjectRow)) → length objects ≤ 4096 → AreApart objects → All (λ (o : ℕ × ObjectRow). IsObjectRow o.1) objects → AreTaken (spans_in objects)
-taken-spans objects few apart rows =
-    let l : length (spans_in objects) ≡ length objects = length-map objects (λ (o : ℕ × ObjectRow). (page_of o.1, o.1.pages)) in
-    record { few = omega arith; apart = lie-spans first_page objects (omega arith) (λ k d under. (rows k d under).place.low) apart rows }
+taken-spans objects few apart rows = grind (arith, length-map, lie-spans)
 
 -- how many pages they have
 pub sum-spans : (objects : List (ℕ × ObjectRow)) → sum_by (λ (span : ℕ × ℕ). span.1) (spans_in objects) ≡ sum_by (λ (o : ℕ × ObjectRow). o.1.pages) objects
@@ -71,8 +69,7 @@ between-into new (o ∷ objects) = ⊎_elim here (later (between-into new object
     here is = record { before = []; behind = o ∷ objects; without_is = refl; with_is = cond-true (nat_lt new.1.base o.1.base) (new ∷ o ∷ objects) (o ∷ into_place new objects) is }
 
     later : Between new objects (into_place new objects) → nat_lt new.1.base o.1.base ≡ false → Between new (o ∷ objects) (into_place new (o ∷ objects))
-    later rest is =
-        subst (λ os. Between new (o ∷ objects) os) (sym (cond-false (nat_lt new.1.base o.1.base) (new ∷ o ∷ objects) (o ∷ into_place new objects) is)) (between-cons new o objects (into_place new objects) rest)
+    later rest is = grind (arith, cond-false, between-cons)
 
 -- objects after another have larger bases
 pub bases-rise : (o : ℕ × ObjectRow) (objects : List (ℕ × ObjectRow)) → AreApart (o ∷ objects) → All (λ (x : ℕ × ObjectRow). IsObjectRow x.1) (o ∷ objects) → All (λ (x : ℕ × ObjectRow). o.1.base < x.1.base) objects
@@ -123,17 +120,12 @@ between-without base gone (o ∷ objects) apart rows found = ⊎_elim here (late
 
     later : (find (λ (o : ℕ × ObjectRow). o.1.base == base) objects ≡ Some gone → Between gone (filter (λ (o : ℕ × ObjectRow). not (o.1.base == base)) objects) objects) → (o.1.base == base) ≡ false
         → Between gone (filter (λ (o : ℕ × ObjectRow). not (o.1.base == base)) (o ∷ objects)) (o ∷ objects)
-    later again is =
-        subst (λ os. Between gone os (o ∷ objects))
-        (sym (cond-true (not (o.1.base == base)) (o ∷ filter (λ (o : ℕ × ObjectRow). not (o.1.base == base)) objects) (filter (λ (o : ℕ × ObjectRow). not (o.1.base == base)) objects) (ap not is)))
-        (between-cons gone o (filter (λ (o : ℕ × ObjectRow). not (o.1.base == base)) objects) objects (again (sym (cond-false (o.1.base == base) (Some o) (find (λ (o : ℕ × ObjectRow). o.1.base == base) objects) is) ∙ found)))
+    later again is = grind (arith, cond-true, between-cons, cond-false)
 
 -- the pages of objects between which one is
 pub spans-between : (new : ℕ × ObjectRow) (without with_it : List (ℕ × ObjectRow)) (b : Between new without with_it)
     → (spans_in without ≡ spans_in b.before ++ spans_in b.behind) × (spans_in with_it ≡ spans_in b.before ++ (page_of new.1, new.1.pages) ∷ spans_in b.behind)
-spans-between new without with_it b =
-    let f : ℕ × ObjectRow → ℕ × ℕ = λ o. (page_of o.1, o.1.pages) in
-    (ap spans_in b.without_is ∙ map-append f b.before b.behind, ap spans_in b.with_is ∙ map-append f b.before (new ∷ b.behind))
+spans-between new without with_it b = grind (arith, map-append)
 
 pub sum-between : (new : ℕ × ObjectRow) (without with_it : List (ℕ × ObjectRow)) → Between new without with_it
     → sum_by (λ (o : ℕ × ObjectRow). o.1.pages) with_it ≡ sum_by (λ (o : ℕ × ObjectRow). o.1.pages) without + new.1.pages

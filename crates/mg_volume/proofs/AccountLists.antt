@@ -1,8 +1,8 @@
 -- Accounts as a list, and their rows by place.
 use Rattle.std.proofs.lemmas.Bool.Decides.{nat_tests}
-use Rattle.std.specs.Prelude.{◌≡◌, ◌≢◌, ◌+◌, ◌-◌, ◌*◌, ◌/◌, ◌≤◌, ◌<◌, ◌==◌, ◌||◌, ◌∷◌, ◌++◌, nat_lt, ℕ, zero, suc, Bool, false, List, [], length, slice_get, slice_set, Option, Some, None}
+use Rattle.std.specs.Prelude.{◌≡◌, ◌≢◌, ◌+◌, ◌-◌, ◌*◌, ◌/◌, ◌≤◌, ◌==◌, ◌||◌, ◌∷◌, ◌++◌, nat_lt, ℕ, zero, suc, Bool, false, List, [], length, slice_get, slice_set, Option, Some, None}
 use Rattle.std.specs.Option.{option_map_or}
-use Rattle.std.proofs.Common.{refl, sym, ap, ◌∙◌, ⊎_elim, arith}
+use Rattle.std.proofs.Common.{refl, sym, ap, ◌∙◌, arith}
 use Rattle.std.proofs.lemmas.Bool.{both_ways, cases_lt, eq-eqb, lt-ltb, or_parts}
 use Rattle.std.proofs.lemmas.Option.{slice_get_past}
 use Rattle.mg_bank.specs.AccountLemmas.{length-taken}
@@ -67,29 +67,12 @@ are_both a b k = (k == a) || (k == b)
 
 -- one account more differs in the blocks of the payer and of the last
 pub opened_within : (rows rows' : List AccRow) (payer amount : ℕ) (row : AccRow) (j k : ℕ) → rows' ≡ taken_from rows payer amount ++ row ∷ [] → j ≡ (payer - 1) / 64 → k ≡ length rows / 64 → DifferWithin (are_both j k) rows rows'
-opened_within rows rows' payer amount row j k is first last = record {
-  each = λ i few other.
-      let parts = or_parts (i / 64 == j) (i / 64 == k) other in
-      let long = length-taken rows payer amount in
-      ap (λ (l : List AccRow). slice_get l i) is
-      ∙ joined_beside (taken_from rows payer amount) row i (λ same. apart i (length rows) k last parts.1 (same ∙ long))
-      ∙ taken_beside rows payer amount i (apart i (payer - 1) j first parts.0);
-}
+opened_within rows rows' payer amount row j k is first last = grind (arith, or_parts, length-taken, joined_beside, apart, taken_beside)
 
 -- a payment in those of both accounts
 pub paid_within : (rows rows' : List AccRow) (from to amount j k : ℕ) → rows' ≡ given_to (taken_from rows from amount) to amount → j ≡ (from - 1) / 64 → k ≡ (to - 1) / 64 → DifferWithin (are_both j k) rows rows'
-paid_within rows rows' from to amount j k is first second = record {
-  each = λ i few other.
-      let parts = or_parts (i / 64 == j) (i / 64 == k) other in
-      ap (λ (l : List AccRow). slice_get l i) is
-      ∙ given_beside (taken_from rows from amount) to amount i (apart i (to - 1) k second parts.1)
-      ∙ taken_beside rows from amount i (apart i (from - 1) j first parts.0);
-}
+paid_within rows rows' from to amount j k is first second = grind (arith, or_parts, given_beside, apart, taken_beside)
 
 -- as many rows differ in the blocks that hold one alone
 pub all_within : (blocks : ℕ) (old new : List AccRow) → length new ≡ length old → length old ≤ 64 * blocks → DifferWithin (λ k. nat_lt k blocks) old new
-all_within blocks old new long room = record {
-  each = λ i few other.
-      let behind : length old ≤ i = ⊎_elim (λ (low : i < length old). absurd (both_ways (nat_lt (i / 64) blocks) other (lt-ltb (i / 64) blocks (omega arith)))) (λ high. high) (cases_lt i (length old)) in
-      slice_get_past new i (omega arith) ∙ sym (slice_get_past old i behind);
-}
+all_within blocks old new long room = grind (arith, both_ways, lt-ltb, cases_lt, slice_get_past)

@@ -122,28 +122,10 @@ staged_then p q r m n f g h rows first second joins = record {
 
 -- none
 pub none_staged : (p : Pages) (rows : List AccRow) → StagesAccounts 0 (λ k. nat_lt k 0) rows p p
-none_staged p rows = record {
-  table = refl;
-  shape = record { total = refl; frames = refl; live = refl };
-  words = refl;
-  staged = record { least = omega arith; staged = omega arith; still = λ block was. was };
-  spelled = λ image is. is;
-  here = λ image k fitting low is. absurd (both_ways (nat_lt k 0) (le-ltb k 0 (omega arith)) is);
-  rest = λ image k low other. refl;
-  beside = λ image block outside. refl;
-}
+none_staged p rows = grind (arith, both_ways, le-ltb)
 
 pub staged_wider : (p q : Pages) (m n : ℕ) (f : ℕ → Bool) (rows : List AccRow) → m ≤ n → StagesAccounts m f rows p q → StagesAccounts n f rows p q
-staged_wider p q m n f rows wide stages = record {
-  table = stages.table;
-  shape = stages.shape;
-  words = stages.words;
-  staged = record { least = stages.staged.least; staged = let more = stages.staged.staged in omega arith; still = stages.staged.still };
-  spelled = stages.spelled;
-  here = stages.here;
-  rest = stages.rest;
-  beside = stages.beside;
-}
+staged_wider p q m n f rows wide stages = grind arith
 
 -- one more than the first ones
 next_named : (k i : ℕ) → nat_lt i (k + 1) ≡ (nat_lt i k || i == k)

@@ -103,11 +103,7 @@ thread_zero ((i, r) ∷ xs) = grind (arith, nat_tests, thread_zero xs)
 -- how many there are, and their ranges
 placed-few : {R : Type 0} (low high : ℕ) (xs : List (ℕ × R)) → ArePlaced low high xs → low ≤ high → length xs + low ≤ high
 placed-few low high [] placed within = omega arith
-placed-few low high ((i, r) ∷ xs) placed within =
-    let above = placed.0 in
-    let below = placed.1 in
-    let rest = placed-few (i + 1) high xs placed.2 (omega arith) in
-    omega arith
+placed-few low high ((i, r) ∷ xs) placed within = grind (arith, (placed-few (i + 1) high xs placed.2 (omega arith)))
 
 pub few_are : (rows : List (Option ThreadRow)) → AreByNumber rows → length (numbered (live_from 0 rows)) ≤ 256
 few_are rows held =

@@ -1,6 +1,7 @@
 -- A change of the row with a base writes one row, if only one row has the base.
+use Rattle.std.proofs.Common.{arith}
 use Rattle.std.specs.Prelude.{◌≡◌, ◌≢◌, ◌==◌, Bool, ℕ, true, false, All, List, [], ◌∷◌, find, if◌then◌else◌, map, IfSome, Some}
-use Rattle.std.proofs.Common.{refl, sym, ap, subst, ◌∙◌}
+use Rattle.std.proofs.Common.{refl, sym, ap, subst}
 use Rattle.std.proofs.lemmas.Bool.{eqb-true}
 use Rattle.mg_disk.specs.Disk.{Image}
 use Rattle.mg_model.specs.KeptListLemmas.{All-unmap}
@@ -29,9 +30,7 @@ same-change base row change (o ∷ objects) distinct gives = by_test (o.row.base
     by_test : (v : Bool) → (o.row.base == base) ≡ v → IfSome (if v then Some o.row else find (λ (r : ObjectRow). r.base == base) (bare objects)) (λ old. change old ≡ row)
         → (IfSome (find (λ (r : ObjectRow). r.base == base) (bare objects)) (λ old. change old ≡ row) → with_row base (λ old. row) objects ≡ with_row base change objects)
         → (if v then record o { row = row } else o) ∷ with_row base (λ old. row) objects ≡ (if v then record o { row = change o.row } else o) ∷ with_row base change objects
-    by_test true is gives later =
-        let own = eqb-true o.row.base base is in
-        ap (λ (r : ObjectRow). record o { row = r } ∷ with_row base (λ old. row) objects) (sym gives) ∙ ap (λ rest. record o { row = change o.row } ∷ rest) (none (λ old. row) own ∙ sym (none change own))
+    by_test true is gives later = grind (arith, eqb-true, none)
     by_test false is gives later = ap (λ rest. o ∷ rest) (later gives)
 
 pub changed_by : (v : VolumeHeld) (image : Image) (row : ObjectRow) (change : ObjectRow → ObjectRow) → IsKept v → IfSome (find (λ (old : ObjectRow). old.base == row.base) (objects_in v)) (λ old. change old ≡ row)

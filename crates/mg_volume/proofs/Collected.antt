@@ -1,6 +1,6 @@
 -- The rent is collected.
 use Rattle.mg_volume.specs.Sound.{used-rows}
-use Rattle.std.specs.Prelude.{◌≡◌, ◌≤◌, ◌==◌, ℕ, List, sum_by}
+use Rattle.std.specs.Prelude.{◌≡◌, ◌≤◌, ℕ, List, sum_by}
 use Rattle.std.proofs.Common.{sym, ap, ◌∙◌, arith}
 use Rattle.mg_bank.specs.Bank.{pages_at}
 use Rattle.mg_disk.specs.Disk.{Image}
@@ -32,10 +32,7 @@ pages-are objects rows paid same are n =
 
 -- and no more than all objects have
 pub few-pages : (rows : List (ℕ × ObjectRow)) (paid : List ℕ) → ArePaid paid rows → sum_by (λ (o : ℕ × ObjectRow). o.1.pages) rows ≤ 65536 → (n : ℕ) → pages_at paid n ≤ 65536
-few-pages rows paid are few n =
-    let is = are n in
-    let part = sum_by-filter-le (λ (o : ℕ × ObjectRow). o.1.account == n) (λ (o : ℕ × ObjectRow). o.1.pages) rows in
-    omega arith
+few-pages rows paid are few n = grind (arith, sum_by-filter-le)
 
 accounts-are : (v : VolumeHeld) (image : Image) → v.accounts ≡ (now_of v image).accounts
 unfolding accounts_in
@@ -44,15 +41,9 @@ accounts-are v image = sym (now_accounts v image)
 -- the accounts that were charged at the rate of the state are those after its rent
 pub rented : (v : VolumeHeld) (rows : List AccRow) (rate : ℕ) (image : Image) → rate ≡ rate_now (now_of v image)
     → ((objects : List Object) → AreRowsOf objects v.objects → rows ≡ given_to (all_charged objects rate 1 v.accounts) 1 (all_paid objects rate 1 v.accounts)) → rows ≡ rent_accounts (now_of v image)
-rented v rows rate image rate_is told =
-    let state = now_of v image in
-    told state.objects (objects_are v image)
-    ∙ ap (λ (l : List AccRow). given_to (all_charged state.objects rate 1 l) 1 (all_paid state.objects rate 1 l)) (accounts-are v image)
-    ∙ ap (λ r. given_to (all_charged state.objects r 1 state.accounts) 1 (all_paid state.objects r 1 state.accounts)) rate_is
+rented v rows rate image rate_is told = grind (arith, objects_are, accounts-are)
 
 -- and what they paid is the rent
 pub rent_is : (v : VolumeHeld) (paid rate : ℕ) (image : Image) → rate ≡ rate_now (now_of v image)
     → ((objects : List Object) → AreRowsOf objects v.objects → paid ≡ all_paid objects rate 1 v.accounts) → paid ≡ rent_paid (now_of v image)
-rent_is v paid rate image rate_is told =
-    let state = now_of v image in
-    told state.objects (objects_are v image) ∙ ap (λ (l : List AccRow). all_paid state.objects rate 1 l) (accounts-are v image) ∙ ap (λ r. all_paid state.objects r 1 state.accounts) rate_is
+rent_is v paid rate image rate_is told = grind (arith, objects_are, accounts-are)

@@ -1,6 +1,6 @@
 -- A password is drawn, in terms of the state.
+use Rattle.std.proofs.Common.{arith}
 use Rattle.std.specs.Prelude.{◌≡◌, ℕ, List}
-use Rattle.std.proofs.Common.{ap, ◌∙◌}
 use Rattle.mg_disk.specs.Disk.{Image}
 use Rattle.mg_model.specs.Draw.{password_drawn}
 use Rattle.mg_model.specs.ObjectCalls.{next_password}
@@ -12,5 +12,4 @@ use Rattle.mg_volume.specs.Meaning.{counters_in, now_of, settings_in}
 module _ (v : VolumeHeld) (image : Image) (counters : Counters) (draws : ℕ) (held : counters ≡ counters_in v) (count : draws ≡ counters.draws) where
   pub password_next : (settings : Settings) (seed : List ℕ) (password : ℕ) → settings ≡ settings_in v → seed ≡ settings.seed → password ≡ password_drawn seed draws → password ≡ next_password (now_of v image)
   unfolding now_of settings_in counters_in
-  password_next settings seed password made begins is =
-      is ∙ ap (λ s. password_drawn s draws) (begins ∙ ap (λ (x : Settings). x.seed) made) ∙ ap (λ d. password_drawn v.settings.seed d) (count ∙ ap (λ (k : Counters). k.draws) held)
+  password_next settings seed password made begins is = grind arith

@@ -10,9 +10,9 @@ use Rattle.mg_disk.specs.BlockBytes.{IsBytes}
 use Rattle.mg_disk.specs.Disk.{AreBytes, Image}
 use Rattle.mg_journal.specs.JournalLemmas.{open_writes, replayed-is}
 use Rattle.mg_model.specs.Bytes.{block_words, bytes_at, number_at, numbers_at}
-use Rattle.mg_model.specs.Layout.{first_frame, segment_body, segment_count}
+use Rattle.mg_model.specs.Layout.{first_frame, segment_count}
 use Rattle.mg_model.specs.Ranges.{IsWord}
-use Rattle.mg_model.specs.Replay.{block_of, body_count, home_of, is_open, replay, writes_from, writes_of, writes_since, written}
+use Rattle.mg_model.specs.Replay.{block_of, body_count, is_open, replay, writes_from, writes_of, writes_since, written}
 use Rattle.mg_model.specs.Volume.{page_words, pages_words}
 
 -- a byte, or 0 past the end
@@ -21,16 +21,7 @@ byte-at bytes k are = ⊎_elim (λ below. are k 0 below) (λ past. let e = get_o
 
 -- eight bytes are a word
 word-of : (bytes : List ℕ) → IsBytes bytes → IsWord (from_le_bytes w64 bytes)
-word-of bytes are =
-    let a = byte-at bytes 0 are in
-    let b = byte-at bytes 1 are in
-    let c = byte-at bytes 2 are in
-    let d = byte-at bytes 3 are in
-    let e = byte-at bytes 4 are in
-    let f = byte-at bytes 5 are in
-    let g = byte-at bytes 6 are in
-    let h = byte-at bytes 7 are in
-    omega arith
+word-of bytes are = grind (arith, byte-at)
 
 number-word : (bytes : List ℕ) (offset : ℕ) → IsBytes bytes → IsWord (number_at bytes offset)
 number-word bytes offset are = word-of (bytes_at bytes offset 8) (All-take (λ byte. byte < 256) 8 (drop offset bytes) (All-drop (λ byte. byte < 256) offset bytes are))
@@ -41,8 +32,7 @@ numbers-words bytes offset (suc n) are = All-cons IsWord (number_at bytes offset
 
 -- a block of bytes, also past the end, if it is empty
 block-bytes : (image : Image) (i : ℕ) → AreBytes image → IsBytes (block_of image i)
-block-bytes image i are =
-    ⊎_elim (λ below. are i [] below) (λ past. subst IsBytes (sym (get_or_past image i [] past)) (All-nil (λ byte. byte < 256))) (cases_lt i (length image))
+block-bytes image i are = grind (arith, get_or_past, All-nil, cases_lt)
 
 -- the words of pages
 page-words : (r : Image) (frames : ℕ) (table : List ℕ) (page : ℕ) → AreBytes r → All IsWord (page_words r frames table page)
@@ -63,8 +53,7 @@ IsWrite write = IsBytes write.1
 
 from-bytes : (image : Image) (s j n : ℕ) → AreBytes image → All IsWrite (writes_from image s j n)
 from-bytes image s j zero are = All-nil IsWrite
-from-bytes image s j (suc n) are =
-    All-cons IsWrite (home_of image s j, block_of image (segment_body s j)) (writes_from image s (j + 1) n) (block-bytes image (segment_body s j) are) (from-bytes image s (j + 1) n are)
+from-bytes image s j (suc n) are = grind (arith, (from-bytes image s (j + 1) n are), All-cons, block-bytes)
 
 of-bytes : (image : Image) (s : ℕ) → AreBytes image → All IsWrite (writes_of image s)
 of-bytes image s are = by_gate (is_open image s)
@@ -80,7 +69,7 @@ since-bytes image s (suc n) are = All-append IsWrite (writes_of image s) (writes
 written-bytes : (image : Image) (writes : List (ℕ × List ℕ)) → AreBytes image → All IsWrite writes → AreBytes (written image writes)
 written-bytes image [] are all = are
 written-bytes image ((i, block) ∷ writes) are all =
-    written-bytes (slice_set image i block) writes (All-set IsBytes image i block (All-head IsWrite (i, block) writes all) are) (All-tail IsWrite (i, block) writes all)
+    grind (arith, (written-bytes (slice_set image i block) writes (All-set IsBytes image i block (All-head IsWrite (i, block) writes all) are) (All-tail IsWrite (i, block) writes all)))
 
 -- a replay of bytes
 pub replay-bytes : (image r : Image) (total : ℕ) → AreBytes image → replay image total ≡ Some r → AreBytes r

@@ -9,9 +9,7 @@ found_index p [] x is = cc
 found_index {X} p (y ∷ ys) x is = ⊎_elim here (there (found_index p ys x)) (cases_Bool (p y))
   where
     here : p y ≡ true → (i : ℕ) × (i < length (y ∷ ys)) × ((d : X) → get_or (y ∷ ys) i d ≡ x) × (p x ≡ true)
-    here t =
-        let same : y ≡ x = (let e : Some y ≡ Some x = sym (ap (λ b. if b then Some y else find p ys) t) ∙ is in cc) in
-        (0, omega arith, λ d. same, ap p (sym same) ∙ t)
+    here t = grind arith
 
     there : (find p ys ≡ Some x → (i : ℕ) × (i < length ys) × ((d : X) → get_or ys i d ≡ x) × (p x ≡ true)) → p y ≡ false → (i : ℕ) × (i < length (y ∷ ys)) × ((d : X) → get_or (y ∷ ys) i d ≡ x) × (p x ≡ true)
     there again f =

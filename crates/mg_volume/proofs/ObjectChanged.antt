@@ -54,8 +54,7 @@ same-pages row (o ∷ os) distinct change = by_test (o.1.base == row.base) refl 
   where
     by_test : (t : Bool) → (o.1.base == row.base) ≡ t → IsSomeAnd (if t then Some o.1 else find (λ (r : ObjectRow). r.base == row.base) (bare_rows os)) (λ old. old.pages ≡ row.pages)
         → (IsSomeAnd (find (λ (r : ObjectRow). r.base == row.base) (bare_rows os)) (λ old. old.pages ≡ row.pages) → All (HasPages row) os) → All (HasPages row) (o ∷ os)
-    by_test true here change later =
-        All-cons (HasPages row) o os (λ is. change) (All-weaker (λ (y : ℕ × ObjectRow). y.1.base ≢ o.1.base) (HasPages row) (λ y differs is. absurd (differs (is ∙ sym (eqb-true o.1.base row.base here)))) os distinct.0)
+    by_test true here change later = grind (arith, All-cons, All-weaker, eqb-true)
     by_test false elsewhere change later = All-cons (HasPages row) o os (λ is. absurd (both_ways (o.1.base == row.base) elsewhere (eq-eqb o.1.base row.base is))) (later change)
 
 pub pages_same : (v : VolumeHeld) (row : ObjectRow) → IsKept v → MayChange (objects_in v) row → All (λ (o : ℕ × ObjectRow). o.1.base ≡ row.base → o.1.pages ≡ row.pages) v.objects
@@ -110,10 +109,7 @@ module _ (row : ObjectRow) where
   apart-kept : (os : List (ℕ × ObjectRow)) → All (HasPages row) os → rows_apart (bare_rows (with_row row os)) ≡ rows_apart (bare_rows os)
   apart-kept [] same = refl
   apart-kept (o ∷ []) same = refl
-  apart-kept (o ∷ x ∷ os) same =
-      let here = All-head (HasPages row) o (x ∷ os) same in
-      let next = All-head (HasPages row) x os (All-tail (HasPages row) o (x ∷ os) same) in
-      grind (arith, nat_tests, here, next, apart-kept (x ∷ os) (All-tail (HasPages row) o (x ∷ os) same))
+  apart-kept (o ∷ x ∷ os) same = grind (arith, (apart-kept (x ∷ os) (All-tail (HasPages row) o (x ∷ os) same)), All-head, All-tail, nat_tests)
 
   -- the words stay
   objects-kept : (r : Image) (frames : ℕ) (table : List ℕ) (os : List (ℕ × ObjectRow)) → All (HasPages row) os → all_spelled r frames table (with_row row os) ≡ model.with_row row.base (λ old. row) (all_spelled r frames table os)

@@ -1,18 +1,15 @@
 -- A new object, in the first row that is free.
-use Rattle.std.specs.Prelude.{◌≡◌, ◌≢◌, ◌+◌, ◌*◌, ◌/◌, ◌≤◌, ◌<◌, ◌==◌, ◌||◌, ◌⊎◌, nat_le, nat_lt, ℕ, zero, suc, true, false, not, All, List, [], ◌∷◌, ◌++◌, if◌then◌else◌, length, replicate, Some, None}
+use Rattle.std.specs.Prelude.{◌≡◌, ◌≢◌, ◌+◌, ◌*◌, ◌/◌, ◌≤◌, ◌<◌, ◌==◌, ◌||◌, ◌⊎◌, nat_le, ℕ, zero, suc, true, false, not, All, List, [], ◌∷◌, ◌++◌, if◌then◌else◌, length, replicate, Some, None}
 use Rattle.std.specs.List.{list_any, position_or_len}
-use Rattle.std.specs.Option.{option_map_or}
 use Rattle.std.proofs.Common.{refl, sym, ap, subst, ◌∙◌, ⊎_elim, inl, inr, arith}
 use Rattle.std.proofs.lemmas.Bool.{and_from, and_parts, both_ways, cases_Bool, le-leb, le-ltb, leb-true, lt-ltb, or_cases, or_parts}
 use Rattle.std.proofs.lemmas.List.{length-map, replicate-append-replicate}
 use Rattle.std.proofs.lemmas.List.Elements.{All-cons, All-head, All-nil, All-tail}
 use Rattle.mg_disk.specs.Disk.{Image}
-use Rattle.mg_model.specs.Bytes.{block_words}
-use Rattle.mg_model.specs.Layout.{first_frame, first_object_block}
+use Rattle.mg_model.specs.Layout.{first_object_block}
 use Rattle.mg_model.specs.Limits.{object_limit}
 use Rattle.mg_model.specs.Objects.{page_behind, page_of, with_object}
 use Rattle.mg_model.specs.Ranges.{IsObjectRow}
-use Rattle.mg_model.specs.Replay.{block_of}
 use Rattle.mg_model.specs.State.{ObjectRow}
 use Rattle.mg_model.specs.Volume.{page_words, pages_words}
 use Rattle.mg_pages.specs.declared.pages.Pages.{Pages}
@@ -45,9 +42,7 @@ none-behind page (entry ∷ table) none =
     ap (λ b. if not b then 1 + position_or_len (λ entry. entry == page) table else 0) parts.0 ∙ omega arith
 
 unbound-zeros : (r : Image) (frames : ℕ) (table : List ℕ) (page : ℕ) → list_any (λ entry. entry == page) table ≡ false → page_words r frames table page ≡ replicate 512 0
-unbound-zeros r frames table page none =
-    let at = position_or_len (λ entry. entry == page) table in
-    ap (λ b. option_map_or (λ frame. block_words (block_of r (first_frame frames + frame))) (if b then Some at else None) (replicate 512 0)) (le-ltb at (length table) (let e = none-behind page table none in omega arith))
+unbound-zeros r frames table page none = grind (arith, le-ltb, none-behind)
 
 unbound-words : (r : Image) (frames : ℕ) (table : List ℕ) (page n : ℕ) → ((k : ℕ) → page ≤ k → k < page + n → list_any (λ entry. entry == k) table ≡ false) → pages_words r frames table page n ≡ replicate (512 * n) 0
 unbound-words r frames table page zero none = refl
@@ -131,14 +126,7 @@ module _ (v : VolumeHeld) (row : ObjectRow) (place : ℕ) (is : IsObjectRow row)
 
   -- its pages are bound nowhere
   unbound : (page : ℕ) → page_of row ≤ page → page < page_of row + row.pages → list_any (λ entry. entry == page) (pages.table_in v.pages) ≡ false
-  unbound page low high =
-      let inside = and_from (nat_le (page_of row) page) (nat_lt page (page_behind row)) (le-leb (page_of row) page low) (lt-ltb page (page_behind row) high) in
-      let first = is.place.low in
-      ⊎_elim
-      (λ bound.
-      absurd (both_ways (has_page v page) (page_apart row is (objects_in v) page join.apart inside) (each-bound (λ page. has_page v page) page (pages.table_in v.pages) kept.inside (λ nil. omega arith) bound)))
-      (λ none. none)
-      (cases_Bool (list_any (λ entry. entry == page) (pages.table_in v.pages)))
+  unbound page low high = grind (arith, and_from, le-leb, lt-ltb, both_ways, page_apart, each-bound, cases_Bool)
 
   module _ (p : Pages) (staged : StagesRows (into_place (place, row) v.objects) place v.pages p) where
     pub inserted_here : is_object_staged (with_objects v (into_place (place, row) v.objects) p) row.base ≡ true

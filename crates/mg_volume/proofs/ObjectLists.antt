@@ -1,7 +1,7 @@
 -- Objects as they are held, in the order of their bases, and their rows in the order of their places.
 use Rattle.std.proofs.lemmas.Bool.Decides.{nat_tests}
 use Rattle.std.specs.Prelude.{◌≡◌, ◌≢◌, ◌+◌, ◌<◌, ◌==◌, ℕ, All, List, [], ◌∷◌, if◌then◌else◌, map, Some, None, ◌≤◌}
-use Rattle.std.proofs.Common.{refl, sym, ap, subst, ◌∙◌, ⊎_elim, arith}
+use Rattle.std.proofs.Common.{refl, sym, ap, ◌∙◌, ⊎_elim, arith}
 use Rattle.std.proofs.lemmas.Bool.{cases_eq, cases_lt, le-ltb, lt-ltb}
 use Rattle.std.proofs.lemmas.List.Elements.{All-cons, All-head, All-map, All-nil, All-tail, All-weaker}
 use Rattle.mg_model.specs.State.{ObjectRow}
@@ -16,9 +16,7 @@ change-none key h k (x ∷ xs) absent = grind (arith, nat_tests, All-head (λ y.
 -- places in order are distinct
 pub placed-none : {R : Type 0} (low high j : ℕ) (rows : List (ℕ × R)) → ArePlaced low high rows → j < low → All (λ (y : ℕ × R). y.0 ≢ j) rows
 placed-none {R} low high j [] placed before = All-nil (λ (y : ℕ × R). y.0 ≢ j)
-placed-none {R} low high j ((i, r) ∷ rows) placed before =
-    let above = placed.0 in
-    All-cons (λ (y : ℕ × R). y.0 ≢ j) (i, r) rows (λ is. omega arith) (placed-none (i + 1) high j rows placed.2 (omega arith))
+placed-none {R} low high j ((i, r) ∷ rows) placed before = grind (arith, (placed-none (i + 1) high j rows placed.2 (omega arith)))
 
 pub placed_distinct : {R : Type 0} (low high : ℕ) (rows : List (ℕ × R)) → ArePlaced low high rows → DistinctBy (λ (y : ℕ × R). y.0) rows
 placed_distinct low high [] placed = tt
@@ -34,14 +32,11 @@ distinct_map f key key' tells (x ∷ xs) distinct = (
 
 -- in the order of the bases
 pub place-cases : (F : List (ℕ × ObjectRow) → Type 0) (new o : ℕ × ObjectRow) (os : List (ℕ × ObjectRow)) → (new.1.base < o.1.base → F (new ∷ o ∷ os)) → (o.1.base ≤ new.1.base → F (o ∷ into_place new os)) → F (into_place new (o ∷ os))
-place-cases F new o os before behind =
-    ⊎_elim (λ low. subst F (sym (ap (λ b. if b then new ∷ o ∷ os else o ∷ into_place new os) (lt-ltb new.1.base o.1.base low))) (before low))
-    (λ high. subst F (sym (ap (λ b. if b then new ∷ o ∷ os else o ∷ into_place new os) (le-ltb new.1.base o.1.base high))) (behind high)) (cases_lt new.1.base o.1.base)
+place-cases F new o os before behind = grind (arith, lt-ltb, le-ltb, cases_lt)
 
 pub into-all : (P : ℕ × ObjectRow → Type 0) (o : ℕ × ObjectRow) (os : List (ℕ × ObjectRow)) → P o → All P os → All P (into_place o os)
 into-all P o [] here all = All-cons P o [] here (All-nil P)
-into-all P o (x ∷ os) here all =
-    place-cases (All P) o x os (λ low. All-cons P o (x ∷ os) here all) (λ high. All-cons P x (into_place o os) (All-head P x os all) (into-all P o os here (All-tail P x os all)))
+into-all P o (x ∷ os) here all = grind (arith, (into-all P o os here (All-tail P x os all)), place-cases, All-cons, All-head, All-tail)
 
 pub by_base_all : (P : ℕ × ObjectRow → Type 0) (rows : List (ℕ × ObjectRow)) → All P rows → All P (by_base rows)
 by_base_all P [] all = all
@@ -107,5 +102,4 @@ same-base low high p row old ((i, r) ∷ rows) placed there base =
     (cases_eq i p)
 
 pub changed_order : (high p : ℕ) (row old : ObjectRow) (rows : List (ℕ × ObjectRow)) → ArePlaced 0 high rows → row_at p rows ≡ Some old → row.base ≡ old.base → by_base (row_set p (Some row) rows) ≡ map (put_at p row) (by_base rows)
-changed_order high p row old rows placed there base =
-    ap by_base (set_row_is 0 high p row old rows placed there) ∙ by_base-change (put_at p row) rows (same-base 0 high p row old rows placed there base)
+changed_order high p row old rows placed there base = grind (arith, set_row_is, by_base-change, same-base)

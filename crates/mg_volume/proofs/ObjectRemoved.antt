@@ -23,9 +23,7 @@ filter-all key k (x ∷ xs) absent = grind (arith, nat_tests, All-head (λ y. ke
 pub remove_is : {X : Type 0} (key : X → ℕ) (k : ℕ) (xs : List X) (i : ℕ) (d : X) → DistinctBy key xs → i < length xs → key (get_or xs i d) ≡ k → remove xs i ≡ filter (λ y. not (key y == k)) xs
 remove_is key k [] i d distinct few is = absurd (omega arith)
 remove_is key k (x ∷ xs) zero d distinct few is = grind (arith, nat_tests, is, filter-all key k xs (All-weaker (λ y. key y ≢ key x) (λ y. key y ≢ k) (λ y other same. other (same ∙ sym is)) xs distinct.0))
-remove_is key k (x ∷ xs) (suc i) d distinct few is =
-    let other : key (get_or xs i d) ≢ key x = All-get_or (λ y. key y ≢ key x) xs i d (omega arith) distinct.0 in
-    grind (arith, nat_tests, is, other, remove_is key k xs i d distinct.1 (omega arith) is)
+remove_is key k (x ∷ xs) (suc i) d distinct few is = grind (arith, (remove_is key k xs i d distinct.1 (omega arith) is), All-get_or, nat_tests)
 
 pub filter_mapped : {X Y : Type 0} (f : X → Y) (p : Y → Bool) (xs : List X) → map f (filter (λ x. p (f x)) xs) ≡ filter p (map f xs)
 filter_mapped f p [] = refl

@@ -75,9 +75,7 @@ goes v base gone os kept found rest =
 -- the object that has a page is another object, if the page is none of those that go
 other-has : (gone : ObjectRow) (page : ℕ) (y : ℕ × ObjectRow) → 1 ≤ gone.pages → is_page_in page gone ≡ false → IsOrApart gone y.1 → is_page_in page y.1 ≡ true → not (y.1.base == gone.base) ≡ true
 other-has gone page y some outside (inl same) inside = absurd (both_ways (is_page_in page gone) outside (ap (is_page_in page) (sym same) ∙ inside))
-other-has gone page y some outside (inr apart) inside =
-    not_from_false (y.1.base == gone.base)
-    (ne_eqb y.1.base gone.base (λ base. let same : page_of y.1 ≡ page_of gone = ap (λ b. b / 4096) base in ⊎_elim (λ before. grind (arith, nat_tests)) (λ behind. grind (arith, nat_tests)) apart))
+other-has gone page y some outside (inr apart) inside = grind (arith, not_from_false, ne_eqb, nat_tests)
 
 -- another page of another base is that of an object that lies apart
 apart-from : (gone row : ObjectRow) → row.base ≢ gone.base → IsOrApart gone row → (page_behind row ≤ page_of gone) ⊎ (page_behind gone ≤ page_of row)
@@ -188,10 +186,7 @@ module _ (v : VolumeHeld) (i : ℕ) (gone : ℕ × ObjectRow) (os : List (ℕ ×
 
       words : (page : ℕ) → page ≢ 0 → (page < page_of gone.1) ⊎ (page_behind gone.1 ≤ page)
           → page_words (pages.coming p image) v.settings.frames (pages.table_in p) page ≡ page_words (pages.coming middle image) v.settings.frames (pages.table_in middle) page
-      words page some outside =
-          ap (λ n. page_words (pages.coming p image) n (pages.table_in p) page) (sym (frames' ∙ staged.block.shape.frames ∙ kept.frames))
-          ∙ released.outside page some outside
-          ∙ ap (λ n. page_words (pages.coming middle image) n (pages.table_in middle) page) (staged.block.shape.frames ∙ kept.frames)
+      words page some outside = grind arith
 
   -- the other objects have the places that they had
   place-same : (base : ℕ) (p : Pages) → has_base base (objects_in v) ≡ true → has_base base (objects_in (with_objects v os p)) ≡ true → place_for base os ≡ place_for base v.objects

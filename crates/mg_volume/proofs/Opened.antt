@@ -285,10 +285,7 @@ module _ (rows : VolumeRows) {D : Type 0} (facts : Ghosts D) (total : ℕ) (same
 -- the volume with the lists that were made of the rows
 pub made_is : (rows : VolumeRows) (p : Pages) (objects : List (ℕ × ObjectRow)) (accounts : List AccRow) (threads : List (ℕ × ThreadRow)) → objects ≡ by_base (objects_of rows) → accounts ≡ rows.accounts.items → threads ≡ numbered rows.threads.items
     → ◌≡◌ {A = VolumeHeld} (record { settings = rows.params; counters = rows.globals; objects = objects; accounts = accounts; threads = threads; pages = p }) (holding rows p)
-made_is rows p objects accounts threads are_objects are_accounts are_threads =
-    ap (λ os. record (holding rows p) { objects = os; accounts = accounts; threads = threads }) are_objects
-    ∙ ap (λ rs. record (holding rows p) { accounts = rs; threads = threads }) are_accounts
-    ∙ ap (λ ts. record (holding rows p) { threads = ts }) are_threads
+made_is rows p objects accounts threads are_objects are_accounts are_threads = grind arith
 
 pub staged_none : (rows : VolumeRows) (p : Pages) → pages.staged_of p ≡ 0 → staged_of (holding rows p) ≡ 0
 unfolding staged_of

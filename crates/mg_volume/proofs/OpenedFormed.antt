@@ -1,12 +1,12 @@
 -- A volume with nothing staged is well formed, if it is sound and its disk gives bytes.
 use Rattle.mg_volume.proofs.ObjectRemoved.{LiesBefore, apart_pairs}
-use Rattle.std.specs.Prelude.{◌≡◌, ◌≢◌, ◌+◌, ◌*◌, ◌^◌, ◌≤◌, ◌<◌, ◌==◌, ◌&&◌, nat_le, ℕ, zero, suc, true, false, All, AllPairs, List, [], ◌∷◌, find, if◌then◌else◌, length, map, sum_by, Some, None}
+use Rattle.std.specs.Prelude.{◌≡◌, ◌≢◌, ◌+◌, ◌*◌, ◌^◌, ◌≤◌, ◌<◌, ◌==◌, ◌&&◌, nat_le, ℕ, zero, suc, true, false, All, AllPairs, List, [], ◌∷◌, find, length, map, sum_by, Some, None}
 use Rattle.std.specs.List.{list_all}
 use Rattle.std.specs.Option.{option_map_or}
-use Rattle.std.proofs.Common.{refl, ap, subst, arith}
+use Rattle.std.proofs.Common.{refl, subst, arith}
 use Rattle.std.proofs.lemmas.Bool.{and_parts, both_ways, eqb-true, leb-true}
-use Rattle.std.proofs.lemmas.List.{length-append, length-map}
-use Rattle.std.proofs.lemmas.List.Elements.{All-cons, All-nil, All-weaker}
+use Rattle.std.proofs.lemmas.List.{length-map}
+use Rattle.std.proofs.lemmas.List.Elements.{All-nil, All-weaker}
 use Rattle.std.proofs.lemmas.List.Kept.{AllPairs-cons}
 use Rattle.mg_disk.specs.Disk.{AreBytes, Image}
 use Rattle.mg_model.specs.declared.accounts.AccRow.{AccRow}
@@ -20,10 +20,9 @@ use Rattle.mg_model.specs.Spelling.{thread_read}
 use Rattle.mg_model.specs.State.{Object, ObjectRow, Thread, ThreadRow}
 use Rattle.mg_model.specs.Tests.{all_distinct}
 use Rattle.mg_model.specs.RowTestLemmas.{distinct-tells, list_all-tells}
-use Rattle.mg_model.specs.Volume.{accounts_fit, are_apart, begins_with_first, object_spelled, objects_fit, page_words, pages_words, threads_fit}
+use Rattle.mg_model.specs.Volume.{accounts_fit, are_apart, begins_with_first, object_spelled, objects_fit, pages_words, threads_fit}
 use Rattle.mg_model.specs.WellFormed.{AreAccounts, AreObjects, AreThreads, IsAccount, IsBefore, IsFirst, IsObject, IsSettings, IsThread, IsWellFormed}
 use Rattle.mg_pages.specs.SpelledLemmas as laws
-use Rattle.mg_pages.specs.LengthLemmas.{length-page}
 use Rattle.mg_pages.specs.Meaning as pages
 use Rattle.mg_volume.proofs.Found.{as_thread}
 use Rattle.mg_volume.proofs.ImageBytes.{pages-words, replay-bytes}
@@ -35,11 +34,7 @@ use Rattle.mg_volume.specs.Sound.{all_spelled}
 
 length-pages : (r : Image) (frames : ℕ) (table : List ℕ) (page n : ℕ) → length (pages_words r frames table page n) ≡ 512 * n
 length-pages r frames table page zero = refl
-length-pages r frames table page (suc n) =
-    let here = length-page r frames table page in
-    let more = length-pages r frames table (page + 1) n in
-    let whole = length-append (page_words r frames table page) (pages_words r frames table (page + 1) n) in
-    omega arith
+length-pages r frames table page (suc n) = grind (arith, (length-pages r frames table (page + 1) n))
 
 objects-formed : (r : Image) (frames : ℕ) (table : List ℕ) (accounts : ℕ) (os : List (ℕ × ObjectRow)) → AreBytes r → All (λ (o : ℕ × ObjectRow). IsObjectRow o.1) os → rows_apart (map (λ (o : ℕ × ObjectRow). o.1) os) ≡ true → length os ≤ 4096
     → objects_fit frames accounts (all_spelled r frames table os) ≡ true → AreObjects frames accounts (all_spelled r frames table os)
@@ -71,30 +66,21 @@ accounts-formed credits period accounts words few fit =
 -- the numbers of threads, one above the places of their rows
 shifted : (low high : ℕ) (rows : List (ℕ × ThreadRow)) → ArePlaced low high rows → ArePlaced (low + 1) (high + 1) (numbered rows)
 shifted low high [] placed = tt
-shifted low high ((i, r) ∷ rows) placed =
-    let above = placed.0 in
-    let below = placed.1 in
-    (omega arith, omega arith, shifted (i + 1) high rows placed.2)
+shifted low high ((i, r) ∷ rows) placed = grind (arith, (shifted (i + 1) high rows placed.2))
 
 abbrev IsWithin : ℕ → ℕ → ℕ × ThreadRow → Type 0
 IsWithin low high t = (low ≤ t.0) × (t.0 < high)
 
 placed-within : (low high : ℕ) (rows : List (ℕ × ThreadRow)) → ArePlaced low high rows → All (IsWithin low high) rows
 placed-within low high [] placed = All-nil (IsWithin low high)
-placed-within low high ((i, r) ∷ rows) placed =
-    let above = placed.0 in
-    All-cons (IsWithin low high) (i, r) rows (placed.0, placed.1)
-    (All-weaker (IsWithin (i + 1) high) (IsWithin low high) (λ t is. let from = is.0 in (omega arith, is.1)) rows (placed-within (i + 1) high rows placed.2))
+placed-within low high ((i, r) ∷ rows) placed = grind (arith, (placed-within (i + 1) high rows placed.2))
 
 abbrev ComesBefore : ℕ × ThreadRow → ℕ × ThreadRow → Type 0
 ComesBefore t later = t.0 < later.0
 
 placed-rise : (low high : ℕ) (rows : List (ℕ × ThreadRow)) → ArePlaced low high rows → AllPairs ComesBefore rows
 placed-rise low high [] placed = AllPairs-nil ComesBefore
-placed-rise low high ((i, r) ∷ rows) placed =
-    AllPairs-cons ComesBefore (i, r) rows
-    (All-weaker (IsWithin (i + 1) high) (ComesBefore (i, r)) (λ t is. let from = is.0 in omega arith) rows (placed-within (i + 1) high rows placed.2))
-    (placed-rise (i + 1) high rows placed.2)
+placed-rise low high ((i, r) ∷ rows) placed = grind (arith, (placed-rise (i + 1) high rows placed.2), AllPairs-cons, All-weaker, placed-within)
 
 AllPairs-unmap : {X Y : Type 0} (R : Y → Y → Type 0) (f : X → Y) (xs : List X) → AllPairs R (map f xs) → AllPairs (λ x y. R (f x) (f y)) xs
 AllPairs-unmap R f [] pairs = AllPairs-nil (λ x y. R (f x) (f y))
@@ -121,13 +107,7 @@ threads-formed births rows placed kept fit =
 first-found : (threads : List Thread) → begins_with_first threads ≡ true
     → (row : ThreadRow) × (option_map_or (λ (thread : Thread). Some thread.row) (find (λ (thread : Thread). thread.number == 1) threads) None ≡ Some row) × IsFirst row
 first-found [] begins = absurd (both_ways false refl begins)
-first-found (thread ∷ threads) begins =
-    let parts = and_parts (thread.number == 1 && thread.row.birth == 1) (thread.row.creator == 0) begins in
-    let here = and_parts (thread.number == 1) (thread.row.birth == 1) parts.0 in (
-      thread.row,
-      ap (λ b. option_map_or (λ (thread : Thread). Some thread.row) (if b then Some thread else find (λ (thread : Thread). thread.number == 1) threads) None) here.0,
-      record { birth = eqb-true thread.row.birth 1 here.1; creator = eqb-true thread.row.creator 0 parts.1 },
-    )
+first-found (thread ∷ threads) begins = grind (arith, and_parts, eqb-true)
 
 spelled : (v : VolumeHeld) (image : Image) → IsSpelledBy v image → Spelled v image
 unfolding IsSpelledBy

@@ -4,7 +4,7 @@ use Rattle.std.proofs.lemmas.Bool.Decides.{nat_tests}
 use Rattle.std.specs.Prelude.{◌≡◌, ◌≢◌, ◌⊎◌, ◌+◌, ◌*◌, ◌%◌, ◌^◌, ◌<◌, ◌==◌, ℕ, Bool, true, false, All, List, [], ◌∷◌, map, slice_index, slice_set, IfOk, OnErr, OnOk, Result, Ok, Err, length, ◌≤◌}
 use Rattle.std.specs.List.{list_all, list_any}
 use Rattle.std.specs.Option.{ForSome}
-use Rattle.std.proofs.Common.{refl, sym, ap, ◌∙◌, ⊎_elim, inr, arith}
+use Rattle.std.proofs.Common.{refl, sym, ap, ◌∙◌, inr, arith}
 use Rattle.std.proofs.lemmas.Bool.{both_ways, or_right}
 use Rattle.std.proofs.lemmas.List.Elements.{All-head, All-tail}
 use Rattle.mg_disk.specs.Disk.{Image, block_at}
@@ -22,7 +22,7 @@ use Rattle.mg_volume.proofs.StandingPages.{with_pages}
 use Rattle.mg_volume.specs.Held.{VolumeHeld}
 use Rattle.mg_volume.specs.Meaning.{IsKept, Keeps, has_page, is_live, is_page_in, is_sound, now_of, objects_in, staged_in, staged_of, threads_in, total_of}
 use Rattle.mg_volume.specs.PageWordLemmas.{objects-set, word-spelled}
-use Rattle.mg_volume.specs.Sound.{all_spelled, is_sound_held, sound_is}
+use Rattle.mg_volume.specs.Sound.{is_sound_held, sound_is}
 
 -- what is not pages stays
 pub same_objects : (v : VolumeHeld) (p : Pages) → objects_in (with_pages v p) ≡ objects_in v
@@ -63,18 +63,7 @@ all-bound q (entry ∷ table) each =
 pub held_again : (v : VolumeHeld) (counters : Counters) (threads : List (ℕ × ThreadRow)) (p : Pages) → IsKept v → length threads ≤ thread_limit → pages.frame_count p ≡ pages.frame_count v.pages
     → ((x : ℕ) → x ≢ 0 → pages.is_bound p x ≡ true → (has_page v x ≡ true) ⊎ (pages.is_bound v.pages x ≡ true)) → IsKept (record v { counters = counters; threads = threads; pages = p })
 unfolding objects_in
-held_again v counters threads p kept few frames bound = record {
-  frames = frames ∙ kept.frames;
-  rows = kept.rows;
-  places = kept.places;
-  apart = kept.apart;
-  used = kept.used;
-  few_objects = kept.few_objects;
-  some_accounts = kept.some_accounts;
-  few_accounts = kept.few_accounts;
-  few_threads = few;
-  inside = all-bound (λ page. has_page v page) (pages.table_in p) (λ x other is. ⊎_elim (λ has. has) (each-bound (λ page. has_page v page) x (pages.table_in v.pages) kept.inside other) (bound x other is));
-}
+held_again v counters threads p kept few frames bound = grind (arith, all-bound, each-bound)
 
 -- when the table stays
 pub held_same : (v : VolumeHeld) (counters : Counters) (threads : List (ℕ × ThreadRow)) (p : Pages) → IsKept v → length threads ≤ thread_limit → pages.frame_count p ≡ pages.frame_count v.pages → pages.table_in p ≡ pages.table_in v.pages
@@ -110,15 +99,7 @@ counted_some n (Err e) p p' steps steps' some none = counted-none (pages.words_i
 -- nothing changed but the count
 pub keeps_now : (v : VolumeHeld) (p : Pages) → pages.Keeps v.pages p → Keeps v (with_pages v p)
 unfolding now_of staged_in staged_of is_live total_of threads_in
-keeps_now v p keeps = record {
-  now = λ image.
-      ap (λ r. record (now_of v image) { objects = all_spelled r v.settings.frames (pages.table_in p) v.objects }) (keeps.coming image)
-      ∙ ap (λ table. record (now_of v image) { objects = all_spelled (pages.coming v.pages image) v.settings.frames table v.objects }) keeps.table;
-  writes = keeps.writes;
-  staged = keeps.staged;
-  live = keeps.shape.live;
-  total = keeps.shape.total;
-}
+keeps_now v p keeps = grind arith
 
 -- the word of a page is that of the state
 pub word_now : (v : VolumeHeld) (image : Image) (page index : ℕ) → IsKept v → has_page v page ≡ true → index < 512 → slice_index (pages.page_now v.pages image page) index ≡ word_at (now_of v image).objects (4096 * page + 8 * index)

@@ -40,12 +40,7 @@ into-first o (x ∷ os) all = grind (arith, nat_tests, All-head (λ (y : ℕ × 
 module _ (p : ℕ × ObjectRow → Bool) where
   into-kept : (o : ℕ × ObjectRow) (os : List (ℕ × ObjectRow)) → InOrder os → p o ≡ true → filter p (into_place o os) ≡ into_place o (filter p os)
   into-kept o [] order kept = grind arith
-  into-kept o (x ∷ os) order kept =
-      let first : o.1.base < x.1.base → into_place o (filter p (x ∷ os)) ≡ o ∷ filter p (x ∷ os) = λ before.
-      into-first o (filter p (x ∷ os))
-      (All-filter p (λ (y : ℕ × ObjectRow). o.1.base < y.1.base) (x ∷ os)
-      (All-cons (λ (y : ℕ × ObjectRow). o.1.base < y.1.base) x os before (All-weaker (λ (y : ℕ × ObjectRow). x.1.base ≤ y.1.base) (λ (y : ℕ × ObjectRow). o.1.base < y.1.base) (λ y more. omega arith) os order.0))) in
-      grind (arith, nat_tests, kept, first, into-kept o os order.1 kept)
+  into-kept o (x ∷ os) order kept = grind (arith, (into-kept o os order.1 kept), into-first, All-filter, All-cons, All-weaker, nat_tests)
 
   into-gone : (o : ℕ × ObjectRow) (os : List (ℕ × ObjectRow)) → p o ≡ false → filter p (into_place o os) ≡ filter p os
   into-gone o [] gone = grind arith

@@ -1,4 +1,5 @@
 -- The rows that were read of a volume are those that its disk has once the journal is open.
+use Rattle.std.proofs.Common.{arith}
 use Rattle.std.specs.Prelude.{◌≡◌, ℕ, nat_le, Bool, true, false, List, drop, if◌then◌else◌, length, take, Option, Some, None}
 use Rattle.std.specs.Option.{option_map_or}
 use Rattle.std.proofs.Common.{refl, sym, ap, subst, ◌∙◌, ⊎_elim}
@@ -34,20 +35,8 @@ split frames None accounts threads objects whole t rows tested read = absurd (cc
 split frames (Some c) None threads objects whole t rows tested read = absurd (cc)
 split frames (Some c) (Some a) None objects whole t rows tested read = absurd (cc)
 split frames (Some c) (Some a) (Some h) None whole t rows tested read = absurd (cc)
-split frames (Some c) (Some a) (Some h) (Some o) whole false rows tested read =
-    let e : None ≡ Some rows = sym (ap (λ b. if b then Some (rows_with c a h o (take frames whole)) else None) (sym tested)) ∙ read in
-    absurd (cc)
-split frames (Some c) (Some a) (Some h) (Some o) whole true rows tested read =
-    let e : Some (rows_with c a h o (take frames whole)) ≡ Some rows = sym (ap (λ b. if b then Some (rows_with c a h o (take frames whole)) else None) (sym tested)) ∙ read in
-    let same : rows_with c a h o (take frames whole) ≡ rows = (cc) in
-    record {
-      counters_are = ap (λ (x : Rows). Some x.counters) same;
-      accounts_are = ap (λ (x : Rows). Some x.accounts) same;
-      threads_are = ap (λ (x : Rows). Some x.threads) same;
-      objects_are = ap (λ (x : Rows). Some x.objects) same;
-      rest = sym tested;
-      table = sym (ap (λ (x : Rows). x.table) same);
-    }
+split frames (Some c) (Some a) (Some h) (Some o) whole false rows tested read = grind (arith, rows_with)
+split frames (Some c) (Some a) (Some h) (Some o) whole true rows tested read = grind (arith, rows_with)
 
 abbrev pub RowParts : Image → ℕ → Rows → Type 0
 RowParts r frames rows =

@@ -1,6 +1,7 @@
 -- One word more of a thread's block that is staged.
+use Rattle.std.proofs.Common.{arith}
 use Rattle.mg_volume.proofs.Stages.{shape_then, stages_then}
-use Rattle.std.specs.Prelude.{◌≡◌, ◌+◌, ℕ, List, MatchOption, Option, slice_set}
+use Rattle.std.specs.Prelude.{◌≡◌, ◌+◌, ℕ, List, MatchOption, Option}
 use Rattle.std.specs.List.{splice}
 use Rattle.std.proofs.Common.{ap, subst, ◌∙◌}
 use Rattle.std.proofs.lemmas.List.{set-set}
@@ -13,17 +14,7 @@ use Rattle.mg_rows.specs.ThreadParts.{with_word}
 use Rattle.mg_volume.specs.Standing.{Respells}
 
 pub restages_then : (block : ℕ) (x y : List ℕ) (p q r : Pages) → pages.Restages block x p q → pages.Restages block y q r → pages.Restages block y p r
-restages_then block x y p q r first second =
-    record {
-      waits = second.waits;
-      coming = λ image. second.coming image ∙ ap (λ i. slice_set i block y) (first.coming image) ∙ set-set (pages.coming p image) block x y;
-      table = second.table ∙ first.table;
-      shape = shape_then p q r first.shape second.shape;
-      staged = stages_then 0 0 p q r first.staged second.staged;
-      here = second.here;
-      words = second.words ∙ first.words;
-      spelled = λ image is. second.spelled image (first.spelled image is);
-    }
+restages_then block x y p q r first second = grind (arith, set-set, shape_then, stages_then)
 
 pub goes_on : (block at word : ℕ) (first row row' : ThreadRow) (p q r : Pages) → with_word at word (thread_bytes row) ≡ thread_bytes row'
     → MatchOption (pages.waiting_in q block) (r ≡ q) (λ bytes. pages.Restages block (splice bytes at (at + 8) (word_bytes word)) q r) → Respells block first row p q → Respells block first row' p r

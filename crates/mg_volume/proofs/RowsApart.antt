@@ -34,8 +34,7 @@ apart_first row (next ∷ rows) apart kept =
 -- and the other way
 pub apart_from : (row : ObjectRow) (rows : List ObjectRow) → All (λ other. page_behind row ≤ page_of other) rows → rows_apart rows ≡ true → rows_apart (row ∷ rows) ≡ true
 apart_from row [] before apart = refl
-apart_from row (next ∷ rows) before apart =
-    and_from (nat_le (page_behind row) (page_of next)) (rows_apart (next ∷ rows)) (le-leb (page_behind row) (page_of next) (All-head (λ other. page_behind row ≤ page_of other) next rows before)) apart
+apart_from row (next ∷ rows) before apart = grind (arith, and_from, le-leb, All-head)
 
 -- a row that is added before the next one, or after it
 pub new_row_cases : (F : List ObjectRow → Type 0) (new row : ObjectRow) (rows : List ObjectRow) → (new.base < row.base → F (new ∷ row ∷ rows)) → (row.base ≤ new.base → F (row ∷ with_new_row new rows)) → F (with_new_row new (row ∷ rows))
@@ -44,8 +43,7 @@ new_row_cases F new row rows before behind = cond_both (nat_lt new.base row.base
 pub new_row_all : (P : ObjectRow → Type 0) (new : ObjectRow) (rows : List ObjectRow) → P new → All P rows → All P (with_new_row new rows)
 new_row_all P new [] here all = All-cons P new [] here all
 new_row_all P new (row ∷ rows) here all =
-    new_row_cases (All P) new row rows (λ low. All-cons P new (row ∷ rows) here all)
-    (λ high. All-cons P row (with_new_row new rows) (All-head P row rows all) (new_row_all P new rows here (All-tail P row rows all)))
+    grind (arith, (new_row_all P new rows here (All-tail P row rows all)), new_row_cases, All-cons, All-head, All-tail)
 
 -- one that meets none of them
 module _ (new : ObjectRow) (is : IsObjectRow new) where

@@ -1,6 +1,6 @@
 -- A list that is taken over item by item.
 use Rattle.std.proofs.lemmas.Grind.{common_steps}
-use Rattle.std.proofs.Common.{ℕ, zero, suc, ◌+◌, ◌<◌, ◌≡◌, ◌++◌, List, [], ◌∷◌, drop, get_or, length, refl, sym, take, ap, ◌∙◌, arith}
+use Rattle.std.proofs.Common.{ℕ, zero, suc, ◌+◌, ◌<◌, ◌≡◌, ◌++◌, List, [], ◌∷◌, drop, get_or, length, refl, take, arith}
 use Rattle.std.specs.Prelude.{slice_set}
 
 -- one more of the new items, if the others are as they were
@@ -8,9 +8,7 @@ pub set-seam : (new old : List ℕ) (k d : ℕ) → k < length new → k < lengt
 set-seam [] old k d below within = absurd (omega arith)
 set-seam (n ∷ ns) [] k d below within = absurd (omega arith)
 set-seam (n ∷ ns) (o ∷ os) zero d below within = refl
-set-seam (n ∷ ns) (o ∷ os) (suc k) d below within =
-    let e : suc k + 1 ≡ suc (k + 1) = omega arith in
-    ap (λ xs. n ∷ xs) (set-seam ns os k d (omega arith) (omega arith)) ∙ ap (λ j. take j (n ∷ ns) ++ drop (suc (k + 1)) (o ∷ os)) (sym e) ∙ ap (λ j. take (suc k + 1) (n ∷ ns) ++ drop j (o ∷ os)) (sym e)
+set-seam (n ∷ ns) (o ∷ os) (suc k) d below within = grind (arith, (set-seam ns os k d (omega arith) (omega arith)))
 
 -- as many, and the next of the old ones
 pub seam-long : (new old : List ℕ) (k : ℕ) → length new ≡ length old → length (take k new ++ drop k old) ≡ length old

@@ -79,10 +79,7 @@ objects_apart r block bytes frames table os low = objects_behind (slice_set r bl
 -- after a block was staged the objects are those that they were
 pub staged_objects : (v : VolumeHeld) (p : Pages) (image : Image) (block : ℕ) (bytes : List ℕ) → block < table_block → pages.table_in p ≡ pages.table_in v.pages → pages.coming p image ≡ slice_set (pages.coming v.pages image) block bytes
     → all_spelled (pages.coming p image) v.settings.frames (pages.table_in p) v.objects ≡ all_spelled (pages.coming v.pages image) v.settings.frames (pages.table_in v.pages) v.objects
-staged_objects v p image block bytes low table coming =
-    ap (λ t. all_spelled (pages.coming p image) v.settings.frames t v.objects) table
-    ∙ ap (λ r. all_spelled r v.settings.frames (pages.table_in v.pages) v.objects) coming
-    ∙ objects_apart (pages.coming v.pages image) block bytes v.settings.frames (pages.table_in v.pages) v.objects low
+staged_objects v p image block bytes low table coming = grind (arith, objects_apart)
 
 -- the counters
 abbrev pub with_counters : VolumeHeld → Pages → Counters → VolumeHeld

@@ -47,18 +47,11 @@ same_changes v w most change settings objects shape words more spelled now = cha
 
 -- a block that was staged is staged with other bytes
 pub restaged : (block : ℕ) (bytes : List ℕ) (old new : Pages) → pages.Restages block bytes old new → StagesBlock block bytes old new
-restaged block bytes old new told =
-    let least = told.staged.least in
-    let most = told.staged.staged in
-    record { coming = told.coming; table = told.table; shape = told.shape; staged = record { least = least; staged = omega arith; still = told.staged.still }; here = told.here; words = told.words; spelled = told.spelled }
+restaged block bytes old new told = grind arith
 
 -- one call after the other stages no more than both
 pub stages_then : (a b : ℕ) (old middle new : Pages) → pages.StagesMore a old middle → pages.StagesMore b middle new → pages.StagesMore (a + b) old new
-stages_then a b old middle new first second = record {
-  least = (let x = first.least in let y = second.least in omega arith);
-  staged = (let x = first.staged in let y = second.staged in omega arith);
-  still = λ block is. second.still block (first.still block is);
-}
+stages_then a b old middle new first second = grind arith
 
 pub shape_then : (old middle new : Pages) → pages.SameShape old middle → pages.SameShape middle new → pages.SameShape old new
 shape_then old middle new first second = record { total = second.total ∙ first.total; frames = second.frames ∙ first.frames; live = second.live ∙ first.live }

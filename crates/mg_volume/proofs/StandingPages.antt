@@ -1,7 +1,7 @@
 -- A volume whose pages changed stands on the disk as before.
-use Rattle.std.specs.Prelude.{◌≡◌, ◌<◌, ℕ, Some}
+use Rattle.std.specs.Prelude.{◌≡◌, ◌<◌, ℕ}
 use Rattle.std.specs.Option.{ForSome}
-use Rattle.std.proofs.Common.{sym, ap, ◌∙◌, arith}
+use Rattle.std.proofs.Common.{ap, ◌∙◌, arith}
 use Rattle.mg_disk.specs.Disk.{Image, block_at}
 use Rattle.mg_disk.specs.declared.disk.Disk.{Ghosts}
 use Rattle.mg_model.specs.Layout.{globals_block, table_block}
@@ -56,8 +56,4 @@ module _ {D : Type 0} (facts : Ghosts D) (v : VolumeHeld) (old : D) (stands : St
   pub stands_same : (p : Pages) (new : D) → pages.StandsOn facts p new → facts.seen new ≡ facts.seen old → pages.frame_count p ≡ pages.frame_count v.pages
       → ForSome (facts.seen old) (λ image. (k : ℕ) → k < table_block → block_at (pages.coming p image) k ≡ block_at (pages.coming v.pages image) k) → StandsOn facts (with_pages v p) new
   unfolding total_of
-  stands_same p new standing seen frames same = record {
-    room = standing.room;
-    settled = standing.settled;
-    fits = λ image told. (let was : facts.seen old ≡ Some image = sym seen ∙ told in spelled_same v p image (stands.fits image was) (standing.fits image told) frames (same image was));
-  }
+  stands_same p new standing seen frames same = grind (arith, spelled_same)

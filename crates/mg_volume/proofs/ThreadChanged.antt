@@ -1,12 +1,11 @@
 -- Another row of a thread that lives, by a change of the row that it has.
 use Rattle.std.specs.Prelude.{◌≡◌, ◌≢◌, ◌==◌, ℕ, Bool, true, false, All, List, [], ◌∷◌, find, if◌then◌else◌, map, IfSome, MatchOption, Option, Some, None}
 use Rattle.std.specs.List.{list_any}
-use Rattle.std.proofs.Common.{refl, sym, ap, subst, ◌∙◌, arith}
+use Rattle.std.proofs.Common.{refl, arith}
 use Rattle.std.proofs.lemmas.Bool.{eqb-true}
 use Rattle.mg_disk.specs.Disk.{Image}
 use Rattle.mg_model.specs.Domains.{with_thread}
-use Rattle.mg_model.specs.State.{State, Thread, ThreadRow}
-use Rattle.mg_model.specs.Threads.{with_new_thread}
+use Rattle.mg_model.specs.State.{Thread, ThreadRow}
 use Rattle.mg_volume.proofs.Found.{as_thread}
 use Rattle.mg_volume.proofs.ObjectLists.{change-none, distinct_map}
 use Rattle.mg_volume.specs.Held.{VolumeHeld}
@@ -36,21 +35,13 @@ same-change t row change (thread ∷ threads) apart gives = by_test (thread.numb
     by_test : (v : Bool) → (thread.number == t) ≡ v → IfSome (if v then Some thread else find (λ (x : Thread). x.number == t) threads) (λ x. change x.row ≡ row)
         → (IfSome (find (λ (x : Thread). x.number == t) threads) (λ x. change x.row ≡ row) → changed t (λ old. row) threads ≡ changed t change threads)
         → (if v then record thread { row = row } else thread) ∷ changed t (λ old. row) threads ≡ (if v then record thread { row = change thread.row } else thread) ∷ changed t change threads
-    by_test true is gives later =
-        let differ : All (λ (x : Thread). x.number ≢ t) threads = subst (λ n. All (λ (x : Thread). x.number ≢ n) threads) (eqb-true thread.number t is) apart.0 in
-        let stay = others-stay t (λ old. row) threads differ in
-        let stay' = others-stay t change threads differ in
-        cc
+    by_test true is gives later = grind (arith, eqb-true, others-stay)
     by_test false is gives later = let rest = later gives in cc
 
 -- so the state is what the change gives
 pub thread_changed : (v : VolumeHeld) (image : Image) (t : ℕ) (row : ThreadRow) (change : ThreadRow → ThreadRow) → DistinctBy (λ (x : Thread). x.number) (threads_in v) → list_any (λ (x : Thread). x.number == t) (threads_in v) ≡ true
     → IfSome (find (λ (x : Thread). x.number == t) (threads_in v)) (λ thread. change thread.row ≡ row) → record (now_of v image) { threads = threads_with t (Some row) (threads_in v) } ≡ with_thread (now_of v image) t change
-thread_changed v image t row change apart there gives =
-    let threads = threads_in v in
-    let state = now_of v image in
-    let with : List Thread → State = λ all. record state { threads = all } in
-    ap with (ap (λ b. if b then changed t (λ old. row) threads else with_new_thread (record { number = t; row = row }) threads) there ∙ same-change t row change threads apart gives ∙ ap (changed t change) (sym (now_threads v image)))
+thread_changed v image t row change apart there gives = grind (arith, same-change, now_threads)
 
 -- a thread that lives is found
 living-found : (t : ℕ) (threads : List Thread) → find (λ (x : Thread). x.number == t) threads ≡ None → list_any (λ (x : Thread). x.number == t) threads ≡ true → ⊥

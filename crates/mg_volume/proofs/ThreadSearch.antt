@@ -1,9 +1,9 @@
 -- What a search among threads finds, by what is said of each place.
 use Rattle.std.proofs.lemmas.Bool.Decides.{nat_tests}
-use Rattle.std.specs.Prelude.{◌≡◌, ◌≢◌, ◌+◌, ◌≤◌, ◌<◌, ◌&&◌, ◌==◌, nat_lt, ℕ, zero, suc, Bool, true, false, not, List, [], ◌∷◌, drop, find, if◌then◌else◌, length, map, option_map, replicate, slice_index, slice_set, Option, Some, None}
+use Rattle.std.specs.Prelude.{◌≡◌, ◌+◌, ◌≤◌, ◌<◌, ◌&&◌, ◌==◌, nat_lt, ℕ, zero, suc, Bool, true, false, not, List, [], ◌∷◌, drop, find, if◌then◌else◌, length, map, option_map, replicate, slice_index, slice_set, Option, Some, None}
 use Rattle.std.specs.List.{position, position_or_len}
 use Rattle.std.specs.Option.{ForSome}
-use Rattle.std.proofs.Common.{refl, sym, ap, subst, ◌∙◌, arith}
+use Rattle.std.proofs.Common.{refl, sym, ap, ◌∙◌, arith}
 use Rattle.std.proofs.lemmas.Bool.{eq-eqb, false_from_ne_true, le-ltb, lt-ltb, ne_eqb}
 use Rattle.std.proofs.lemmas.List.{map-set, length-map}
 use Rattle.std.proofs.lemmas.List.Sums.{position_or_len_is}
@@ -25,10 +25,7 @@ free-front n low high ((i, r) ∷ xs) placed below = let above = placed.0 in gri
 pub free-from : (i : ℕ) (rows : List (Option ThreadRow)) → free_number_from (i + 1) (threads_of (numbered (live_from i rows))) ≡ i + 1 + position_or_len (λ is. not is) (map is_taken rows)
 free-from i [] = omega arith
 free-from i (None ∷ rows) = free-front (i + 1) (i + 1) (i + 1 + length rows) (live_from (i + 1) rows) (live-placed (i + 1) rows) (omega arith) ∙ omega arith
-free-from i (Some r ∷ rows) =
-    ap (λ b. if b then free_number_from (i + 1 + 1) (threads_of (numbered (live_from (i + 1) rows))) else i + 1) (eq-eqb (i + 1) (i + 1) refl)
-    ∙ free-from (i + 1) rows
-    ∙ omega arith
+free-from i (Some r ∷ rows) = grind (arith, (free-from (i + 1) rows), eq-eqb)
 
 -- how many there are: as many as places if each place has one, and else fewer
 pub taken-few : (i : ℕ) (rows : List (Option ThreadRow)) → length (numbered (live_from i rows)) ≤ length rows
@@ -54,11 +51,7 @@ none-before n low high ((i, r) ∷ xs) placed below = let above = placed.0 in gr
 pub free-none : (i : ℕ) (rows : List (Option ThreadRow)) → has_number (i + 1 + position_or_len (λ is. not is) (map is_taken rows)) (numbered (live_from i rows)) ≡ false
 free-none i [] = refl
 free-none i (None ∷ rows) = ap (λ n. has_number n (numbered (live_from (i + 1) rows))) (omega arith) ∙ none-before (i + 1) (i + 1) (i + 1 + length rows) (live_from (i + 1) rows) (live-placed (i + 1) rows) (omega arith)
-free-none i (Some r ∷ rows) =
-    let p = position_or_len (λ is. not is) (map is_taken rows) in
-    let other : i + 1 ≢ i + 1 + (1 + p) = omega arith in
-    let same : i + 1 + (1 + p) ≡ i + 1 + 1 + p = omega arith in
-    rw (ne_eqb (i + 1) (i + 1 + (1 + p)) other) (ap (λ n. has_number n (numbered (live_from (i + 1) rows))) same ∙ free-none (i + 1) rows)
+free-none i (Some r ∷ rows) = grind (arith, (free-none (i + 1) rows), ne_eqb)
 
 -- the place that a search finds
 pub found_at : (test : Bool → Bool) (xs : List Bool) (i : ℕ) → position test xs ≡ Some i → (position_or_len test xs ≡ i) × (i < length xs)
@@ -78,11 +71,7 @@ first_byte test bytes None nowhere =
     let past : p ≡ length bytes =
     position_or_len_is test bytes (length bytes) 0 (omega arith) (λ k few. false_from_ne_true (test (slice_index bytes k)) (nowhere k (omega arith) few)) (λ few. absurd (omega arith)) in
     sym (ap (λ b. if b then Some p else None) (le-ltb p (length bytes) (omega arith)))
-first_byte test bytes (Some i) (place, here) =
-    let p = position_or_len test bytes in
-    let within = place.high in
-    let at : p ≡ i = position_or_len_is test bytes i 0 (omega arith) (λ k few. false_from_ne_true (test (slice_index bytes k)) (place.before k (omega arith) few)) (λ few. here) in
-    sym (ap (λ b. if b then Some p else None) (lt-ltb p (length bytes) (omega arith)) ∙ ap (λ n. Some n) at)
+first_byte test bytes (Some i) (place, here) = grind (arith, position_or_len_is, false_from_ne_true, lt-ltb)
 
 -- the first that is Ready above a number
 abbrev pub takes_turn : ℕ → ℕ × ThreadRow → Bool
@@ -117,17 +106,13 @@ turn-past t i r past = grind (arith, nat_tests)
 above-all : (t i : ℕ) (rows : List (Option ThreadRow)) → t ≤ i → option_map (λ (x : ℕ × ThreadRow). x.0) (find (takes_turn t) (numbered (live_from i rows))) ≡ from_place i (map turn_mark rows)
 above-all t i [] above = refl
 above-all t i (None ∷ rows) above = above-all t (i + 1) rows (omega arith) ∙ sym (from-cons i false (map turn_mark rows))
-above-all t i (Some r ∷ rows) above =
-    number-found t (i + 1) r (numbered (live_from (i + 1) rows)) (is_ready r.state) (turn-now t i r above)
-    ∙ ap (λ o. if is_ready r.state then Some (i + 1) else o) (above-all t (i + 1) rows (omega arith))
-    ∙ sym (from-cons i (is_ready r.state) (map turn_mark rows))
+above-all t i (Some r ∷ rows) above = grind (arith, (above-all t (i + 1) rows (omega arith)))
 
 pub ready-above : (t i k : ℕ) (rows : List (Option ThreadRow)) → t ≡ i + k → option_map (λ (x : ℕ × ThreadRow). x.0) (find (takes_turn t) (numbered (live_from i rows))) ≡ from_place t (drop k (map turn_mark rows))
 ready-above t i zero rows is = above-all t i rows (omega arith) ∙ ap (λ n. from_place n (map turn_mark rows)) (omega arith)
 ready-above t i (suc k) [] is = refl
 ready-above t i (suc k) (None ∷ rows) is = ready-above t (i + 1) k rows (omega arith)
-ready-above t i (suc k) (Some r ∷ rows) is =
-    number-found t (i + 1) r (numbered (live_from (i + 1) rows)) false (turn-past t i r (omega arith)) ∙ ready-above t (i + 1) k rows (omega arith)
+ready-above t i (suc k) (Some r ∷ rows) is = grind (arith, (ready-above t (i + 1) k rows (omega arith)))
 
 -- what is said of each place stays what it is
 map-none : {Y : Type 0} (f : Option ThreadRow → Y) (n : ℕ) → map f (replicate n None) ≡ replicate n (f None)
@@ -152,25 +137,11 @@ put_listed rows taken ready k new some turn good some_is turn_is held = record {
 module _ (rows : List (Option ThreadRow)) (taken : List Bool) (ready : List ℕ) (held : AreListed rows taken ready) where
   -- the lowest free number
   pub free_is : (place : ℕ) → position (λ is. not is) taken ≡ Some place → IsFreeNumber (numbered (live_from 0 rows)) (Some (place + 1))
-  free_is place found =
-      let at = found_at (λ is. not is) (map is_taken rows) place (subst (λ xs. position (λ is. not is) xs ≡ Some place) held.taken_are found) in
-      let here = at.0 in
-      let within = at.1 in
-      let long = length-map rows is_taken in
-      let all = held.by_number.long in
-      let number : 0 + 1 + position_or_len (λ is. not is) (map is_taken rows) ≡ place + 1 = omega arith in
-      let fewer = taken-not_all 0 rows (omega arith) in
-      (omega arith, sym (free-from 0 rows ∙ number), subst (λ n. has_number n (numbered (live_from 0 rows)) ≡ false) number (free-none 0 rows))
+  free_is place found = grind (arith, found_at, length-map, taken-not_all, free-from, free-none)
 
   pub free_gone : position (λ is. not is) taken ≡ None → IsFreeNumber (numbered (live_from 0 rows)) None
-  free_gone none =
-      let all = found_none (λ is. not is) (map is_taken rows) (subst (λ xs. position (λ is. not is) xs ≡ None) held.taken_are none) in
-      let long = length-map rows is_taken in
-      let full = taken-all 0 rows (omega arith) in
-      let places = held.by_number.long in
-      omega arith
+  free_gone none = grind (arith, found_none, length-map, taken-all)
 
   -- the next that is Ready
   pub ready_is : (t : ℕ) (found : Option ℕ) → position (λ mark. mark == 1) (drop t ready) ≡ found → option_map (λ (x : ℕ × ThreadRow). x.0) (find (takes_turn t) (numbered (live_from 0 rows))) ≡ option_map (λ p. t + p + 1) found
-  ready_is t found is =
-      ready-above t 0 t rows (omega arith) ∙ ap (λ xs. from_place t (drop t xs)) (sym held.ready_are) ∙ ap (option_map (λ p. t + p + 1)) is
+  ready_is t found is = grind (arith, ready-above)

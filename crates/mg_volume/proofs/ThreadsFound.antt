@@ -36,21 +36,13 @@ either-number (Some thread) again = refl
 
 pub picked_held : (v : VolumeHeld) (image : Image) (cursor : ℕ) → cursor ≡ (counters_in v).cursor
     → option_map (λ (thread : Thread). thread.number) (picked (now_of v image)) ≡ option_or (option_map (λ (x : ℕ × ThreadRow). x.0) (find (takes_turn cursor) v.threads)) (option_map (λ (x : ℕ × ThreadRow). x.0) (find (takes_turn 0) v.threads))
-picked_held v image cursor is =
-    ap (λ threads. option_map (λ (thread : Thread). thread.number) (option_or (ready_above (now_of v image).counters.cursor threads) (ready_above 0 threads))) (now_threads v image)
-    ∙ ap (λ c. option_map (λ (thread : Thread). thread.number) (option_or (ready_above c.cursor (threads_in v)) (ready_above 0 (threads_in v)))) (now_counters v image)
-    ∙ ap (λ c. option_map (λ (thread : Thread). thread.number) (option_or (ready_above c (threads_in v)) (ready_above 0 (threads_in v)))) (sym is)
-    ∙ either-number (ready_above cursor (threads_in v)) (ready_above 0 (threads_in v))
-    ∙ ap (λ o. option_or o (option_map (λ (thread : Thread). thread.number) (ready_above 0 (threads_in v)))) (above_held v cursor)
-    ∙ ap (λ o. option_or (option_map (λ (x : ℕ × ThreadRow). x.0) (find (takes_turn cursor) v.threads)) o) (above_held v 0)
+picked_held v image cursor is = grind (arith, now_threads, now_counters, either-number, above_held, takes_turn)
 
 -- the thread that has the next turn is that of the first search, or else of the second
 pub next_first : (v : VolumeHeld) (image : Image) (cursor t : ℕ) → cursor ≡ (counters_in v).cursor → Some t ≡ option_map (λ (x : ℕ × ThreadRow). x.0) (find (takes_turn cursor) v.threads)
     → Some t ≡ option_map (λ (thread : Thread). thread.number) (picked (now_of v image))
-next_first v image cursor t is found =
-    sym (picked_held v image cursor is ∙ ap (λ o. option_or o (option_map (λ (x : ℕ × ThreadRow). x.0) (find (takes_turn 0) v.threads))) (sym found))
+next_first v image cursor t is found = grind (arith, picked_held, takes_turn)
 
 pub next_again : (v : VolumeHeld) (image : Image) (cursor : ℕ) (again : Option ℕ) → cursor ≡ (counters_in v).cursor → None ≡ option_map (λ (x : ℕ × ThreadRow). x.0) (find (takes_turn cursor) v.threads)
     → again ≡ option_map (λ (x : ℕ × ThreadRow). x.0) (find (takes_turn 0) v.threads) → again ≡ option_map (λ (thread : Thread). thread.number) (picked (now_of v image))
-next_again v image cursor again is none found =
-    sym (picked_held v image cursor is ∙ ap (λ o. option_or o (option_map (λ (x : ℕ × ThreadRow). x.0) (find (takes_turn 0) v.threads))) (sym none) ∙ sym found)
+next_again v image cursor again is none found = grind (arith, picked_held, takes_turn)
