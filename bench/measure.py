@@ -259,6 +259,13 @@ def crowd():
     return machine_with(4096) + ["1 thread 0x100000300"] * 254 + ["next"] * 255
 
 
+def searched(entries):
+    """Lines that make an object and a list of this many entries, of which the last one is for the object."""
+    first, last = 0x100000010, 0x100000010 + 16 * (entries - 1)
+    others = [f"1 store {first + 16 * k:#x} 1" for k in range(1, entries - 1)]
+    return [ASIDE[0], *others, f"1 store {last:#x} 0x100001000", f"1 store {last + 8:#x} 0x1aed8da0b819d2bd", f"1 store 0x100000000 {entries}"]
+
+
 def measure_instructions(program):
     """Instructions of a line of each kind, alone and among 4,096 objects and 256 threads."""
     kinds = {
@@ -272,6 +279,8 @@ def measure_instructions(program):
     for name, (line, before) in kinds.items():
         alone, among = (instructions(program, line, before + more) for more in ([], crowd()))
         row(f"instructions of {name}", f"{alone:,.0f}", f"among 4,096 objects and 256 threads {among:,.0f}", f"{among / alone:.2f}")
+    pairs = [2 * instructions(program, [STORE, LOAD_ASIDE], searched(entries)) for entries in (2, 255)]
+    row("instructions of a store into the own list and a load that searches its 255 entries", f"{pairs[1]:,.0f}", f"2 entries {pairs[0]:,.0f}", f"{pairs[1] / pairs[0]:.2f}")
     turns = [instructions(program, "next", jumping(threads)) for threads in (1, 255)]
     row("instructions of `next`, the same, 255 Ready", f"{turns[1]:,.0f}", f"1 Ready {turns[0]:,.0f}", f"{turns[1] / turns[0]:.2f}")
     row("instructions of a line of `gen`, on average", f"{generated(program):,.0f}")
