@@ -967,6 +967,8 @@ class Stops(OnVolumes):
         return kept
 
     def test_killed_in_the_middle_of_many_lines(self):
+        # A kill may come as every line that was sent is answered, but not each time.
+        unanswered = 0
         for batch in (1, 8, 64):
             path, _ = self.new()
             first = 1
@@ -980,7 +982,7 @@ class Stops(OnVolumes):
                 ended = caught.exception
                 self.assertEqual(ended.status, -signal.SIGKILL)
                 self.assertTrue(ended.some_may_be_kept)
-                self.assertGreater(len(ended.unanswered), 0)
+                unanswered += len(ended.unanswered)
                 kept = self.assert_holds(path, first, ended, batch)
                 # Every later call tells the same end.
                 with self.assertRaises(mungi.Ended):
@@ -989,6 +991,7 @@ class Stops(OnVolumes):
                     machine.close()
                 first = kept + 1
             self.assertGreater(first, 1)
+        self.assertGreater(unanswered, 0)
 
     def test_a_document_is_never_half_of_one(self):
         path, fresh = self.new()
