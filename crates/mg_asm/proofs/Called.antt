@@ -1,5 +1,5 @@
 -- The lines that store words are read as calls that do.
-use Rattle.std.proofs.Common.{◌≡◌, ℕ, ◌+◌, ◌*◌, ◌^◌, ◌<◌, ◌≤◌, true, List, [], ◌∷◌, ◌++◌, length, All, Some, codes, refl, ap, ◌∙◌, arith, append_assoc, length-append}
+use Rattle.std.proofs.Common.{◌≡◌, ℕ, ◌+◌, ◌*◌, ◌^◌, ◌<◌, ◌≤◌, true, List, [], ◌∷◌, ◌++◌, length, slice_index, All, Some, codes, refl, ap, ◌∙◌, arith, append_assoc, length-append}
 use Rattle.std.specs.Fmt.{decimal}
 use Rattle.std.specs.Option.{option_map_or}
 use Rattle.std.proofs.lemmas.Fmt.{length-decimal-le}
@@ -9,7 +9,7 @@ use Rattle.mg_asm.specs.LineLemmas.{AreWords, length-hex_text, lines-read}
 use Rattle.mg_text.specs.NumberLemmas.{High, hex-high, hex-some, number_of-hex}
 use Rattle.mg_model.specs.declared.calls.Call.TheVariants as call
 use Rattle.mg_model.specs.declared.calls.Line.{Line}
-use Rattle.mg_model.specs.Lines.{line_with, lines, two}
+use Rattle.mg_model.specs.Lines.{exactly, line_with, lines}
 use Rattle.mg_model.specs.Print.{hex_text, spaced}
 use Rattle.mg_model.specs.Ranges.{IsWord}
 use Rattle.mg_model.specs.Words.{is_some_word, numbers_of}
@@ -54,6 +54,6 @@ lines-back thread address (w ∷ ws) fits room are =
     let rest = store_lines thread (address + 8) ws in
     ap lines (line-before thread address w rest)
     ∙ lines-read thread (parts address w) fits (parts-words address w) (front-length thread address w fits) rest
-    ∙ ap (λ o. line_with thread (option_map_or (λ (p, q). call.Store p q) (two o) call.Bad) ∷ lines rest)
+    ∙ ap (λ o. line_with thread (option_map_or (λ numbers. call.Store (slice_index numbers 0) (slice_index numbers 1)) (exactly 2 o) call.Bad) ∷ lines rest)
     (numbers address w (omega (arith, room)) (All-head IsWord w ws are))
     ∙ ap (λ (v : List Line). record { thread = thread; call = call.Store address w } ∷ v) (lines-back thread (address + 8) ws fits (omega (arith, room)) (All-tail IsWord w ws are))

@@ -1,5 +1,5 @@
 -- A line that loads a word is read as the call `load`.
-use Rattle.std.proofs.Common.{◌≡◌, ℕ, suc, zero, ◌+◌, ◌*◌, ◌^◌, ◌<◌, ◌≤◌, true, List, [], ◌∷◌, ◌++◌, length, Some, codes, refl, ap, ◌∙◌, arith, append_assoc, length-append}
+use Rattle.std.proofs.Common.{◌≡◌, ℕ, suc, zero, ◌+◌, ◌*◌, ◌^◌, ◌<◌, ◌≤◌, true, List, [], ◌∷◌, ◌++◌, length, slice_index, Some, codes, refl, ap, ◌∙◌, arith, append_assoc, length-append}
 use Rattle.std.specs.Fmt.{decimal}
 use Rattle.std.specs.Option.{option_map_or}
 use Rattle.std.proofs.lemmas.Fmt.{length-decimal-le}
@@ -8,7 +8,7 @@ use Rattle.mg_asm.specs.LineLemmas.{AreWords, length-hex_text, lines-read}
 use Rattle.mg_text.specs.NumberLemmas.{High, hex-high, hex-some, number_of-hex}
 use Rattle.mg_model.specs.declared.calls.Call.TheVariants as call
 use Rattle.mg_model.specs.declared.calls.Line.{Line}
-use Rattle.mg_model.specs.Lines.{line_with, lines, one}
+use Rattle.mg_model.specs.Lines.{exactly, line_with, lines}
 use Rattle.mg_model.specs.Print.{hex_text, spaced}
 use Rattle.mg_model.specs.Ranges.{IsWord}
 use Rattle.mg_model.specs.Words.{is_some_word, numbers_of}
@@ -44,5 +44,5 @@ loads-back thread address (suc n) fits room =
     let rest = load_lines thread (address + 8) n in
     ap lines (append_assoc (front thread address) (10 ∷ []) rest)
     ∙ lines-read thread (parts address) fits (parts-words address) (front-length thread address fits) rest
-    ∙ ap (λ o. line_with thread (option_map_or (λ p. call.Load p) (one o) call.Bad) ∷ lines rest) (numbers address (omega (arith, room)))
+    ∙ ap (λ o. line_with thread (option_map_or (λ numbers. call.Load (slice_index numbers 0)) (exactly 1 o) call.Bad) ∷ lines rest) (numbers address (omega (arith, room)))
     ∙ ap (λ (v : List Line). record { thread = thread; call = call.Load address } ∷ v) (loads-back thread (address + 8) n fits (omega (arith, room)))

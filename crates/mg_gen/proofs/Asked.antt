@@ -1,11 +1,11 @@
 -- Each kind of line spells its call.
-use Rattle.std.proofs.Common.{◌≡◌, ℕ, ◌+◌, ◌-◌, ◌*◌, ◌/◌, ◌%◌, ◌^◌, ◌<◌, ◌==◌, ◌&&◌, nat_le, nat_lt, Bool, true, false, List, [], ◌∷◌, length, Some, None, if◌then◌else◌, codes, refl, ap, ◌∙◌, arith}
+use Rattle.std.proofs.Common.{◌≡◌, ℕ, ◌+◌, ◌-◌, ◌*◌, ◌/◌, ◌%◌, ◌^◌, ◌<◌, ◌==◌, ◌&&◌, nat_le, nat_lt, Bool, true, false, List, [], ◌∷◌, length, Some, None, if◌then◌else◌, codes, slice_index, refl, ap, ◌∙◌, arith}
 use Rattle.std.specs.Fmt.{decimal}
 use Rattle.std.specs.Option.{option_map_or}
 use Rattle.std.proofs.lemmas.Bool.{and_parts, leb-true, ltb-true}
 use Rattle.mg_model.specs.declared.calls.Call.TheVariants as call
 use Rattle.mg_model.specs.declared.calls.Line.{Line}
-use Rattle.mg_model.specs.Lines.{line_with, one, pwadd_of, three, two}
+use Rattle.mg_model.specs.Lines.{exactly, line_with, pwadd_of}
 use Rattle.mg_model.specs.Print.{hex_text}
 use Rattle.mg_model.specs.Words.{and_then, is_some_word, number_of, numbers_of, rights_of}
 use Rattle.mg_model.specs.Fresh.{root_base}
@@ -39,36 +39,36 @@ numbers-one a fits = numbers-cons (hex_text a) [] a [] (number_of-hex a fits) re
 load-spells : (t a : ℕ) → t < 2 ^ 64 → a < 2 ^ 64 → Spells (call_text t (codes "load") (hex_text a ∷ [])) (asked t (call.Load a))
 load-spells t a ft fa =
     call-spells t (codes "load") (hex_text a ∷ []) (asked t (call.Load a)) ft (letters (codes "load") refl refl refl) (hex-word a, tt) (omega arith) refl
-    (ap (λ o. line_with t (option_map_or (λ n. call.Load n) (one o) call.Bad)) (numbers-one a fa))
+    (ap (λ o. line_with t (option_map_or (λ numbers. call.Load (slice_index numbers 0)) (exactly 1 o) call.Bad)) (numbers-one a fa))
 
 info-spells : (t a : ℕ) → t < 2 ^ 64 → a < 2 ^ 64 → Spells (call_text t (codes "info") (hex_text a ∷ [])) (asked t (call.Info a))
 info-spells t a ft fa =
     call-spells t (codes "info") (hex_text a ∷ []) (asked t (call.Info a)) ft (letters (codes "info") refl refl refl) (hex-word a, tt) (omega arith) refl
-    (ap (λ o. line_with t (option_map_or (λ n. call.Info n) (one o) call.Bad)) (numbers-one a fa))
+    (ap (λ o. line_with t (option_map_or (λ numbers. call.Info (slice_index numbers 0)) (exactly 1 o) call.Bad)) (numbers-one a fa))
 
 thread-spells : (t a : ℕ) → t < 2 ^ 64 → a < 2 ^ 64 → Spells (call_text t (codes "thread") (hex_text a ∷ [])) (asked t (call.Thread a))
 thread-spells t a ft fa =
     call-spells t (codes "thread") (hex_text a ∷ []) (asked t (call.Thread a)) ft (letters (codes "thread") refl refl refl) (hex-word a, tt) (omega arith) refl
-    (ap (λ o. line_with t (option_map_or (λ n. call.Thread n) (one o) call.Bad)) (numbers-one a fa))
+    (ap (λ o. line_with t (option_map_or (λ numbers. call.Thread (slice_index numbers 0)) (exactly 1 o) call.Bad)) (numbers-one a fa))
 
 -- the value in either form
 store-spells : (t a v : ℕ) (value : List ℕ) → t < 2 ^ 64 → a < 2 ^ 64 → IsWord value → number_of value ≡ Some v
     → Spells (call_text t (codes "store") (hex_text a ∷ value ∷ [])) (asked t (call.Store a v))
 store-spells t a v value ft fa is read =
     call-spells t (codes "store") (hex_text a ∷ value ∷ []) (asked t (call.Store a v)) ft (letters (codes "store") refl refl refl) (hex-word a, (is, tt)) (omega arith) refl
-    (ap (λ o. line_with t (option_map_or (λ (n, m). call.Store n m) (two o) call.Bad)) (numbers-cons (hex_text a) (value ∷ []) a (v ∷ []) (number_of-hex a fa) (numbers-cons value [] v [] read refl)))
+    (ap (λ o. line_with t (option_map_or (λ numbers. call.Store (slice_index numbers 0) (slice_index numbers 1)) (exactly 2 o) call.Bad)) (numbers-cons (hex_text a) (value ∷ []) a (v ∷ []) (number_of-hex a fa) (numbers-cons value [] v [] read refl)))
 
 balance-spells : (t n a : ℕ) → t < 2 ^ 64 → n < 2 ^ 64 → a < 2 ^ 64 → Spells (call_text t (codes "balance") (decimal n ∷ hex_text a ∷ [])) (asked t (call.Balance n a))
 balance-spells t n a ft fn fa =
     call-spells t (codes "balance") (decimal n ∷ hex_text a ∷ []) (asked t (call.Balance n a)) ft (letters (codes "balance") refl refl refl) (decimal-word n fn, (hex-word a, tt)) (omega arith) refl
-    (ap (λ o. line_with t (option_map_or (λ (x, y). call.Balance x y) (two o) call.Bad)) (numbers-cons (decimal n) (hex_text a ∷ []) n (a ∷ []) (number_of-back n fn) (numbers-one a fa)))
+    (ap (λ o. line_with t (option_map_or (λ numbers. call.Balance (slice_index numbers 0) (slice_index numbers 1)) (exactly 2 o) call.Bad)) (numbers-cons (decimal n) (hex_text a ∷ []) n (a ∷ []) (number_of-back n fn) (numbers-one a fa)))
 
 create-spells : (t pages n a : ℕ) → t < 2 ^ 64 → pages < 2 ^ 64 → n < 2 ^ 64 → a < 2 ^ 64
     → Spells (call_text t (codes "create") (decimal pages ∷ decimal n ∷ hex_text a ∷ [])) (asked t (call.Create pages n a))
 create-spells t pages n a ft fp fn fa =
     call-spells t (codes "create") (decimal pages ∷ decimal n ∷ hex_text a ∷ []) (asked t (call.Create pages n a)) ft (letters (codes "create") refl refl refl)
     (decimal-word pages fp, (decimal-word n fn, (hex-word a, tt))) (omega arith) refl
-    (ap (λ o. line_with t (option_map_or (λ (x, y, z). call.Create x y z) (three o) call.Bad))
+    (ap (λ o. line_with t (option_map_or (λ numbers. call.Create (slice_index numbers 0) (slice_index numbers 1) (slice_index numbers 2)) (exactly 3 o) call.Bad))
     (numbers-cons (decimal pages) (decimal n ∷ hex_text a ∷ []) pages (n ∷ a ∷ []) (number_of-back pages fp)
     (numbers-cons (decimal n) (hex_text a ∷ []) n (a ∷ []) (number_of-back n fn) (numbers-one a fa))))
 

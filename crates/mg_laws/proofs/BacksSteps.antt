@@ -32,12 +32,12 @@ use Rattle.mg_model.specs.Accesses.{turning}
 use Rattle.mg_model.specs.Backed.{KeepsBacked, by_none, by_thread, by_word, ended_by_call, ended_by_instruction, ended_by_turn, ended_of}
 use Rattle.mg_model.specs.Domains.{pdx, ret, row_of}
 use Rattle.mg_model.specs.Objects.{with_word, word_at}
-use Rattle.mg_model.specs.Refused.{Answer}
+use Rattle.mg_model.specs.Refused.{Answer, refusal_number}
 use Rattle.mg_model.specs.Script.{decoded, jumped, operand, register, with_register}
 use Rattle.mg_model.specs.State.{State, Thread, ThreadRow}
 use Rattle.mg_model.specs.Step.{of_thread, step, step_of}
 use Rattle.mg_model.specs.Threads.{is_thread}
-use Rattle.mg_model.specs.Turn.{faulted, is_ready, picked, put_row, ready_above, refusal_number, run, run_next, run_word, seen, spelled, thread_call, thread_is_ready, turn, turn_state, turned, unless_faulted, values_of, with_registers}
+use Rattle.mg_model.specs.Turn.{faulted, is_ready, picked, put_row, ready_above, run, run_next, run_word, seen, spelled, thread_call, thread_is_ready, turn, turn_state, turned, unless_faulted, values_of, with_registers}
 use Rattle.mg_model.specs.WellFormed.{IsThread, IsWellFormed}
 
 pub call-backed : CallsKeepBacked (λ state t made. (thread_call state t made).0)

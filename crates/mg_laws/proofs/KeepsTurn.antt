@@ -29,12 +29,12 @@ use Rattle.mg_laws.proofs.KeptObjects.{AreObjects-with_word}
 use Rattle.mg_laws.proofs.KeptRegisters.{HasImmediate, advanced-keeps, decoded-immediate, jumped-keeps, kept_register, kept_registers, kept_same, kept_state, refusal_number-word, register-word}
 use Rattle.mg_model.specs.Objects.{with_word, word_at}
 use Rattle.mg_model.specs.Ranges.{IsThreadRow, IsWord}
-use Rattle.mg_model.specs.Refused.{Answer}
+use Rattle.mg_model.specs.Refused.{Answer, refusal_number}
 use Rattle.mg_laws.proofs.ReplyWords.{thread_call-words, word_at-word}
 use Rattle.mg_model.specs.Script.{decoded, jumped, operand, register, with_register}
 use Rattle.mg_model.specs.State.{State, Thread, ThreadRow}
 use Rattle.mg_laws.proofs.KeepsBank.{balance-keeps, open_account-keeps, pay-keeps}
-use Rattle.mg_model.specs.Turn.{faulted, is_ready, next, picked, put_row, ready_above, refusal_number, run, run_next, run_word, seen, spelled, thread_call, turn, turn_state, turned, unless_faulted, values_of, with_registers}
+use Rattle.mg_model.specs.Turn.{faulted, is_ready, next, picked, put_row, ready_above, run, run_next, run_word, seen, spelled, thread_call, turn, turn_state, turned, unless_faulted, values_of, with_registers}
 use Rattle.mg_model.specs.WellFormed.{HasRanges, IsThread, IsWellFormed}
 
 pub thread_call-keeps : (state : State) (t : ℕ) (made : Call) → IsWellFormed state → HasRanges made → IsWellFormed (thread_call state t made).0

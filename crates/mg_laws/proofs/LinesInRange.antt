@@ -1,16 +1,17 @@
 -- The lines of any input have their arguments in range.
-use Rattle.std.proofs.Common.{ℕ, ◌+◌, ◌/◌, ◌%◌, ◌≤◌, ◌≡◌, ◌≢◌, cond, eqb, ltb, List, [], ◌∷◌, length, Option, Some, None, refl, subst, sym, arith, All}
-use Rattle.std.proofs.lemmas.Bool.{cond_both, eqb-false, leb-true, ltb-true}
-use Rattle.std.proofs.lemmas.List.Elements.{All-cons, All-head, All-nil}
+use Rattle.std.proofs.Common.{ℕ, ◌+◌, ◌/◌, ◌%◌, ◌≤◌, ◌≡◌, ◌≢◌, ◌==◌, cond, eqb, ltb, List, [], ◌∷◌, length, Option, Some, None, refl, subst, sym, arith, All}
+use Rattle.std.proofs.lemmas.Bool.{cases_lt, cond_both, eqb-false, leb-true, ltb-true}
+use Rattle.std.proofs.lemmas.List.{get_or_past}
+use Rattle.std.proofs.lemmas.List.Elements.{All-cons, All-nil}
 use Rattle.std.proofs.lemmas.Option.{same_Some}
-use Rattle.std.specs.Prelude.{option_map}
+use Rattle.std.specs.Prelude.{option_map, slice_index}
 use Rattle.std.specs.List.{cons_option, filter_map}
 use Rattle.std.specs.Option.{ForSome, option_map_or}
 use Rattle.mg_model.specs.declared.calls.Call.{Call}
 use Rattle.mg_model.specs.declared.calls.Call.TheVariants as call
 use Rattle.mg_model.specs.declared.calls.Line.{Line}
 use Rattle.mg_model.specs.Abbreviations.{pdx_of}
-use Rattle.mg_model.specs.Lines.{Row, bad_line, call_by, call_line, call_table, form0, form1, form2, form3, form4, form_pwadd, four, is_among, line_of, line_of_words, line_with, lines, lone_words, one, pwadd_of, spelled_line, thread_line, three, two}
+use Rattle.mg_model.specs.Lines.{Row, bad_line, call_by, call_line, call_table, exactly, form, form_pwadd, is_among, line_of, line_of_words, line_with, lines, lone_words, pwadd_of, spelled_line, thread_line}
 use Rattle.mg_model.specs.Ranges.{IsWord}
 use Rattle.mg_model.specs.Rights.{IsRights}
 use Rattle.mg_model.specs.WellFormed.{HasRanges, IsInRange}
@@ -64,55 +65,19 @@ rights_of-rights (b ∷ bytes) =
     (λ other. rights_from-rights (0 + weight) bytes (letter_weight-bits b 0 (omega arith) weight found (eqb-false _ _ other)))))
 
 -- a call of n numbers
-form0-ranges : (made : Call) → HasRanges made → (args : List (List ℕ)) → HasRanges (form0 made args)
-form0-ranges made ranges [] = ranges
-form0-ranges made ranges (word ∷ more) = tt
+each-word : (numbers : List ℕ) (k : ℕ) → All IsWord numbers → IsWord (slice_index numbers k)
+each-word numbers k are = grind (arith, get_or_past, cases_lt)
 
-one-ranges : (made : ℕ → Call) → ((a : ℕ) → IsWord a → HasRanges (made a)) → (o : Option (List ℕ)) → ForSome o (All IsWord) → HasRanges (option_map_or made (one o) call.Bad)
-one-ranges made each None all = tt
-one-ranges made each (Some []) all = tt
-one-ranges made each (Some (a ∷ [])) all = each a (All-head IsWord a [] (all (a ∷ []) refl))
-one-ranges made each (Some (a ∷ b ∷ ns)) all = tt
+exactly-ranges : (n : ℕ) (made : (ℕ → ℕ) → Call) → ((f : ℕ → ℕ) → ((k : ℕ) → IsWord (f k)) → HasRanges (made f)) → (o : Option (List ℕ)) → ForSome o (All IsWord)
+    → HasRanges (option_map_or (λ numbers. made (λ k. slice_index numbers k)) (exactly n o) call.Bad)
+exactly-ranges n made each None all = tt
+exactly-ranges n made each (Some numbers) all =
+    cond_both (length numbers == n) (Some numbers) None (λ o. HasRanges (option_map_or (λ numbers. made (λ k. slice_index numbers k)) o call.Bad))
+    (λ _. each (λ k. slice_index numbers k) (λ k. each-word numbers k (all numbers refl)))
+    (λ _. tt)
 
-form1-ranges : (made : ℕ → Call) → ((a : ℕ) → IsWord a → HasRanges (made a)) → (args : List (List ℕ)) → HasRanges (form1 made args)
-form1-ranges made each args = one-ranges made each (numbers_of args) (numbers_of-words args)
-
-two-ranges : (made : ℕ → ℕ → Call) → ((a b : ℕ) → IsWord a → IsWord b → HasRanges (made a b)) → (o : Option (List ℕ)) → ForSome o (All IsWord)
-    → HasRanges (option_map_or (λ (a, b). made a b) (two o) call.Bad)
-two-ranges made each None all = tt
-two-ranges made each (Some []) all = tt
-two-ranges made each (Some (a ∷ [])) all = tt
-two-ranges made each (Some (a ∷ b ∷ [])) all = let are = all (a ∷ b ∷ []) refl in each a b (are 0 0 (omega arith)) (are 1 0 (omega arith))
-two-ranges made each (Some (a ∷ b ∷ c ∷ ns)) all = tt
-
-form2-ranges : (made : ℕ → ℕ → Call) → ((a b : ℕ) → IsWord a → IsWord b → HasRanges (made a b)) → (args : List (List ℕ)) → HasRanges (form2 made args)
-form2-ranges made each args = two-ranges made each (numbers_of args) (numbers_of-words args)
-
-three-ranges : (made : ℕ → ℕ → ℕ → Call) → ((a b c : ℕ) → IsWord a → IsWord b → IsWord c → HasRanges (made a b c)) → (o : Option (List ℕ)) → ForSome o (All IsWord)
-    → HasRanges (option_map_or (λ (a, b, c). made a b c) (three o) call.Bad)
-three-ranges made each None all = tt
-three-ranges made each (Some []) all = tt
-three-ranges made each (Some (a ∷ [])) all = tt
-three-ranges made each (Some (a ∷ b ∷ [])) all = tt
-three-ranges made each (Some (a ∷ b ∷ c ∷ [])) all = let are = all (a ∷ b ∷ c ∷ []) refl in each a b c (are 0 0 (omega arith)) (are 1 0 (omega arith)) (are 2 0 (omega arith))
-three-ranges made each (Some (a ∷ b ∷ c ∷ d ∷ ns)) all = tt
-
-form3-ranges : (made : ℕ → ℕ → ℕ → Call) → ((a b c : ℕ) → IsWord a → IsWord b → IsWord c → HasRanges (made a b c)) → (args : List (List ℕ)) → HasRanges (form3 made args)
-form3-ranges made each args = three-ranges made each (numbers_of args) (numbers_of-words args)
-
-four-ranges : (made : ℕ → ℕ → ℕ → ℕ → Call) → ((a b c d : ℕ) → IsWord a → IsWord b → IsWord c → IsWord d → HasRanges (made a b c d)) → (o : Option (List ℕ)) → ForSome o (All IsWord)
-    → HasRanges (option_map_or (λ (a, b, c, d). made a b c d) (four o) call.Bad)
-four-ranges made each None all = tt
-four-ranges made each (Some []) all = tt
-four-ranges made each (Some (a ∷ [])) all = tt
-four-ranges made each (Some (a ∷ b ∷ [])) all = tt
-four-ranges made each (Some (a ∷ b ∷ c ∷ [])) all = tt
-four-ranges made each (Some (a ∷ b ∷ c ∷ d ∷ [])) all =
-    let are = all (a ∷ b ∷ c ∷ d ∷ []) refl in each a b c d (are 0 0 (omega arith)) (are 1 0 (omega arith)) (are 2 0 (omega arith)) (are 3 0 (omega arith))
-four-ranges made each (Some (a ∷ b ∷ c ∷ d ∷ e ∷ ns)) all = tt
-
-form4-ranges : (made : ℕ → ℕ → ℕ → ℕ → Call) → ((a b c d : ℕ) → IsWord a → IsWord b → IsWord c → IsWord d → HasRanges (made a b c d)) → (args : List (List ℕ)) → HasRanges (form4 made args)
-form4-ranges made each args = four-ranges made each (numbers_of args) (numbers_of-words args)
+form-ranges : (n : ℕ) (made : (ℕ → ℕ) → Call) → ((f : ℕ → ℕ) → ((k : ℕ) → IsWord (f k)) → HasRanges (made f)) → (args : List (List ℕ)) → HasRanges (form n made args)
+form-ranges n made each args = exactly-ranges n made each (numbers_of args) (numbers_of-words args)
 
 -- `pwadd`
 pwadd_of-ranges : (b rights : Option ℕ) (until : Option (Option ℕ)) → ForSome b IsWord → ForSome rights IsRights → ((u : Option ℕ) → until ≡ Some u → ForSome u IsWord) → HasRanges (pwadd_of b rights until)
@@ -147,7 +112,32 @@ abbrev ◌also◌ : {X Y : Type 0} → X → Y → X × Y
 x also y = (x, y)
 
 table-ranged : AreRanged call_table
-table-ranged = grind (arith, form1-ranges, form2-ranges, form3-ranges, form_pwadd-ranges, form0-ranges, pdx_of-ranges, form4-ranges)
+table-ranged =
+    form-ranges 1 (λ n. call.Load (n 0)) (λ f are. are 0)
+    also form-ranges 2 (λ n. call.Store (n 0) (n 1)) (λ f are. (are 0, are 1))
+    also form-ranges 3 (λ n. call.Create (n 0) (n 1) (n 2)) (λ f are. (are 0, are 1, are 2))
+    also form-ranges 1 (λ n. call.Delete (n 0)) (λ f are. are 0)
+    also form-ranges 1 (λ n. call.Info (n 0)) (λ f are. are 0)
+    also form_pwadd-ranges
+    also form-ranges 2 (λ n. call.Pwdel (n 0) (n 1)) (λ f are. (are 0, are 1))
+    also form-ranges 2 (λ n. call.Entry (n 0) (n 1)) (λ f are. (are 0, are 1))
+    also form-ranges 3 (λ n. call.Ext (n 0) (n 1) (n 2)) (λ f are. (are 0, are 1, are 2))
+    also form-ranges 3 (λ n. call.Recharge (n 0) (n 1) (n 2)) (λ f are. (are 0, are 1, are 2))
+    also form-ranges 2 (λ n. call.Apdadd (n 0) (n 1)) (λ f are. (are 0, are 1))
+    also form-ranges 1 (λ n. call.Apddel (n 0)) (λ f are. are 0)
+    also form-ranges 0 (λ _. call.Apdlist) (λ f are. tt)
+    also form-ranges 2 (λ n. pdx_of (n 0) (n 1)) (λ f are. pdx_of-ranges (f 0) (f 1) (are 0) (are 1))
+    also form-ranges 0 (λ _. call.Ret) (λ f are. tt)
+    also form-ranges 1 (λ n. call.Thread (n 0)) (λ f are. are 0)
+    also form-ranges 1 (λ n. call.End (n 0)) (λ f are. are 0)
+    also form-ranges 1 (λ n. call.Resume (n 0)) (λ f are. are 0)
+    also form-ranges 0 (λ _. call.Turn) (λ f are. tt)
+    also form-ranges 0 (λ _. call.Next) (λ f are. tt)
+    also form-ranges 3 (λ n. call.Account (n 0) (n 1) (n 2)) (λ f are. (are 0, are 1, are 2))
+    also form-ranges 4 (λ n. call.Pay (n 0) (n 1) (n 2) (n 3)) (λ f are. (are 0, are 1, are 2, are 3))
+    also form-ranges 2 (λ n. call.Balance (n 0) (n 1)) (λ f are. (are 0, are 1))
+    also form-ranges 0 (λ _. call.Rent) (λ f are. tt)
+    also tt
 
 call_by-ranges : (rows : List Row) → AreRanged rows → (word : List ℕ) (args : List (List ℕ)) → ForSome (call_by rows word args) HasRanges
 call_by-ranges [] ranged word args = λ made none. absurd (cc)

@@ -1,9 +1,9 @@
 -- Which access is allowed: a search of the present state, made anew each time.
 --
 -- Everything here is a function of the objects, the period and the slots of the thread's present frame alone.
-use Rattle.std.specs.Prelude.{ℕ, zero, suc, ◌+◌, ◌-◌, ◌*◌, ◌==◌, ◌&&◌, nat_le, nat_lt, min, Bool, false, List, [], ◌∷◌, slice_index, if◌then◌else◌, find, flat_map, length, slice_get, Option}
+use Rattle.std.specs.Prelude.{ℕ, ◌+◌, ◌-◌, ◌*◌, ◌==◌, ◌&&◌, nat_le, nat_lt, min, Bool, false, List, [], slice_index, if◌then◌else◌, find, flat_map, length, map, slice_get, Option}
 use Rattle.std.specs.Option.{option_map_or}
-use Rattle.std.specs.List.{list_any}
+use Rattle.std.specs.List.{list_any, range_with_len}
 use Rattle.mg_model.specs.declared.slots.Pw.{Pw}
 use Rattle.mg_model.specs.declared.slots.Slot.{Slot}
 use Rattle.mg_model.specs.declared.rights.Right.{Right}
@@ -34,8 +34,7 @@ holds period row password right = list_any (λ (pw : Pw). gives period pw passwo
 
 -- n entries of a capability list, from place j on: pairs of a base and a password
 abbrev pub entries_from : List ℕ → ℕ → ℕ → List (ℕ × ℕ)
-entries_from words j zero = []
-entries_from words j (suc n) = (slice_index words (2 + 2 * j), slice_index words (3 + 2 * j)) ∷ entries_from words (j + 1) n
+entries_from words j n = map (λ k. (slice_index words (2 + 2 * k), slice_index words (3 + 2 * k))) (range_with_len j n)
 
 -- the entries of a capability list: as many as its first word says, within the limit
 abbrev pub entries_of : List ℕ → List (ℕ × ℕ)

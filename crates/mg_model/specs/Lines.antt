@@ -1,5 +1,5 @@
 -- From bytes to calls.
-use Rattle.std.specs.Prelude.{ℕ, ◌==◌, nat_le, nat_lt, Bool, false, List, [], ◌∷◌, length, if◌then◌else◌, Option, Some, None, codes, option_map}
+use Rattle.std.specs.Prelude.{ℕ, ◌==◌, nat_le, nat_lt, Bool, false, List, [], ◌∷◌, length, if◌then◌else◌, slice_index, Option, Some, None, codes, option_map}
 use Rattle.std.specs.Option.{option_map_or}
 use Rattle.std.specs.List.{filter_map, list_any}
 use Rattle.mg_model.specs.declared.calls.Call.{Call}
@@ -7,39 +7,14 @@ use Rattle.mg_model.specs.declared.calls.Call.TheVariants as call
 use Rattle.mg_model.specs.declared.calls.Line.{Line}
 use Rattle.mg_model.specs.Words.{is_newline, number_of, numbers_of, rights_of, same_bytes, split_at, words}
 
--- exactly n numbers, if these are numbers
-abbrev pub one : Option (List ℕ) → Option ℕ
-one (Some (a ∷ [])) = Some a
-one _ = None
+-- these numbers, if there are n of them
+abbrev pub exactly : ℕ → Option (List ℕ) → Option (List ℕ)
+exactly n None = None
+exactly n (Some numbers) = if length numbers == n then Some numbers else None
 
-abbrev pub two : Option (List ℕ) → Option (ℕ × ℕ)
-two (Some (a ∷ b ∷ [])) = Some (a, b)
-two _ = None
-
-abbrev pub three : Option (List ℕ) → Option (ℕ × ℕ × ℕ)
-three (Some (a ∷ b ∷ c ∷ [])) = Some (a, b, c)
-three _ = None
-
-abbrev pub four : Option (List ℕ) → Option (ℕ × ℕ × ℕ × ℕ)
-four (Some (a ∷ b ∷ c ∷ d ∷ [])) = Some (a, b, c, d)
-four _ = None
-
--- a call of n numbers; Bad if there are more or fewer, or if a word spells no number
-abbrev pub form0 : Call → List (List ℕ) → Call
-form0 made [] = made
-form0 made _ = call.Bad
-
-abbrev pub form1 : (ℕ → Call) → List (List ℕ) → Call
-form1 made args = option_map_or made (one (numbers_of args)) call.Bad
-
-abbrev pub form2 : (ℕ → ℕ → Call) → List (List ℕ) → Call
-form2 made args = option_map_or (λ (a, b). made a b) (two (numbers_of args)) call.Bad
-
-abbrev pub form3 : (ℕ → ℕ → ℕ → Call) → List (List ℕ) → Call
-form3 made args = option_map_or (λ (a, b, c). made a b c) (three (numbers_of args)) call.Bad
-
-abbrev pub form4 : (ℕ → ℕ → ℕ → ℕ → Call) → List (List ℕ) → Call
-form4 made args = option_map_or (λ (a, b, c, d). made a b c d) (four (numbers_of args)) call.Bad
+-- a call with n words after it, each of which spells a number; else Bad
+abbrev pub form : ℕ → ((ℕ → ℕ) → Call) → List (List ℕ) → Call
+form n made args = option_map_or (λ numbers. made (λ k. slice_index numbers k)) (exactly n (numbers_of args)) call.Bad
 
 -- `pwadd B RIGHTS` and `pwadd B RIGHTS UNTIL`
 abbrev pub pwadd_of : Option ℕ → Option ℕ → Option (Option ℕ) → Call
@@ -58,30 +33,30 @@ Row = List ℕ × (List (List ℕ) → Call)
 -- the calls; the mask of `pdx` is a number of 8 bits
 abbrev pub call_table : List Row
 call_table =
-    (codes "load", form1 (λ a. call.Load a))
-    ∷ (codes "store", form2 (λ a value. call.Store a value))
-    ∷ (codes "create", form3 (λ n account password. call.Create n account password))
-    ∷ (codes "delete", form1 (λ b. call.Delete b))
-    ∷ (codes "info", form1 (λ b. call.Info b))
+    (codes "load", form 1 (λ n. call.Load (n 0)))
+    ∷ (codes "store", form 2 (λ n. call.Store (n 0) (n 1)))
+    ∷ (codes "create", form 3 (λ n. call.Create (n 0) (n 1) (n 2)))
+    ∷ (codes "delete", form 1 (λ n. call.Delete (n 0)))
+    ∷ (codes "info", form 1 (λ n. call.Info (n 0)))
     ∷ (codes "pwadd", form_pwadd)
-    ∷ (codes "pwdel", form2 (λ b password. call.Pwdel b password))
-    ∷ (codes "entry", form2 (λ b off. call.Entry b off))
-    ∷ (codes "ext", form3 (λ b clist password. call.Ext b clist password))
-    ∷ (codes "recharge", form3 (λ b account password. call.Recharge b account password))
-    ∷ (codes "apdadd", form2 (λ clist password. call.Apdadd clist password))
-    ∷ (codes "apddel", form1 (λ index. call.Apddel index))
-    ∷ (codes "apdlist", form0 call.Apdlist)
-    ∷ (codes "pdx", form2 (λ a mask. if nat_le mask 255 then call.Pdx a mask else call.Bad))
-    ∷ (codes "ret", form0 call.Ret)
-    ∷ (codes "thread", form1 (λ pc. call.Thread pc))
-    ∷ (codes "end", form1 (λ i. call.End i))
-    ∷ (codes "resume", form1 (λ i. call.Resume i))
-    ∷ (codes "turn", form0 call.Turn)
-    ∷ (codes "next", form0 call.Next)
-    ∷ (codes "account", form3 (λ account password amount. call.Account account password amount))
-    ∷ (codes "pay", form4 (λ account password to amount. call.Pay account password to amount))
-    ∷ (codes "balance", form2 (λ account password. call.Balance account password))
-    ∷ (codes "rent", form0 call.Rent)
+    ∷ (codes "pwdel", form 2 (λ n. call.Pwdel (n 0) (n 1)))
+    ∷ (codes "entry", form 2 (λ n. call.Entry (n 0) (n 1)))
+    ∷ (codes "ext", form 3 (λ n. call.Ext (n 0) (n 1) (n 2)))
+    ∷ (codes "recharge", form 3 (λ n. call.Recharge (n 0) (n 1) (n 2)))
+    ∷ (codes "apdadd", form 2 (λ n. call.Apdadd (n 0) (n 1)))
+    ∷ (codes "apddel", form 1 (λ n. call.Apddel (n 0)))
+    ∷ (codes "apdlist", form 0 (λ _. call.Apdlist))
+    ∷ (codes "pdx", form 2 (λ n. if nat_le (n 1) 255 then call.Pdx (n 0) (n 1) else call.Bad))
+    ∷ (codes "ret", form 0 (λ _. call.Ret))
+    ∷ (codes "thread", form 1 (λ n. call.Thread (n 0)))
+    ∷ (codes "end", form 1 (λ n. call.End (n 0)))
+    ∷ (codes "resume", form 1 (λ n. call.Resume (n 0)))
+    ∷ (codes "turn", form 0 (λ _. call.Turn))
+    ∷ (codes "next", form 0 (λ _. call.Next))
+    ∷ (codes "account", form 3 (λ n. call.Account (n 0) (n 1) (n 2)))
+    ∷ (codes "pay", form 4 (λ n. call.Pay (n 0) (n 1) (n 2) (n 3)))
+    ∷ (codes "balance", form 2 (λ n. call.Balance (n 0) (n 1)))
+    ∷ (codes "rent", form 0 (λ _. call.Rent))
     ∷ []
 
 -- the call words that begin a line; before each other call word is the number of a thread

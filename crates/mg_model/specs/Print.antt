@@ -1,17 +1,16 @@
 -- Replies as text.
-use Rattle.std.specs.Prelude.{ℕ, zero, suc, ◌+◌, ◌-◌, ◌/◌, ◌%◌, nat_lt, List, [], ◌∷◌, ◌++◌, if◌then◌else◌, codes, count_by, map, slice_index_or, take}
+use Rattle.std.specs.Prelude.{ℕ, zero, suc, ◌+◌, ◌/◌, ◌%◌, nat_lt, List, [], ◌∷◌, ◌++◌, if◌then◌else◌, codes, count_by, map, take}
 use Rattle.std.specs.Fmt.{decimal}
 use Rattle.mg_model.specs.declared.calls.Line.{Line}
 use Rattle.mg_model.specs.declared.replies.After.{After}
 use Rattle.mg_model.specs.declared.replies.After.TheVariants as after
-use Rattle.mg_model.specs.declared.replies.Refusal.{Refusal}
 use Rattle.mg_model.specs.declared.replies.Reply.{Reply}
 use Rattle.mg_model.specs.declared.replies.Reply.TheVariants as reply
 use Rattle.mg_model.specs.declared.threads.Fault.{Fault}
 use Rattle.mg_model.specs.declared.threads.Fault.TheVariants as fault
 use Rattle.mg_model.specs.State.{State}
 use Rattle.mg_model.specs.Step.{step}
-use Rattle.mg_model.specs.Turn.{refusal_number}
+use Rattle.mg_model.specs.Refused.{refusal_text}
 use Rattle.mg_model.specs.Words.{is_newline}
 
 -- a hexadecimal digit in lower case
@@ -26,17 +25,6 @@ hex_digits (suc n) w = hex_digits n (w / 16) ++ hex_digit (w % 16) ∷ []
 -- an address, a password or a word: 0x and 16 digits
 unfoldable pub hex_text : ℕ → List ℕ
 hex_text w = codes "0x" ++ hex_digits 16 w
-
--- the words of the refusals, in the order of their numbers, the first of which is 1
-abbrev pub refusal_words : List (List ℕ)
-refusal_words =
-    codes "Syntax" ∷ codes "NoThread" ∷ codes "Align" ∷ codes "Denied" ∷ codes "Size" ∷ codes "Account" ∷ codes "Debt"
-    ∷ codes "Limit" ∷ codes "Full" ∷ codes "NoPassword" ∷ codes "Range" ∷ codes "SlotFull" ∷ codes "NoSlot"
-    ∷ codes "NoEntry" ∷ codes "Depth" ∷ codes "NoFrame" ∷ codes "NotYours" ∷ codes "NotReady" ∷ codes "Idle"
-    ∷ codes "Credit" ∷ codes "Calendar" ∷ codes "Past" ∷ []
-
-abbrev pub refusal_text : Refusal → List ℕ
-refusal_text word = slice_index_or refusal_words (refusal_number word - 1) []
 
 abbrev pub fault_text : Fault → List ℕ
 fault_text fault.Align = codes "Align"

@@ -1,6 +1,6 @@
 -- What an image's journal says: the open segments' bodies, written over the blocks that their indexes name.
-use Rattle.std.specs.Prelude.{ℕ, zero, suc, ◌+◌, ◌*◌, ◌==◌, ◌&&◌, nat_le, nat_lt, Bool, true, List, [], ◌∷◌, ◌++◌, if◌then◌else◌, slice_index, slice_index_or, slice_set, Option, Some, None}
-use Rattle.std.specs.List.{list_all}
+use Rattle.std.specs.Prelude.{ℕ, ◌+◌, ◌*◌, ◌==◌, ◌&&◌, nat_le, nat_lt, Bool, true, List, [], ◌∷◌, flat_map, if◌then◌else◌, map, slice_index, slice_index_or, slice_set, Option, Some, None}
+use Rattle.std.specs.List.{list_all, range_with_len}
 use Rattle.mg_model.specs.Bytes.{number_at}
 use Rattle.mg_model.specs.declared.layout.TheConstants.{BODY_LIMIT as body_limit, GLOBALS_BLOCK as globals_block, SEGMENT_COUNT as segment_count}
 use Rattle.mg_model.specs.Layout.{gate_open, segment_body, segment_gate, segment_index}
@@ -21,8 +21,7 @@ home_of image s j = number_at (block_of image (segment_index s)) (8 + 8 * j)
 
 -- the writes of n bodies of segment s, from body j on: pairs of a block's number and what is written there
 abbrev pub writes_from : List (List ℕ) → ℕ → ℕ → ℕ → List (ℕ × List ℕ)
-writes_from image s j zero = []
-writes_from image s j (suc n) = (home_of image s j, block_of image (segment_body s j)) ∷ writes_from image s (j + 1) n
+writes_from image s j n = map (λ k. (home_of image s k, block_of image (segment_body s k))) (range_with_len j n)
 
 -- what a segment writes; a closed segment writes nothing
 abbrev pub writes_of : List (List ℕ) → ℕ → List (ℕ × List ℕ)
@@ -38,12 +37,11 @@ segment_fits total image s = if is_open image s then nat_le (body_count image s)
 
 -- n segments from segment s on
 abbrev pub segments_fit : ℕ → List (List ℕ) → ℕ → ℕ → Bool
-segments_fit total image s zero = true
-segments_fit total image s (suc n) = segment_fits total image s && segments_fit total image (s + 1) n
+segments_fit total image s n = list_all (λ k. segment_fits total image k) (range_with_len s n)
 
+-- what they write
 abbrev pub writes_since : List (List ℕ) → ℕ → ℕ → List (ℕ × List ℕ)
-writes_since image s zero = []
-writes_since image s (suc n) = writes_of image s ++ writes_since image (s + 1) n
+writes_since image s n = flat_map (λ k. writes_of image k) (range_with_len s n)
 
 -- the image after these writes, in order
 abbrev pub written : List (List ℕ) → List (ℕ × List ℕ) → List (List ℕ)

@@ -2,6 +2,7 @@
 -- them back. That bytes spell a row exactly when a row in its ranges has them is a law (`rows_are_spelled_in_one_way` in
 -- `mg_rows`). So the ways to write a row are the whole meaning; the ways to read it are there to be computed.
 use Rattle.std.specs.Prelude.{ℕ, zero, suc, ◌+◌, ◌-◌, ◌*◌, ◌==◌, ◌&&◌, nat_lt, Bool, true, not, min, List, [], ◌∷◌, ◌++◌, flat_map, if◌then◌else◌, is_some, length, map, replicate, slice_index, Option, Some, None}
+use Rattle.std.specs.List.{range_with_len}
 use Rattle.std.specs.Option.{option_map_or}
 use Rattle.mg_model.specs.declared.accounts.AccRow.{AccRow}
 use Rattle.mg_model.specs.declared.slots.Pw.{Pw}
@@ -64,10 +65,10 @@ object_bytes row =
 
 -- n password rows, from place k on
 abbrev pub passwords_at : List ℕ → ℕ → ℕ → List Pw
-passwords_at bytes k zero = []
-passwords_at bytes k (suc n) =
-    record { password = number_at bytes (80 + 8 * k); rights = slice_index bytes (336 + k); until = number_at bytes (496 + 8 * k) }
-    ∷ passwords_at bytes (k + 1) n
+passwords_at bytes k n =
+    map
+    (λ j. record { password = number_at bytes (80 + 8 * j); rights = slice_index bytes (336 + j); until = number_at bytes (496 + 8 * j) })
+    (range_with_len k n)
 
 -- The fields that these bytes have. If a count is above its limit, one row more than the limit is read: `is_object_row`
 -- refuses that.

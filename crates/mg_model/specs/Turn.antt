@@ -7,7 +7,6 @@ use Rattle.mg_model.specs.declared.instructions.Instr.{Instr}
 use Rattle.mg_model.specs.declared.instructions.Instr.TheVariants as op
 use Rattle.mg_model.specs.declared.replies.After.{After}
 use Rattle.mg_model.specs.declared.replies.After.TheVariants as after
-use Rattle.mg_model.specs.declared.replies.Refusal.{Refusal}
 use Rattle.mg_model.specs.declared.replies.Refusal.TheVariants as refusal
 use Rattle.mg_model.specs.declared.replies.Reply.{Reply}
 use Rattle.mg_model.specs.declared.replies.Reply.TheVariants as reply
@@ -22,7 +21,7 @@ use Rattle.mg_model.specs.Domains.{apdadd, apddel, apdlist, pdx, ret, row_of, wi
 use Rattle.mg_model.specs.declared.limits.TheConstants.{ALL_RIGHTS as all_rights}
 use Rattle.mg_model.specs.ObjectCalls.{create, delete, entry, ext, info, is_aligned, load, pwadd, pwdel, recharge, store}
 use Rattle.mg_model.specs.Objects.{with_word, word_at}
-use Rattle.mg_model.specs.Refused.{Answer, row}
+use Rattle.mg_model.specs.Refused.{Answer, refusal_number, row}
 use Rattle.mg_model.specs.Script.{decoded, jumped, operand, register, with_register, word_end}
 use Rattle.mg_model.specs.State.{State, Thread, ThreadRow}
 use Rattle.mg_model.specs.Threads.{end_thread, make_thread, resume}
@@ -53,31 +52,6 @@ thread_call state t (call.Account account password amount) = open_account state 
 thread_call state t (call.Pay account password to amount) = pay state account password to amount
 thread_call state t (call.Balance account password) = balance state account password
 thread_call state t other = (state, reply.No refusal.Syntax)
-
--- the number of a refusal, as a script sees it
-abbrev pub refusal_number : Refusal → ℕ
-refusal_number refusal.Syntax = 1
-refusal_number refusal.NoThread = 2
-refusal_number refusal.Align = 3
-refusal_number refusal.Denied = 4
-refusal_number refusal.Size = 5
-refusal_number refusal.Account = 6
-refusal_number refusal.Debt = 7
-refusal_number refusal.Limit = 8
-refusal_number refusal.Full = 9
-refusal_number refusal.NoPassword = 10
-refusal_number refusal.Range = 11
-refusal_number refusal.SlotFull = 12
-refusal_number refusal.NoSlot = 13
-refusal_number refusal.NoEntry = 14
-refusal_number refusal.Depth = 15
-refusal_number refusal.NoFrame = 16
-refusal_number refusal.NotYours = 17
-refusal_number refusal.NotReady = 18
-refusal_number refusal.Idle = 19
-refusal_number refusal.Credit = 20
-refusal_number refusal.Calendar = 21
-refusal_number refusal.Past = 22
 
 -- the rights of a `pwadd` by a script are given as their bits
 abbrev pub spelled_pwadd : ℕ → ℕ → Option ℕ → Call

@@ -1,7 +1,7 @@
 -- What an image spells: no volume, an older one, a damaged one, or a state of the machine.
-use Rattle.std.specs.Prelude.{◌≡◌, ◌≤◌, ℕ, zero, suc, ◌+◌, ◌*◌, ◌/◌, ◌%◌, ◌==◌, ◌&&◌, nat_le, nat_lt, Bool, true, false, not, List, [], ◌∷◌, ◌++◌, drop, filter, if◌then◌else◌, length, map, position, replicate, slice_index, sum_by, take, Option, Some, None}
+use Rattle.std.specs.Prelude.{◌≡◌, ◌≤◌, ℕ, zero, suc, ◌+◌, ◌*◌, ◌/◌, ◌%◌, ◌==◌, ◌&&◌, nat_le, nat_lt, Bool, true, false, not, List, [], ◌∷◌, drop, filter, flat_map, if◌then◌else◌, length, map, position, replicate, slice_index, sum_by, take, Option, Some, None}
 use Rattle.std.specs.Option.{option_map_or}
-use Rattle.std.specs.List.{list_all, list_any}
+use Rattle.std.specs.List.{list_all, list_any, range_with_len}
 use Rattle.mg_model.specs.declared.accounts.AccRow.{AccRow}
 use Rattle.mg_model.specs.Bank.{used}
 use Rattle.mg_model.specs.Bytes.{are_zeros, block_words, bytes_at}
@@ -37,10 +37,9 @@ abbrev pub live_rows : {R : Type 0} → (ℕ → Read R) → ℕ → ℕ → Opt
 live_rows read i zero = Some []
 live_rows read i (suc n) = and_then (read i) (λ row. and_then (live_rows read (i + 1) n) (λ rows. Some (with_live i row rows)))
 
--- the entries of the frame table: the page that each frame holds, or 0
+-- the entries of n blocks of the frame table: the page that each frame holds, or 0
 abbrev pub table_entries : List (List ℕ) → ℕ → ℕ → List ℕ
-table_entries image block zero = []
-table_entries image block (suc n) = block_words (block_of image block) ++ table_entries image (block + 1) n
+table_entries image block n = flat_map (λ k. block_words (block_of image k)) (range_with_len block n)
 
 abbrev pub whole_table : List (List ℕ) → ℕ → List ℕ
 whole_table image frames = table_entries image table_block (table_blocks frames)
@@ -71,9 +70,9 @@ page_words image frames table page =
     option_map_or (λ frame. block_words (block_of image (first_frame frames + frame)))
     (position (λ entry. entry == page) table) (replicate 512 0)
 
+-- the words of n pages
 abbrev pub pages_words : List (List ℕ) → ℕ → List ℕ → ℕ → ℕ → List ℕ
-pages_words image frames table page zero = []
-pages_words image frames table page (suc n) = page_words image frames table page ++ pages_words image frames table (page + 1) n
+pages_words image frames table page n = flat_map (λ k. page_words image frames table k) (range_with_len page n)
 
 abbrev pub object_spelled : List (List ℕ) → ℕ → List ℕ → ObjectRow → Object
 object_spelled image frames table row = record { row = row; words = pages_words image frames table (page_of row) row.pages }

@@ -1,6 +1,6 @@
 // What the machine answers.
 ghost use Rattle.std.specs.Prelude.{◌≡◌, ◌<◌};
-ghost use Rattle.mg_model.specs.Turn.{refusal_number};
+ghost use Rattle.mg_model.specs.Refused.{refusal_number};
 
 use crate::threads::Fault;
 

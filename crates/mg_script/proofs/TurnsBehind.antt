@@ -26,10 +26,10 @@ use Rattle.mg_model.specs.Domains.{frames_of, last_back, pdx, ret, row_of, with_
 use Rattle.mg_model.specs.ObjectCalls.{is_aligned}
 use Rattle.mg_model.specs.Objects.{with_word, word_at}
 use Rattle.mg_model.specs.Ranges.{IsThreadRow}
-use Rattle.mg_model.specs.Refused.{Answer, row, unless_refused}
+use Rattle.mg_model.specs.Refused.{Answer, refusal_number, row, unless_refused}
 use Rattle.mg_model.specs.Script.{decoded, with_register}
 use Rattle.mg_model.specs.State.{State, Thread, ThreadRow}
-use Rattle.mg_model.specs.Turn.{faulted, put_row, refusal_number, run, run_word, seen, spelled, thread_call, turned, values_of, with_registers}
+use Rattle.mg_model.specs.Turn.{faulted, put_row, run, run_word, seen, spelled, thread_call, turned, values_of, with_registers}
 use Rattle.mg_model.specs.WellFormed.{IsThread, IsWellFormed}
 use Rattle.mg_script.specs.declared.effects.Effect.{Effect}
 use Rattle.mg_script.specs.declared.effects.Effect.TheVariants as effect

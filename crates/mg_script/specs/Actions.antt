@@ -13,7 +13,8 @@ use Rattle.mg_model.specs.Domains.{pdx, ret}
 use Rattle.mg_model.specs.Objects.{with_word, word_at}
 use Rattle.mg_model.specs.Script.{operand, register, with_register}
 use Rattle.mg_model.specs.State.{State, ThreadRow}
-use Rattle.mg_model.specs.Turn.{put_row, refusal_number, seen, spelled, thread_call, unless_faulted, values_of, with_registers}
+use Rattle.mg_model.specs.Turn.{put_row, seen, spelled, thread_call, unless_faulted, values_of, with_registers}
+use Rattle.mg_model.specs.Refused.{refusal_number}
 use Rattle.mg_script.specs.declared.actions.Action.{Action}
 use Rattle.mg_script.specs.declared.actions.Action.TheVariants as action
 

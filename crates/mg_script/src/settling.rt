@@ -1,7 +1,8 @@
 // What a script sees of a reply.
 ghost use Rattle.std.specs.Prelude.{◌≡◌, ◌∷◌, [], ◌+◌, ◌≤◌, length};
 ghost use Rattle.mg_model.specs.Script.{with_register};
-ghost use Rattle.mg_model.specs.Turn.{refusal_number, with_registers};
+ghost use Rattle.mg_model.specs.Turn.{with_registers};
+ghost use Rattle.mg_model.specs.Refused.{refusal_number};
 ghost use Rattle.mg_script.specs.Actions.{settled};
 
 use mg_model::{Refusal, Reply, ThrRow};

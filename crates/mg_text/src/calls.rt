@@ -1,7 +1,7 @@
 // From a call word and its arguments to a call.
 ghost use Rattle.std.specs.Prelude.{◌≡◌, drop};
 ghost use Rattle.mg_model.specs.Abbreviations.{pdx_of};
-ghost use Rattle.mg_model.specs.Lines.{call_by, call_table, form0, form_pwadd, pwadd_of};
+ghost use Rattle.mg_model.specs.Lines.{call_by, call_table, form, form_pwadd, pwadd_of};
 ghost use Rattle.mg_model.specs.Words.{words};
 
 use crate::args::{four, one, three, two};
@@ -141,7 +141,7 @@ fn bank_call(word: &[u8], args: &[u8]) -> Option<Call>
 
 /// A call without arguments.
 fn alone(call: Call, args: &[u8]) -> Call
-    ensures { result ≡ form0 call (words args.now) }
+    ensures { result ≡ form 0 (λ _. call) (words args.now) }
 {
     match next_word(args) {
         None => call,

@@ -3,7 +3,8 @@ ghost use Rattle.std.specs.Prelude.{◌≡◌, ◌+◌, ◌/◌, ◌%◌, ◌≤
 ghost use Rattle.std.specs.Fmt.{decimal};
 ghost use Rattle.arrayvec.specs.ArrayVec.{array_vec_len};
 ghost use Rattle.mg_model.specs.declared.replies.Reply.TheVariants as reply;
-ghost use Rattle.mg_model.specs.Print.{after_text, hex_digit, hex_digits, hex_text, refusal_text, reply_line, reply_text, spaced};
+ghost use Rattle.mg_model.specs.Print.{after_text, hex_digit, hex_digits, hex_text, reply_line, reply_text, spaced};
+ghost use Rattle.mg_model.specs.Refused.{refusal_text};
 ghost use Rattle.mg_model.specs.FewSlots.{HasFewSlots};
 
 use arrayvec::ArrayVec;
