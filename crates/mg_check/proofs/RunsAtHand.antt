@@ -1,13 +1,17 @@
 -- A block of the contents among those that were read together.
 use Rattle.std.specs.Prelude.{Result, Err, IsErrAnd}
 use Rattle.std.proofs.lemmas.Result.{err_from_is_err_and}
-use Rattle.std.specs.Prelude.{◌≡◌, ◌+◌, ◌-◌, ◌≤◌, ◌<◌, ℕ, List}
-use Rattle.std.proofs.Common.{arith}
-use Rattle.mg_disk.specs.Disk.{Image, block_at}
+use Rattle.std.specs.Prelude.{◌≡◌, ◌+◌, ◌-◌, ℕ, List}
+use Rattle.std.proofs.Common.{ap, sym, ◌∙◌, arith}
+use Rattle.mg_disk.specs.Disk.{Image, InRange, block_at}
 use Rattle.mg_check.specs.Reads.{IsRun}
 
-pub here : (first count : ℕ) (blocks r : Image) (i : ℕ) (block : List ℕ) → IsRun first count blocks r → first ≤ i → i < first + count → block ≡ block_at blocks (i - first) → block ≡ block_at r i
-here first count blocks r i block run low high is = grind (arith)
+pub here : (first count : ℕ) (blocks r : Image) (i : ℕ) (block : List ℕ) → IsRun first count blocks r → InRange first count i → block ≡ block_at blocks (i - first) → block ≡ block_at r i
+here first count blocks r i block run among is =
+    let low = among.from in
+    let high = among.before in
+    let at : first + (i - first) ≡ i = omega arith in
+    is ∙ sym (run (i - first) (omega arith)) ∙ ap (block_at r) at
 
 pub none_yet : (first count : ℕ) (blocks r : Image) → count ≡ 0 → IsRun first count blocks r
 none_yet first count blocks r none k low = absurd (omega arith)

@@ -1,14 +1,22 @@
 -- Lemmas on how runs of reads join.
-use Rattle.std.specs.Prelude.{◌≡◌, ℕ, length, Option, Some}
+use Rattle.std.specs.Prelude.{◌≡◌, ℕ, length, OnErr, Option, Result, Err, Some}
 use Rattle.std.specs.Option.{ForSome}
-use Rattle.std.proofs.Common.{refl, sym, ap, ◌∙◌, arith}
+use Rattle.std.proofs.Common.{refl, sym, ap, subst, ◌∙◌, arith}
 use Rattle.mg_disk.specs.Disk.{Image}
 use Rattle.mg_disk.specs.declared.disk.Disk.{Ghosts}
 use Rattle.mg_disk.specs.PlaceLemmas.{HasFirst}
 use Rattle.mg_disk.specs.Runs.{nothing_none, nothing_then}
-use Rattle.mg_faults.specs.Faults.{count_none, count_then}
+use Rattle.mg_disk.specs.Stops.{CountRose, OnlyRead, OnlyReads, OnlyReadsBy}
+use Rattle.mg_faults.specs.Faults.{count_none, count_then, then_rose}
 use Rattle.mg_model.specs.Words.{and_then}
-use Rattle.mg_check.specs.Reads.{CanRead, OnlyRead, contents}
+use Rattle.mg_check.specs.Reads.{CanRead, contents}
+
+-- what was read, without the answer
+pub only_of : {D T E : Type 0} {facts : Ghosts D} {old new : D} {result : Result T E} → OnlyReads facts old new result → OnlyRead facts old new
+only_of reads = record { writes = reads.writes; count = reads.calls.count; blocks = reads.calls.blocks }
+
+pub only_by : {D : Type 0} {facts : Ghosts D} {old new : D} {failed : Type 0} → OnlyReadsBy facts old new failed → OnlyRead facts old new
+only_by reads = record { writes = reads.writes; count = reads.calls.count; blocks = reads.calls.blocks }
 
 module _ {D : Type 0} (facts : Ghosts D) where
   pub only_none : (disk : D) → facts.has_been disk (facts.moment disk) → OnlyRead facts disk disk
@@ -20,6 +28,23 @@ module _ {D : Type 0} (facts : Ghosts D) where
     count = count_then (facts.faults old) (facts.faults mid) (facts.faults new) (facts.is_spent old) (facts.is_spent mid) (facts.is_spent new) a.count b.count;
     blocks = b.blocks ∙ a.blocks;
   }
+
+  pub caused : (old new : D) (failed : Type 0) → OnlyRead facts old new → (failed → CountRose facts old new) → OnlyReadsBy facts old new failed
+  caused old new failed reads cause = record { writes = reads.writes; calls = record { count = reads.count; blocks = reads.blocks; cause = cause } }
+
+  -- reads and then others, whose failure is the same
+  pub by_then : (old mid new : D) (here failed : Type 0) → (failed → here) → OnlyRead facts old mid → OnlyReadsBy facts mid new here → OnlyReadsBy facts old new failed
+  by_then old mid new here failed is a b =
+      caused old new failed (only_then old mid new a (only_by b))
+      (λ f. then_rose (facts.faults old) (facts.faults mid) (facts.faults new) (facts.is_spent old) (facts.is_spent mid) (facts.is_spent new) a.count (b.calls.cause (is f)))
+
+  -- the last of some reads failed
+  pub failed_then : {T E : Type 0} (result : Result T E) (fault : E) (old mid new : D) (failed : Type 0) → result ≡ Err fault → OnlyRead facts old mid → OnlyReads facts mid new result → OnlyReadsBy facts old new failed
+  failed_then result fault old mid new failed is a b =
+      caused old new failed (only_then old mid new a (only_of b))
+      (λ f.
+      then_rose (facts.faults old) (facts.faults mid) (facts.faults new) (facts.is_spent old) (facts.is_spent mid) (facts.is_spent new) a.count
+      (subst (λ r. OnErr r (CountRose facts mid new)) is b.calls.cause))
 
   pub still_read : (need : ℕ) (Fits : Image → Type 0) (old new : D) → CanRead facts need Fits old → OnlyRead facts old new → CanRead facts need Fits new
   still_read need Fits old new can only = record {

@@ -3,7 +3,6 @@ use Rattle.std.specs.Prelude.{◌≡◌, ◌+◌, ◌<◌, ℕ, ◌≤◌, Optio
 use Rattle.std.specs.Option.{ForSome}
 use Rattle.mg_disk.specs.declared.disk.Disk.{Ghosts}
 use Rattle.mg_disk.specs.Disk.{Image, block_at}
-use Rattle.mg_disk.specs.Stops.{CountGoes, WritesNothing}
 use Rattle.mg_model.specs.Words.{and_then}
 
 -- the contents that what reads give has
@@ -14,12 +13,6 @@ contents facts of disk = and_then (facts.seen disk) of
 pub record CanRead {D : Type 0} (facts : Ghosts D) (need : ℕ) (Fits : Image → Type 0) (disk : D) : Type 0 where
   pub room : need ≤ facts.block_count disk
   pub fits : ForSome (facts.seen disk) Fits
-
--- from old to new nothing was written, and the count of faults did not fall
-pub record OnlyRead {D : Type 0} (facts : Ghosts D) (old new : D) : Type 0 where
-  pub writes : WritesNothing facts old new
-  pub count : CountGoes facts old new
-  pub blocks : facts.block_count new ≡ facts.block_count old
 
 -- this many blocks of the contents, from the first one on, are at hand
 abbrev pub IsRun : ℕ → ℕ → Image → Image → Type 0

@@ -1,10 +1,10 @@
 // Whether what reads give is a volume.
 ghost use Rattle.std.specs.Prelude.{◌≡◌, ◌≤◌, IfOk, length, sum_by};
 ghost use Rattle.std.specs.Option.{ForSome};
+ghost use Rattle.mg_disk.specs.Stops.{OnlyReadsBy};
 ghost use Rattle.mg_check.specs.RowsRead.{AreHeld};
 ghost use Rattle.mg_check.specs.Summaries.{Tells, TellsOf};
 ghost use Rattle.mg_check.specs.Tables.{count_in, pages_in};
-ghost use Rattle.mg_disk.specs.Stops.{DiskCallsBy, WritesNothing};
 ghost use Rattle.mg_model.specs.Layout.{total_blocks};
 ghost use Rattle.mg_model.specs.Limits.{object_limit};
 ghost use Rattle.mg_model.specs.Volume.{Damaged, NotVolume, OldVolume, volume};
@@ -70,8 +70,7 @@ pub fn examine<D: Disk>(alloc: Global, disk: &mut D) -> Result<Summary, OpenFaul
     ensures at_least_16_frames { IfOk result (λ summary. 16 ≤ summary.frames) }
     ensures at_most_65536_frames { IfOk result (λ summary. summary.frames ≤ 65536) }
     ensures within_disk { IfOk result (λ summary. total_blocks summary.frames ≤ D.block_count disk.old) }
-    ensures writes { WritesNothing D.Disk disk.old disk.new }
-    ensures calls { DiskCallsBy D.Disk disk.old disk.new (result ≡ Err OpenFault.Disk) }
+    ensures reads { OnlyReadsBy D.Disk disk.old disk.new (result ≡ Err OpenFault.Disk) }
 {
     match read_volume(alloc, disk) {
         Ok((_, rows)) => Ok(summary_of(&rows)),

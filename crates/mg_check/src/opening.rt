@@ -1,10 +1,9 @@
 // Reading the volume of a disk.
 ghost use Rattle.std.specs.Prelude.{◌≡◌, ◌≤◌, IfOk, IsSome, None, OnOk};
 ghost use Rattle.std.specs.Option.{ForSome};
-ghost use Rattle.mg_check.specs.Reads.{OnlyRead};
+ghost use Rattle.mg_disk.specs.Stops.{OnlyReadsBy};
 ghost use Rattle.mg_check.specs.RowsRead.{AreKept, IsReadAs};
 ghost use Rattle.mg_check.specs.Settled.{IsSettled};
-ghost use Rattle.mg_disk.specs.Stops.{CountRose, DiskCallsBy, WritesNothing};
 ghost use Rattle.mg_journal.specs.Looked.{Fits};
 ghost use Rattle.mg_model.specs.Layout.{globals_block, total_blocks};
 ghost use Rattle.mg_model.specs.Replay.{replay};
@@ -33,8 +32,7 @@ fn read_through_view<D: Disk>(
     ensures total { IfOk result (λ read. read.0.total ≡ total_blocks params.now.frames) }
     ensures within_disk { OnOk result (total_blocks params.now.frames ≤ D.block_count disk.old) }
     ensures damaged { result ≡ Err ViewFault.Damaged → ForSome (D.seen disk.old) (λ image. settled_volume image params.now ≡ Damaged) }
-    ensures cause { result ≡ Err ViewFault.Disk → CountRose D.Disk disk.old disk.new }
-    ensures reads { OnlyRead D.Disk disk.old disk.new }
+    ensures reads { OnlyReadsBy D.Disk disk.old disk.new (result ≡ Err ViewFault.Disk) }
 {
     let total = Geometry::of(params.frames()).total;
     if disk.blocks() < total {
@@ -62,8 +60,7 @@ pub fn read_volume<D: Disk>(alloc: Global, disk: &mut D) -> Result<(View, Volume
     ensures not { result ≡ Err OpenFault.Not → ForSome (D.seen disk.old) (λ image. volume image ≡ NotVolume) }
     ensures old { result ≡ Err OpenFault.Old → ForSome (D.seen disk.old) (λ image. volume image ≡ OldVolume) }
     ensures damaged { result ≡ Err OpenFault.Damaged → ForSome (D.seen disk.old) (λ image. volume image ≡ Damaged) }
-    ensures writes { WritesNothing D.Disk disk.old disk.new }
-    ensures calls { DiskCallsBy D.Disk disk.old disk.new (result ≡ Err OpenFault.Disk) }
+    ensures reads { OnlyReadsBy D.Disk disk.old disk.new (result ≡ Err OpenFault.Disk) }
 {
     let p = read_settings(disk)?;
     match read_through_view(alloc, disk, &p) {

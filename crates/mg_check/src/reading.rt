@@ -1,11 +1,11 @@
 // Reading blocks of a volume, through its journal or in another way.
-ghost use Rattle.std.specs.Prelude.{◌≡◌, ◌+◌, ◌-◌, ◌^◌, ◌≤◌, ◌<◌, ℕ, Option, OnErr, OnOk, length};
+ghost use Rattle.std.specs.Prelude.{◌≡◌, ◌+◌, ◌-◌, ◌^◌, ◌≤◌, ◌<◌, ℕ, Option, OnOk, length};
 ghost use Rattle.std.specs.Option.{ForSome};
-ghost use Rattle.mg_disk.specs.Disk.{HasBlocks, Image, block_at};
-ghost use Rattle.mg_disk.specs.Stops.{CountRose, DiskCalls, WritesNothing};
+ghost use Rattle.mg_disk.specs.Disk.{HasBlocks, Image, InRange, block_at};
+ghost use Rattle.mg_disk.specs.Stops.{OnlyReads};
 ghost use Rattle.mg_journal.specs.Looked.{Fits};
 ghost use Rattle.mg_model.specs.Replay.{block_of, replay};
-ghost use Rattle.mg_check.specs.Reads.{CanRead, IsRun, OnlyRead, contents};
+ghost use Rattle.mg_check.specs.Reads.{CanRead, IsRun, contents};
 
 use mg_disk::{BLOCK_SIZE, Block, COPY_BLOCKS, Disk};
 use mg_faults::Failed;
@@ -33,8 +33,7 @@ pub trait Contents {
         requires within_disk { need self.now ≤ D.block_count disk.old }
         requires fits { ForSome (D.seen disk.old) (λ image. Fits self.now image) }
         ensures block { OnOk result (ForSome (D.seen disk.old) (λ image. ForSome (of self.now image) (λ r. out.new ≡ block_at r i))) }
-        ensures writes { WritesNothing D.Disk disk.old disk.new }
-        ensures calls { DiskCalls D.Disk disk.old disk.new result };
+        ensures reads { OnlyReads D.Disk disk.old disk.new result };
 
     /// Gives blocks of the contents one after another, the first of them block `first`, as many as `out` has room for. It
     /// writes nothing. A read that fails leaves any bytes in `out`.
@@ -52,8 +51,7 @@ pub trait Contents {
         requires fits { ForSome (D.seen disk.old) (λ image. Fits self.now image) }
         ensures read { OnOk result (ForSome (D.seen disk.old) (λ image. ForSome (of self.now image) (HasBlocks first out.new))) }
         ensures count { length out.new ≡ length out.old }
-        ensures writes { WritesNothing D.Disk disk.old disk.new }
-        ensures calls { DiskCalls D.Disk disk.old disk.new result }
+        ensures reads { OnlyReads D.Disk disk.old disk.new result }
     {
         for k in 0..out.len() {
             self.read(disk, first + k as u64, &mut out[k])?;
@@ -96,8 +94,7 @@ pub(crate) fn read_block<C: Contents, D: Disk>(
     requires place { i < C.total view.now }
     requires can { CanRead D.Disk (C.need view.now) (C.Fits view.now) disk.old }
     ensures block { OnOk result (ForSome (contents D.Disk (C.of view.now) disk.old) (λ r. out.new ≡ block_of r i)) }
-    ensures cause { OnErr result (CountRose D.Disk disk.old disk.new) }
-    ensures reads { OnlyRead D.Disk disk.old disk.new }
+    ensures reads { OnlyReads D.Disk disk.old disk.new result }
 {
     view.read(disk, i, out)
 }
@@ -138,10 +135,8 @@ impl BlockRun {
         requires room { self.old.count ≤ 32 }
         ensures there { OnOk result (ForSome (contents D.Disk (C.of view.now) disk.old) (IsRun self.new.first self.new.count self.new.blocks)) }
         ensures room { OnOk result (self.new.count ≤ 32) }
-        ensures low { OnOk result (self.new.first ≤ i) }
-        ensures high { OnOk result (i < self.new.first + self.new.count) }
-        ensures cause { OnErr result (CountRose D.Disk disk.old disk.new) }
-        ensures reads { OnlyRead D.Disk disk.old disk.new }
+        ensures among { OnOk result (InRange self.new.first self.new.count i) }
+        ensures reads { OnlyReads D.Disk disk.old disk.new result }
     {
         if self.first <= i && i - self.first < self.count {
             return Ok(());
@@ -155,8 +150,7 @@ impl BlockRun {
 
     /// Block `i` of the contents.
     pub(crate) fn block(&self, i: u64) -> &Block
-        requires low { self.now.first ≤ i }
-        requires high { i < self.now.first + self.now.count }
+        requires among { InRange self.now.first self.now.count i }
         requires room { self.now.count ≤ 32 }
         ensures block { result.now ≡ block_at self.now.blocks (i - self.now.first) }
     {
@@ -176,8 +170,7 @@ fn read_run<C: Contents, D: Disk>(
     requires can { CanRead D.Disk (C.need view.now) (C.Fits view.now) disk.old }
     ensures read { OnOk result (ForSome (contents D.Disk (C.of view.now) disk.old) (HasBlocks first out.new)) }
     ensures same_length { length out.new ≡ length out.old }
-    ensures cause { OnErr result (CountRose D.Disk disk.old disk.new) }
-    ensures reads { OnlyRead D.Disk disk.old disk.new }
+    ensures reads { OnlyReads D.Disk disk.old disk.new result }
 {
     view.read_blocks(disk, first, out)
 }

@@ -1,9 +1,8 @@
 // What the volume of a disk was made with.
-ghost use Rattle.std.specs.Prelude.{◌≡◌, ◌≤◌, ◌==◌, IfOk, OnErr};
+ghost use Rattle.std.specs.Prelude.{◌≡◌, ◌≤◌, ◌==◌, IfOk};
 ghost use Rattle.std.specs.Option.{ForSome};
-ghost use Rattle.mg_check.specs.Reads.{OnlyRead};
+ghost use Rattle.mg_disk.specs.Stops.{OnlyReads, OnlyReadsBy};
 ghost use Rattle.mg_check.specs.Settled.{HasSettings};
-ghost use Rattle.mg_disk.specs.Stops.{CountRose};
 ghost use Rattle.mg_layout.specs.SuperBlock.{IsSuper};
 ghost use Rattle.mg_model.specs.Layout.{gate_open, super_block};
 ghost use Rattle.mg_model.specs.Replay.{block_of};
@@ -21,8 +20,7 @@ use mg_model::Params;
 pub fn is_gate_open<D: Disk>(disk: &mut D) -> Result<bool, Failed>
     requires at_least_2_blocks { 2 ≤ D.block_count disk.old }
     ensures opened { IfOk result (λ opened. ForSome (D.seen disk.old) (λ image. (gate_byte image == gate_open) ≡ opened)) }
-    ensures cause { OnErr result (CountRose D.Disk disk.old disk.new) }
-    ensures reads { OnlyRead D.Disk disk.old disk.new }
+    ensures reads { OnlyReads D.Disk disk.old disk.new result }
 {
     let mut block = [0; BLOCK_SIZE];
     match disk.read(GATE_BLOCK, &mut block) {
@@ -35,8 +33,7 @@ pub fn is_gate_open<D: Disk>(disk: &mut D) -> Result<bool, Failed>
 fn read_second<D: Disk>(disk: &mut D) -> Result<Super, Failed>
     requires at_least_2_blocks { 2 ≤ D.block_count disk.old }
     ensures spelled { IfOk result (λ spelled. ForSome (D.seen disk.old) (λ image. IsSuper spelled (super_read (block_of image super_block)))) }
-    ensures cause { OnErr result (CountRose D.Disk disk.old disk.new) }
-    ensures reads { OnlyRead D.Disk disk.old disk.new }
+    ensures reads { OnlyReads D.Disk disk.old disk.new result }
 {
     let mut block = [0; BLOCK_SIZE];
     match disk.read(SUPER_BLOCK, &mut block) {
@@ -51,8 +48,7 @@ pub(crate) fn read_settings<D: Disk>(disk: &mut D) -> Result<Params, OpenFault>
     ensures not { result ≡ Err OpenFault.Not → ForSome (D.seen disk.old) (λ image. volume image ≡ NotVolume) }
     ensures old { result ≡ Err OpenFault.Old → ForSome (D.seen disk.old) (λ image. volume image ≡ OldVolume) }
     ensures damaged { result ≡ Err OpenFault.Damaged → ForSome (D.seen disk.old) (λ image. volume image ≡ Damaged) }
-    ensures cause { result ≡ Err OpenFault.Disk → CountRose D.Disk disk.old disk.new }
-    ensures reads { OnlyRead D.Disk disk.old disk.new }
+    ensures reads { OnlyReadsBy D.Disk disk.old disk.new (result ≡ Err OpenFault.Disk) }
 {
     if disk.blocks() < 2 {
         return Err(OpenFault::Not);

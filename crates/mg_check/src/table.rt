@@ -1,9 +1,9 @@
 // The frame table of a volume.
 ghost use Rattle.std.specs.Prelude.{◌≡◌, ◌≢◌, ◌≤◌, ◌+◌, ◌%◌, ◌==◌, ℕ, IfOk, OnOk, false, [], length, min};
 ghost use Rattle.std.specs.Option.{ForSome};
-ghost use Rattle.mg_disk.specs.Stops.{CountRose};
+ghost use Rattle.mg_disk.specs.Stops.{OnlyReadsBy};
 ghost use Rattle.mg_model.specs.Layout.{first_frame};
-ghost use Rattle.mg_check.specs.Reads.{CanRead, OnlyRead, contents};
+ghost use Rattle.mg_check.specs.Reads.{CanRead, contents};
 ghost use Rattle.mg_check.specs.TableTold.{AreEntries, HasRest, IsTable, entry_in};
 
 use crate::lists::{add, with_room};
@@ -46,8 +46,7 @@ pub(crate) fn read_table<C: Contents, D: Disk>(
     ensures told { IfOk result (λ table. ForSome (contents D.Disk (C.of view.now) disk.old) (λ r. IsTable r frames table.items)) }
     ensures long { IfOk result (λ table. length table.items ≡ frames) }
     ensures damaged { result ≡ Err ViewFault.Damaged → ForSome (contents D.Disk (C.of view.now) disk.old) (λ r. HasRest r frames) }
-    ensures cause { result ≡ Err ViewFault.Disk → CountRose D.Disk disk.old disk.new }
-    ensures reads { OnlyRead D.Disk disk.old disk.new }
+    ensures reads { OnlyReadsBy D.Disk disk.old disk.new (result ≡ Err ViewFault.Disk) }
 {
     let mut table = with_room(alloc, frames as usize)?;
     let mut run = BlockRun::new();

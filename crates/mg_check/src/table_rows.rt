@@ -1,14 +1,14 @@
 // Tables of rows.
 ghost use Rattle.std.specs.Prelude.{◌≡◌, ◌≢◌, ◌≤◌, ◌<◌, ◌+◌, ℕ, List, IfOk, OnOk, None, Some, length, vec_capacity};
 ghost use Rattle.std.specs.Option.{ForSome};
-ghost use Rattle.mg_disk.specs.Stops.{CountRose};
+ghost use Rattle.mg_disk.specs.Stops.{OnlyReadsBy};
 ghost use Rattle.mg_model.specs.Layout.{table_block};
 ghost use Rattle.mg_model.specs.Replay.{block_of};
 ghost use Rattle.mg_model.specs.Spelling.{Read};
 ghost use Rattle.mg_rows.specs.Answers.{as_read};
-ghost use Rattle.mg_check.specs.Reads.{CanRead, OnlyRead, contents};
+ghost use Rattle.mg_check.specs.Reads.{CanRead, contents};
 ghost use Rattle.mg_check.specs.RowsRead.{ArePlaced, live_from};
-ghost use Rattle.mg_check.specs.TableRows.{AreLive, EachKeeps, NotSpelled};
+ghost use Rattle.mg_check.specs.TableRows.{AreLive, EachKeeps, NotSpelled, TakesRow};
 
 use crate::lists::{add, with_room};
 use crate::reading::{BlockRun, Contents};
@@ -57,11 +57,9 @@ pub(crate) trait TableRow: Copy {
 // Takes row `i` of the table out of its block.
 fn take<R: TableRow>(rows: &mut Vec<(u64, R)>, i: u64, block: &Block) -> Result<(), ViewFault>
     requires place { i < R.ROWS }
-    ensures told { OnOk result ((read : ℕ → Read R) → read i ≡ R.spelled block.now i → AreLive read i rows.old.items → AreLive read (i + 1) rows.new.items) }
+    ensures taken { OnOk result (TakesRow (R.spelled block.now i) R.IsKept i rows.old.items rows.new.items) }
     ensures damaged { result ≡ Err ViewFault.Damaged → R.spelled block.now i ≡ None }
     ensures no_disk { result ≢ Err ViewFault.Disk }
-    ensures placed { OnOk result (ArePlaced i rows.old.items → ArePlaced (i + 1) rows.new.items) }
-    ensures kept { OnOk result (EachKeeps R.IsKept rows.old.items → EachKeeps R.IsKept rows.new.items) }
     ensures keeps_capacity { vec_capacity rows.old ≤ vec_capacity rows.new }
 {
     let found = R::read(block, i);
@@ -87,8 +85,7 @@ pub(crate) fn read_all<R: TableRow, C: Contents, D: Disk>(
     ensures placed { IfOk result (λ rows. ArePlaced R.ROWS rows.items) }
     ensures kept { IfOk result (λ rows. EachKeeps R.IsKept rows.items) }
     ensures has_capacity { IfOk result (λ rows. R.ROWS ≤ vec_capacity rows) }
-    ensures cause { result ≡ Err ViewFault.Disk → CountRose D.Disk disk.old disk.new }
-    ensures reads { OnlyRead D.Disk disk.old disk.new }
+    ensures reads { OnlyReadsBy D.Disk disk.old disk.new (result ≡ Err ViewFault.Disk) }
 {
     let mut rows = with_room(alloc, R::ROWS as usize)?;
     let mut run = BlockRun::new();
@@ -122,12 +119,10 @@ fn fill_to<R: TableRow>(rows: &mut Vec<Option<R>>, count: u64) -> Result<(), Vie
 fn put<R: TableRow>(rows: &mut Vec<Option<R>>, i: u64, block: &Block) -> Result<(), ViewFault>
     requires place { i < R.ROWS }
     requires next { length rows.old.items ≤ i }
-    ensures told { OnOk result ((read : ℕ → Read R) → read i ≡ R.spelled block.now i → AreLive read i (live_from 0 rows.old.items) → AreLive read (i + 1) (live_from 0 rows.new.items)) }
+    ensures taken { OnOk result (TakesRow (R.spelled block.now i) R.IsKept i (live_from 0 rows.old.items) (live_from 0 rows.new.items)) }
     ensures damaged { result ≡ Err ViewFault.Damaged → R.spelled block.now i ≡ None }
     ensures no_disk { result ≢ Err ViewFault.Disk }
     ensures long { OnOk result (length rows.new.items ≤ i + 1) }
-    ensures placed { OnOk result (ArePlaced i (live_from 0 rows.old.items) → ArePlaced (i + 1) (live_from 0 rows.new.items)) }
-    ensures kept { OnOk result (EachKeeps R.IsKept (live_from 0 rows.old.items) → EachKeeps R.IsKept (live_from 0 rows.new.items)) }
     ensures keeps_capacity { vec_capacity rows.old ≤ vec_capacity rows.new }
 {
     let found = R::read(block, i);
@@ -157,8 +152,7 @@ pub(crate) fn read_places<R: TableRow, C: Contents, D: Disk>(
     ensures placed { IfOk result (λ rows. ArePlaced R.ROWS (live_from 0 rows.items)) }
     ensures kept { IfOk result (λ rows. EachKeeps R.IsKept (live_from 0 rows.items)) }
     ensures has_capacity { IfOk result (λ rows. R.ROWS ≤ vec_capacity rows) }
-    ensures cause { result ≡ Err ViewFault.Disk → CountRose D.Disk disk.old disk.new }
-    ensures reads { OnlyRead D.Disk disk.old disk.new }
+    ensures reads { OnlyReadsBy D.Disk disk.old disk.new (result ≡ Err ViewFault.Disk) }
 {
     let mut rows = with_room(alloc, R::ROWS as usize)?;
     let mut run = BlockRun::new();

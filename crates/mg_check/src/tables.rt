@@ -1,10 +1,10 @@
 // All tables of a volume.
 ghost use Rattle.std.specs.Prelude.{◌≡◌, ◌≤◌, IfOk, Some};
 ghost use Rattle.std.specs.Option.{ForSome};
-ghost use Rattle.mg_check.specs.Reads.{CanRead, OnlyRead, contents};
+ghost use Rattle.mg_disk.specs.Stops.{OnlyReadsBy};
+ghost use Rattle.mg_check.specs.Reads.{CanRead, contents};
 ghost use Rattle.mg_check.specs.RowsRead.{AreHeld, AreKept};
 ghost use Rattle.mg_check.specs.RowsTold.{AreTold, HasNoState, NoCounters, TellsRows};
-ghost use Rattle.mg_disk.specs.Stops.{CountRose};
 ghost use Rattle.mg_model.specs.Layout.{globals_block, table_block, total_blocks};
 ghost use Rattle.mg_model.specs.Replay.{block_of};
 ghost use Rattle.mg_model.specs.Spelling.{globals_read};
@@ -28,8 +28,7 @@ fn read_counters<C: Contents, D: Disk>(view: &C, disk: &mut D) -> Result<Globals
     requires can { CanRead D.Disk (C.need view.now) (C.Fits view.now) disk.old }
     ensures told { IfOk result (λ counters. ForSome (contents D.Disk (C.of view.now) disk.old) (λ r. globals_read (block_of r globals_block) ≡ Some counters)) }
     ensures damaged { result ≡ Err ViewFault.Damaged → ForSome (contents D.Disk (C.of view.now) disk.old) (λ r. NoCounters r) }
-    ensures cause { result ≡ Err ViewFault.Disk → CountRose D.Disk disk.old disk.new }
-    ensures reads { OnlyRead D.Disk disk.old disk.new }
+    ensures reads { OnlyReadsBy D.Disk disk.old disk.new (result ≡ Err ViewFault.Disk) }
 {
     let mut block = [0; BLOCK_SIZE];
     match read_block(view, disk, GLOBALS_BLOCK, &mut block) {
@@ -54,8 +53,7 @@ fn read_tables<C: Contents, D: Disk>(
     ensures params { IfOk result (λ rows. rows.params ≡ params.now) }
     ensures held { IfOk result AreHeld }
     ensures damaged { result ≡ Err ViewFault.Damaged → ForSome (contents D.Disk (C.of view.now) disk.old) (HasNoState params.now) }
-    ensures cause { result ≡ Err ViewFault.Disk → CountRose D.Disk disk.old disk.new }
-    ensures reads { OnlyRead D.Disk disk.old disk.new }
+    ensures reads { OnlyReadsBy D.Disk disk.old disk.new (result ≡ Err ViewFault.Disk) }
 {
     let frames = params.frames();
     let globals = read_counters(view, disk)?;
@@ -91,8 +89,7 @@ pub fn read_rows<C: Contents, D: Disk>(
     ensures params { IfOk result (λ rows. rows.params ≡ params.now) }
     ensures kept { IfOk result AreKept }
     ensures damaged { result ≡ Err ViewFault.Damaged → ForSome (contents D.Disk (C.of view.now) disk.old) (HasNoState params.now) }
-    ensures cause { result ≡ Err ViewFault.Disk → CountRose D.Disk disk.old disk.new }
-    ensures reads { OnlyRead D.Disk disk.old disk.new }
+    ensures reads { OnlyReadsBy D.Disk disk.old disk.new (result ≡ Err ViewFault.Disk) }
 {
     let rows = read_tables(alloc, view, disk, params)?;
     match rows.fit(alloc) {

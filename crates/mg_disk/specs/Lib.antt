@@ -10,6 +10,7 @@ pub mod Held
 pub mod Fuse
 pub use Rattle.mg_faults.specs.Faults
 -- Lemmas that these or crates above cite, and a word of theirs. None of them is part of a statement.
+pub mod BecomesLemmas
 pub mod BlockBytes
 pub mod HeldLemmas
 pub mod PlaceLemmas

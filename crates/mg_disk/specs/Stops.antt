@@ -1,8 +1,14 @@
 -- What the layers above say of a disk, each in one word. The trait's members are one value, `D.Disk` in a clause.
-use Rattle.std.specs.Prelude.{◌≡◌, OnErr, Result, Some}
+use Rattle.std.specs.Prelude.{◌≡◌, OnErr, Option, Result, None, Some}
 use Rattle.mg_faults.specs.Faults.{CountGoesOn, Rose}
 use Rattle.mg_disk.specs.Disk.{Image, GoesOn, no_image, OnlySeen}
 use Rattle.mg_disk.specs.declared.disk.Disk.{Ghosts}
+
+-- What reads give is told before and after and the two images are related, or it is told neither before nor after.
+abbrev pub Becomes : (Image → Image → Type 0) → Option Image → Option Image → Type 0
+Becomes R (Some old) (Some new) = R old new
+Becomes R None None = Unit {0}
+Becomes R _ _ = ⊥
 
 -- nothing is pending: a stop now leaves what reads give and nothing else
 abbrev pub NothingPending : {D : Type 0} → Ghosts D → D → Type 0
@@ -50,3 +56,19 @@ pub record DiskCalls {D T E : Type 0} (facts : Ghosts D) (old new : D) (result :
   pub count : CountGoes facts old new
   pub blocks : facts.block_count new ≡ facts.block_count old
   pub cause : OnErr result (CountRose facts old new)
+
+-- calls that only read
+pub record OnlyReads {D T E : Type 0} (facts : Ghosts D) (old new : D) (result : Result T E) : Type 0 where
+  pub writes : WritesNothing facts old new
+  pub calls : DiskCalls facts old new result
+
+-- the same if it failed in this case alone
+pub record OnlyReadsBy {D : Type 0} (facts : Ghosts D) (old new : D) (failed : Type 0) : Type 0 where
+  pub writes : WritesNothing facts old new
+  pub calls : DiskCallsBy facts old new failed
+
+-- the same, with nothing said of an answer
+pub record OnlyRead {D : Type 0} (facts : Ghosts D) (old new : D) : Type 0 where
+  pub writes : WritesNothing facts old new
+  pub count : CountGoes facts old new
+  pub blocks : facts.block_count new ≡ facts.block_count old

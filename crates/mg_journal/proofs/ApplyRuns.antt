@@ -1,14 +1,16 @@
 -- Bodies that are read together, and homes that are written together.
 use Rattle.std.proofs.lemmas.Bool.Decides.{nat_tests}
-use Rattle.std.specs.Prelude.{◌≡◌, ◌+◌, ◌-◌, ◌≤◌, ◌<◌, ℕ, zero, suc, true, All, List, [], length, IsSomeAnd, option_map, slice_set, take, Option, Some, None}
+use Rattle.std.specs.Prelude.{◌≡◌, ◌+◌, ◌-◌, ◌≤◌, ◌<◌, ℕ, zero, suc, true, All, List, [], length, option_map, slice_set, take, Option, Some, None}
 use Rattle.std.specs.Option.{ForSome}
 use Rattle.std.proofs.Common.{refl, sym, ap, subst, ◌∙◌, ⊎_elim, arith}
 use Rattle.std.proofs.lemmas.Bool.{cases_lt}
 use Rattle.std.proofs.lemmas.List.{ext_get_or, get_or_past, get_or-set_other, get_or-set_same}
 use Rattle.std.proofs.lemmas.Simd.{get_or-put_chunk_above, get_or-put_chunk_at, get_or-put_chunk_below, put_chunk_is}
 use Rattle.std.specs.Simd.Lanes.{put_chunk}
+use Rattle.mg_disk.specs.BecomesLemmas.{becomes-seen, becomes-then}
 use Rattle.mg_disk.specs.Disk.{HasBlocks, Image, InRange, SameBut, SeenBut, block_at}
 use Rattle.mg_disk.specs.PlaceLemmas.{same_after}
+use Rattle.mg_disk.specs.Stops.{Becomes}
 use Rattle.mg_journal.proofs.ApplySteps.{filled_more, named_place}
 use Rattle.mg_journal.specs.Applied.{AreInRow, HasBodies, HasRun, filled, nth_body, nth_home}
 use Rattle.mg_journal.specs.Contents.{names}
@@ -150,7 +152,6 @@ row_applied n places first count memory row (Some a) mid (Some b) all inside in_
     but = grind (arith)
 
 -- What reads give after one more call, whatever it answers: still the image as it was told first but at these places.
-pub torn_more : (P : Image → ℕ → Type 0) (these : ℕ → Type 0) (told mid new : Option Image) → ((a : Image) (k : ℕ) → these k → P a k) → ForSome told (λ a. IsSomeAnd mid (SameBut (P a) a)) → SeenBut these mid new → ForSome told (λ a. IsSomeAnd new (SameBut (P a) a))
-torn_more P these told None new among so_far one a is = absurd (so_far a is)
-torn_more P these told (Some b) None among so_far one a is = absurd one
-torn_more P these told (Some b) (Some c) among so_far one a is = same_after (P a) these (P a) a b c (λ k at. at) (among a) (so_far a is) one
+pub torn_more : (P : Image → ℕ → Type 0) (these : ℕ → Type 0) (told mid new : Option Image) → ((a : Image) (k : ℕ) → these k → P a k) → Becomes (λ a. SameBut (P a) a) told mid → SeenBut these mid new → Becomes (λ a. SameBut (P a) a) told new
+torn_more P these told mid new among so_far one =
+    becomes-then (λ a. SameBut (P a) a) (SameBut these) (λ a. SameBut (P a) a) told mid new (λ a b c is first then. same_after (P a) these (P a) a b c (λ k at. at) (among a) first then) so_far (becomes-seen these mid new one)

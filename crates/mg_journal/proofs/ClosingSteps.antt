@@ -1,23 +1,22 @@
 -- Lemmas on the closing of gates.
 use Rattle.std.proofs.lemmas.Bool.Decides.{nat_tests}
-use Rattle.std.specs.Prelude.{◌≡◌, ◌+◌, ◌<◌, nat_lt, ℕ, true, false, Option, Some, IsSomeAnd, is_some}
+use Rattle.std.specs.Prelude.{◌≡◌, ◌+◌, ◌<◌, nat_lt, ℕ, true, false, Option, Some}
 use Rattle.std.specs.Option.{ForSome}
 use Rattle.std.proofs.Common.{refl, sym, ap, subst, ◌∙◌, ⊎_elim, arith}
 use Rattle.std.proofs.lemmas.Bool.{cases_eq, ltb-true}
+use Rattle.mg_disk.specs.BecomesLemmas.{becomes-of, becomes-same, becomes-then, becomes-to, becomes-wider}
 use Rattle.mg_disk.specs.Disk.{Image, only_place}
 use Rattle.mg_disk.specs.PlaceLemmas.{same_as}
 use Rattle.mg_disk.specs.Runs.{leaves_then, leaves_yet, only_image}
-use Rattle.mg_disk.specs.Stops.{Leaves, NothingPending}
+use Rattle.mg_disk.specs.Stops.{Becomes, Leaves, NothingPending}
 use Rattle.mg_disk.specs.declared.disk.Disk.{Ghosts}
 use Rattle.mg_model.specs.Layout.{segment_count, segment_gate}
 use Rattle.mg_model.specs.Replay.{is_open, replay}
-use Rattle.mg_journal.specs.ResultLemmas.{some_of}
 use Rattle.mg_journal.proofs.CommitSteps.{same_then}
 use Rattle.mg_journal.specs.Contents.{InJournal}
 use Rattle.mg_journal.specs.JournalLemmas.{same_gate, same_wider}
 use Rattle.mg_journal.proofs.Homes.{first_gate_torn}
-use Rattle.mg_journal.proofs.RecoverSteps.{came_back}
-use Rattle.mg_journal.specs.Recovery.{AreOpen, ClosedOne, IsClosedUpTo, IsStill, MayCloseOne}
+use Rattle.mg_journal.specs.Recovery.{AreOpen, ClosedOne, ClosesUpTo, IsClosedUpTo, IsStill, MayCloseOne, StaysStill}
 
 -- while one more gate is closed
 pub closing_still : (s total : ℕ) (a b c : Image) → s < segment_count → IsClosedUpTo s total a b → MayCloseOne s b c → IsStill total a c
@@ -43,59 +42,38 @@ closed_more s total a b c few up_to one = record {
 behind_open : (s n : ℕ) (b c : Image) → AreOpen s n b → MayCloseOne s b c → AreOpen (s + 1) n c
 behind_open s n b c are may t low high = grind (arith, nat_tests, same_gate)
 
-module _ {D : Type 0} (facts : Ghosts D) (s n : ℕ) where
+module _ (s n : ℕ) where
   -- gate s is open if those from it on are
-  pub open_now : (old now : D) → is_some (facts.seen now) ≡ is_some (facts.seen old) → ForSome (facts.seen old) (λ image. IsSomeAnd (facts.seen now) (AreOpen s n)) → nat_lt s n ≡ true
-      → ForSome (facts.seen now) (λ image. is_open image s ≡ true)
-  open_now old now tells are low image told =
-      let from = some_of (λ a. AreOpen s n image) (facts.seen old) (came_back (λ a b. AreOpen s n b) (facts.seen old) (facts.seen now) tells are image told) in
-      from.2 s (omega arith) (ltb-true s n low)
+  pub open_now : (old now : Option Image) → Becomes (λ a. AreOpen s n) old now → nat_lt s n ≡ true → ForSome now (λ image. is_open image s ≡ true)
+  open_now old now are low image told = (becomes-of (λ a. AreOpen s n) old now image are told).2 s (omega arith) (ltb-true s n low)
 
-  pub open_yet : (mid : D) (now : Option Image) → IsSomeAnd (facts.seen mid) (AreOpen s n) → ForSome (facts.seen mid) (λ b. IsSomeAnd now (MayCloseOne s b)) → IsSomeAnd now (AreOpen (s + 1) n)
-  open_yet mid now so_far one =
-      let b = some_of (AreOpen s n) (facts.seen mid) so_far in
-      let c = some_of (MayCloseOne s b.0) now (one b.0 b.1) in
-      subst (λ o. IsSomeAnd o (AreOpen (s + 1) n)) (sym c.1) (behind_open s n b.0 c.0 b.2 c.2)
+  pub open_yet : (old mid now : Option Image) → Becomes (λ a. AreOpen s n) old mid → Becomes (MayCloseOne s) mid now → Becomes (λ a. AreOpen (s + 1) n) old now
+  open_yet old mid now = becomes-then (λ a. AreOpen s n) (MayCloseOne s) (λ a. AreOpen (s + 1) n) old mid now (λ a b c told are may. behind_open s n b c are may)
 
-module _ {D : Type 0} (facts : Ghosts D) (total : ℕ) (a : Image) where
-  -- what is known before gate s is closed: what a stop left so far, and what reads give
-  pub record IsClosing (s : ℕ) (old now : D) : Type 0 where
-    pub run : Leaves facts old now (IsStill total a)
-    pub shows : IsSomeAnd (facts.seen now) (IsClosedUpTo s total a)
-
-  pub begin_closing : (disk : D) → facts.has_been disk (facts.moment disk) → facts.seen disk ≡ Some a → NothingPending facts disk → replay a total ≡ Some a → IsClosing 0 disk disk
-  begin_closing disk been told pending own = record {
-    run = leaves_yet facts disk (IsStill total a) been (λ c left. subst (IsStill total a) (sym (only_image facts disk a c (record { told = told; settled = pending }) left)) here);
-    shows = subst (λ o. IsSomeAnd o (IsClosedUpTo 0 total a)) (sym told) (record { still = here; shut = λ t low. absurd (omega arith) });
-  }
-    where
-      here : IsStill total a a
-      here = record { own = own; same = same_as InJournal a a refl }
-
+module _ (s : ℕ) (few : s < segment_count) (old mid now : Option Image) (shows : Becomes (ClosesUpTo s) old mid) where
   -- one gate more, whatever the answer
-  pub close_run : (s : ℕ) (old mid new : D) → s < segment_count → IsClosing s old mid → ForSome (facts.seen mid) (λ b. Leaves facts mid new (MayCloseOne s b)) → Leaves facts old new (IsStill total a)
-  close_run s old mid new few so_far one =
-      let b = some_of (IsClosedUpTo s total a) (facts.seen mid) so_far.shows in
-      leaves_then facts old mid new (MayCloseOne s b.0) (IsStill total a) so_far.run (one b.0 b.1) (λ c may. closing_still s total a b.0 c few b.2 may)
+  pub close_seen : Becomes (MayCloseOne s) mid now → Becomes StaysStill old now
+  close_seen = becomes-then (ClosesUpTo s) (MayCloseOne s) StaysStill old mid now (λ a b c told up may total own. closing_still s total a b c few (up total own) may) shows
 
-  -- what reads give then
-  pub close_seen : (s : ℕ) (old mid : D) (now : Option Image) → s < segment_count → IsClosing s old mid → ForSome (facts.seen mid) (λ b. IsSomeAnd now (MayCloseOne s b)) → IsSomeAnd now (IsStill total a)
-  close_seen s old mid now few so_far one =
-      let b = some_of (IsClosedUpTo s total a) (facts.seen mid) so_far.shows in
-      let c = some_of (MayCloseOne s b.0) now (one b.0 b.1) in
-      subst (λ o. IsSomeAnd o (IsStill total a)) (sym c.1) (closing_still s total a b.0 c.0 few b.2 c.2)
+  pub close_more : Becomes (ClosedOne s) mid now → Becomes (ClosesUpTo (s + 1)) old now
+  close_more = becomes-then (ClosesUpTo s) (ClosedOne s) (ClosesUpTo (s + 1)) old mid now (λ a b c told up one total own. closed_more s total a b c few (up total own) one) shows
 
-  pub still_now : (s : ℕ) (old now : D) → IsClosing s old now → IsSomeAnd (facts.seen now) (IsStill total a)
-  still_now s old now so_far =
-      let b = some_of (IsClosedUpTo s total a) (facts.seen now) so_far.shows in
-      subst (λ o. IsSomeAnd o (IsStill total a)) (sym b.1) b.2.still
+pub still_now : (s : ℕ) (old now : Option Image) → Becomes (ClosesUpTo s) old now → Becomes StaysStill old now
+still_now s old now = becomes-wider (ClosesUpTo s) StaysStill old now (λ a b told is up total own. (up total own).still)
 
-  pub close_more : (s : ℕ) (old mid new : D) → s < segment_count → IsClosing s old mid → ForSome (facts.seen mid) (λ b. Leaves facts mid new (MayCloseOne s b))
-      → ForSome (facts.seen mid) (λ b. IsSomeAnd (facts.seen new) (ClosedOne s b)) → IsClosing (s + 1) old new
-  close_more s old mid new few so_far one closed =
-      let b = some_of (IsClosedUpTo s total a) (facts.seen mid) so_far.shows in
-      let c = some_of (ClosedOne s b.0) (facts.seen new) (closed b.0 b.1) in
-      record {
-        run = close_run s old mid new few so_far one;
-        shows = subst (λ o. IsSomeAnd o (IsClosedUpTo (s + 1) total a)) (sym c.1) (closed_more s total a b.0 c.0 few b.2 c.2);
-      }
+here_still : (total : ℕ) (a : Image) → replay a total ≡ Some a → IsStill total a a
+here_still total a own = record { own = own; same = same_as InJournal a a refl }
+
+pub none_closed : (old now : Option Image) → now ≡ old → Becomes (ClosesUpTo 0) old now
+none_closed old now same = becomes-same (ClosesUpTo 0) old now same (λ a told total own. record { still = here_still total a own; shut = λ t low. absurd (omega arith) })
+
+module _ {D : Type 0} (facts : Ghosts D) (total : ℕ) (a : Image) (old : D) (told : facts.seen old ≡ Some a) (own : replay a total ≡ Some a) where
+  -- what a stop left, before the first gate is closed and after one more
+  pub begin_run : facts.has_been old (facts.moment old) → NothingPending facts old → Leaves facts old old (IsStill total a)
+  begin_run been pending = leaves_yet facts old (IsStill total a) been (λ c left. subst (IsStill total a) (sym (only_image facts old a c (record { told = told; settled = pending }) left)) (here_still total a own))
+
+  pub close_run : (s : ℕ) (mid new : D) → s < segment_count → Becomes (ClosesUpTo s) (facts.seen old) (facts.seen mid) → Leaves facts old mid (IsStill total a) → ForSome (facts.seen mid) (λ b. Leaves facts mid new (MayCloseOne s b))
+      → Leaves facts old new (IsStill total a)
+  close_run s mid new few shows run one =
+      let b = becomes-to (ClosesUpTo s) (facts.seen old) (facts.seen mid) a shows told in
+      leaves_then facts old mid new (MayCloseOne s b.0) (IsStill total a) run (one b.0 b.1) (λ c may. closing_still s total a b.0 c few (b.2 total own) may)

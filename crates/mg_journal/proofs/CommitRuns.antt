@@ -1,17 +1,17 @@
 -- Lemmas on what a stop may leave over the phases of a commit.
-use Rattle.std.specs.Prelude.{◌≡◌, ◌≤◌, ◌<◌, ℕ, true, false, List, [], ◌∷◌, length, Option, Some, None, IsSomeAnd, option_map}
+use Rattle.std.specs.Prelude.{◌≡◌, ◌≤◌, ◌<◌, ℕ, true, false, List, [], ◌∷◌, length, Option, Some, None, option_map}
 use Rattle.std.specs.Option.{ForSome}
 use Rattle.std.proofs.Common.{refl, sym, subst, inl, arith}
+use Rattle.mg_disk.specs.BecomesLemmas.{becomes-then, becomes-to}
 use Rattle.mg_disk.specs.Disk.{Image, SameBut, SeenBut, only_place}
 use Rattle.mg_disk.specs.Runs.{leaves_then, leaves_wider, leaves_yet, only_image}
-use Rattle.mg_disk.specs.Stops.{Leaves, NothingPending}
+use Rattle.mg_disk.specs.Stops.{Becomes, Leaves, NothingPending}
 use Rattle.mg_disk.specs.declared.disk.Disk.{Ghosts}
 use Rattle.mg_model.specs.Layout.{body_limit, segment_count, segment_gate}
 use Rattle.mg_model.specs.Replay.{homes_fit, is_open, replay, written}
 use Rattle.mg_journal.proofs.CommitSteps.{bodies_may, either_then, gate_may, new_then}
 use Rattle.mg_journal.specs.Contents.{InJournal, NewContents, SameContents}
 use Rattle.mg_journal.specs.Phases.{HoldsWrites, IsBehind, IsNext}
-use Rattle.mg_journal.specs.ResultLemmas.{some_of}
 use Rattle.mg_journal.specs.Standing.{OldOrNew}
 
 pub some_same : (x y : Image) → Some x ≡ Some y → x ≡ y
@@ -55,18 +55,17 @@ pub yet : {D : Type 0} (facts : Ghosts D) (total : ℕ) (writes : List (ℕ × L
 yet facts total writes disk a been told pending = leaves_wider facts disk disk (SameContents total a) (OldOrNew total writes a) (yet_same facts total disk a been told pending) (λ c same. inl same)
 
 -- a segment that is written after a checkpoint, or after no call
-module _ {D : Type 0} (facts : Ghosts D) (total t : ℕ) (is : t ≡ total) (writes : List (ℕ × List ℕ)) (a : Image) where
-  pub make_run : (d0 d1 d2 : D) → Leaves facts d0 d1 (SameContents total a) → IsSomeAnd (facts.seen d1) (SameContents total a) → ForSome (facts.seen d1) (λ b. Leaves facts d1 d2 (OldOrNew t writes b)) → Leaves facts d0 d2 (OldOrNew total writes a)
-  make_run d0 d1 d2 before same run =
-      let b = some_of (SameContents total a) (facts.seen d1) same in
+module _ (total t : ℕ) (is : t ≡ total) (writes : List (ℕ × List ℕ)) where
+  pub make_run : {D : Type 0} (facts : Ghosts D) (a : Image) (d0 d1 d2 : D) → facts.seen d0 ≡ Some a → Leaves facts d0 d1 (SameContents total a) → Becomes (SameContents total) (facts.seen d0) (facts.seen d1)
+      → ForSome (facts.seen d1) (λ b. Leaves facts d1 d2 (OldOrNew t writes b)) → Leaves facts d0 d2 (OldOrNew total writes a)
+  make_run facts a d0 d1 d2 told before same run =
+      let b = becomes-to (SameContents total) (facts.seen d0) (facts.seen d1) a same told in
       leaves_then facts d0 d1 d2 (OldOrNew total writes b.0) (OldOrNew total writes a)
       (leaves_wider facts d0 d1 (SameContents total a) (OldOrNew total writes a) before (λ c old. inl old))
       (subst (λ n. Leaves facts d1 d2 (OldOrNew n writes b.0)) is (run b.0 b.1))
       (λ c may. either_then total writes a b.0 c b.2 may)
 
-  pub make_done : (n : ℕ) (mid new : Option Image) → IsSomeAnd mid (SameContents total a) → ForSome mid (λ b. IsSomeAnd new (IsNext t n writes b)) → IsSomeAnd new (NewContents total a writes)
-  make_done n mid new same next =
-      let b = some_of (SameContents total a) mid same in
-      let z = some_of (IsNext t n writes b.0) new (next b.0 b.1) in
-      subst (λ o. IsSomeAnd o (NewContents total a writes)) (sym z.1)
-      (new_then total writes a b.0 z.0 b.2 (subst (λ m. NewContents m b.0 writes z.0) is z.2.contents))
+  pub make_done : (n : ℕ) (told mid new : Option Image) → Becomes (SameContents total) told mid → Becomes (IsNext t n writes) mid new → Becomes (λ a. NewContents total a writes) told new
+  make_done n told mid new =
+      becomes-then (SameContents total) (IsNext t n writes) (λ a. NewContents total a writes) told mid new
+      (λ a b c at same next. new_then total writes a b c same (subst (λ m. NewContents m b writes c) is next.contents))

@@ -1,31 +1,26 @@
 -- An opening: the journal is looked through, and then recovered.
-use Rattle.std.specs.Prelude.{◌≡◌, ℕ, Option, Some, Result, Err, IsSomeAnd, is_some}
+use Rattle.std.specs.Prelude.{◌≡◌, ℕ, Option, Some, Result, Err}
 use Rattle.std.specs.Option.{ForSome}
-use Rattle.std.proofs.Common.{sym, ap, subst, ◌∙◌}
+use Rattle.std.proofs.Common.{subst, ◌∙◌}
+use Rattle.mg_disk.specs.BecomesLemmas.{becomes-after, becomes-same}
 use Rattle.mg_disk.specs.Disk.{Image}
 use Rattle.mg_disk.specs.Runs.{leaves_quiet, leaves_then, still_seen}
-use Rattle.mg_disk.specs.Stops.{Leaves, NothingPending, WritesNothing}
+use Rattle.mg_disk.specs.Stops.{Becomes, Leaves, NothingPending, WritesNothing}
 use Rattle.mg_disk.specs.declared.disk.Disk.{Ghosts}
 use Rattle.mg_journal.proofs.CommitRuns.{same_itself, yet_same}
 use Rattle.mg_journal.specs.Contents.{SameContents}
-use Rattle.mg_journal.proofs.RecoverSteps.{came_back}
 
 -- an error stays the same if it is handed on with another type of value
 pub same_error : {T U E : Type 0} (x y : E) → ◌≡◌ {A = Result T E} (Err x) (Err y) → ◌≡◌ {A = Result U E} (Err x) (Err y)
 same_error x y is = cc
 
-module _ (n total : ℕ) (same : n ≡ total) where
-  -- what reads gave before has its contents in what they give now
-  pub contents_kept : (told mid now : Option Image) → mid ≡ told → ForSome mid (λ a. IsSomeAnd now (SameContents n a)) → ForSome told (λ a. IsSomeAnd now (SameContents total a))
-  contents_kept told mid now still each a is = subst (λ m. IsSomeAnd now (SameContents m a)) same (each a (still ∙ is))
-
-  -- and the other way round
-  pub contents_from : (told mid now : Option Image) → mid ≡ told → is_some now ≡ is_some mid → ForSome mid (λ a. IsSomeAnd now (SameContents n a)) → ForSome now (λ b. IsSomeAnd told (λ a. SameContents total a b))
-  contents_from told mid now still tells each = came_back (SameContents total) told now (tells ∙ ap is_some still) (contents_kept told mid now still each)
+-- what reads gave before has its contents in what they give after the recovery
+pub contents_kept : (n total : ℕ) → n ≡ total → (told mid now : Option Image) → mid ≡ told → Becomes (SameContents n) mid now → Becomes (SameContents total) told now
+contents_kept n total same told mid now still stays = becomes-after (SameContents total) told mid now still (subst (λ m. Becomes (SameContents m) mid now) same stays)
 
 -- when reads give what they gave
-pub contents_still : (total : ℕ) (told now : Option Image) → now ≡ told → ForSome told (λ a. IsSomeAnd now (SameContents total a))
-contents_still total told now still a is = subst (λ o. IsSomeAnd o (SameContents total a)) (sym (still ∙ is)) (same_itself total a)
+pub contents_still : (total : ℕ) (told now : Option Image) → now ≡ told → Becomes (SameContents total) told now
+contents_still total told now still = becomes-same (SameContents total) told now still (λ a is. same_itself total a)
 
 module _ {D : Type 0} (facts : Ghosts D) (total : ℕ) (old mid : D) (been : facts.has_been old (facts.moment old)) (look : WritesNothing facts old mid) (pending : NothingPending facts old) (a : Image) (told : facts.seen old ≡ Some a) where
   -- after the look

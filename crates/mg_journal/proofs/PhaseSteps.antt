@@ -1,9 +1,10 @@
 -- Lemmas on the phases of a commit: what is in a segment once its index and its bodies are written.
-use Rattle.std.specs.Prelude.{◌≡◌, ◌+◌, ◌*◌, ◌≤◌, ◌<◌, ℕ, zero, suc, List, [], ◌∷◌, length, is_some, IsSomeAnd, Option, Some, None}
+use Rattle.std.specs.Prelude.{◌≡◌, ◌+◌, ◌*◌, ◌≤◌, ◌<◌, ℕ, zero, suc, List, [], ◌∷◌, length, Option}
 use Rattle.std.specs.Option.{ForSome}
 use Rattle.std.proofs.Common.{refl, ap, ◌∙◌, arith}
-use Rattle.std.proofs.lemmas.Option.{none-some}
+use Rattle.mg_disk.specs.BecomesLemmas.{becomes-kept, becomes-seen, becomes-wider}
 use Rattle.mg_disk.specs.Disk.{HasBlocks, Image, InRange, SameBut, SeenBut, block_at}
+use Rattle.mg_disk.specs.Stops.{Becomes}
 use Rattle.mg_model.specs.Bytes.{number_at}
 use Rattle.mg_model.specs.Layout.{body_limit, segment_body, segment_count, segment_index}
 use Rattle.mg_model.specs.Replay.{body_count, home_of, writes_from}
@@ -53,12 +54,8 @@ module _ (s : ℕ) (writes : List (ℕ × List ℕ)) (run a b : Image) (place : 
 
 -- the same of what reads give, before and after
 pub wrote_all : (s : ℕ) (writes : List (ℕ × List ℕ)) (run : Image) (old mid new : Option Image) → s < segment_count → length writes ≤ body_limit → IsRunOf writes run
-    → SeenBut (InRange (segment_index s) (length run)) old mid → ForSome mid (HasBlocks (segment_index s) run) → new ≡ mid → ForSome old (λ image. IsSomeAnd new (HoldsWrites s writes image))
-wrote_all s writes run old None new place few is same has kept image told = grind (arith, none-some)
-wrote_all s writes run old (Some b) new place few is same has kept image told = grind (arith, holds_all)
-
-pub told_still : (P : ℕ → Type 0) (old mid new : Option Image) → SeenBut P old mid → new ≡ mid → is_some new ≡ is_some old
-told_still P None None new same kept = ap is_some kept
-told_still P None (Some b) new same kept = absurd same
-told_still P (Some a) None new same kept = absurd same
-told_still P (Some a) (Some b) new same kept = ap is_some kept
+    → SeenBut (InRange (segment_index s) (length run)) old mid → ForSome mid (HasBlocks (segment_index s) run) → new ≡ mid → Becomes (HoldsWrites s writes) old new
+wrote_all s writes run old mid new place few is same has kept =
+    becomes-kept (HoldsWrites s writes) old mid new kept
+    (becomes-wider (SameBut (InRange (segment_index s) (length run))) (HoldsWrites s writes) old mid (λ a b told now but. holds_all s writes run a b place few is but (has b now))
+    (becomes-seen (InRange (segment_index s) (length run)) old mid same))

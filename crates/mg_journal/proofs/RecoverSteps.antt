@@ -1,8 +1,10 @@
 -- The images of a recovery: homes are written, and then gates are closed.
-use Rattle.std.specs.Prelude.{◌≡◌, ◌≤◌, ℕ, true, List, Option, Some, None, IsSomeAnd, is_some, option_map}
+use Rattle.std.specs.Prelude.{◌≡◌, ◌≤◌, ℕ, true, List, Option, Some, None, option_map}
 use Rattle.std.specs.Option.{ForSome}
 use Rattle.std.proofs.Common.{refl, sym, ap, subst, ◌∙◌, arith}
+use Rattle.mg_disk.specs.BecomesLemmas.{becomes-changed, becomes-then}
 use Rattle.mg_disk.specs.Disk.{Image, SameBut}
+use Rattle.mg_disk.specs.Stops.{Becomes}
 use Rattle.mg_disk.specs.PlaceLemmas.{same_as}
 use Rattle.mg_model.specs.Layout.{segment_count, segment_gate}
 use Rattle.mg_model.specs.Replay.{replay, written}
@@ -10,18 +12,8 @@ use Rattle.mg_journal.specs.Applied.{filled}
 use Rattle.mg_journal.specs.Contents.{InJournal, SameContents, names}
 use Rattle.mg_journal.specs.JournalLemmas.{open_writes, replay-some, same_gate, same_wider, seen_both}
 use Rattle.mg_journal.proofs.Homes.{homes_torn, homes_written, since-behind}
-use Rattle.mg_journal.specs.Recovery.{AreOpen, IsClosedUpTo, IsRecovered, IsStill, Settles}
+use Rattle.mg_journal.specs.Recovery.{AreOpen, ClosesUpTo, IsClosedUpTo, IsRecovered, IsStill, Settles, StaysStill}
 use Rattle.mg_journal.specs.WrittenLemmas.{written_elsewhere}
-
--- what is told now of what was told before, seen from the end
-pub came_back : (P : Image → Image → Type 0) (told now : Option Image) → is_some now ≡ is_some told → ForSome told (λ a. IsSomeAnd now (P a)) → ForSome now (λ b. IsSomeAnd told (λ a. P a b))
-came_back P None None same each b is = absurd (let e : ◌≡◌ {A = Option Image} None (Some b) = is in cc)
-came_back P None (Some x) same each b is = absurd cc
-came_back P (Some a) now same each b is = subst (λ o. IsSomeAnd o (P a)) is (each a refl)
-
-pub some_weaker : {T : Type 0} (P Q : T → Type 0) (told : Option T) → ((x : T) → P x → Q x) → IsSomeAnd told P → IsSomeAnd told Q
-some_weaker P Q None sub is = is
-some_weaker P Q (Some x) sub is = sub x is
 
 -- what holds of a changed image, if it is told
 pub of_changed : (change : Image → Image) (told now : Option Image) (P : Image → Type 0) → now ≡ option_map change told → ((a : Image) → told ≡ Some a → P (change a)) → ForSome now P
@@ -60,3 +52,21 @@ module _ (total : ℕ) (places : List (ℕ × ℕ)) (a : Image) (settles : Settl
   -- once they are
   pub recovered_to : (c : Image) → IsClosedUpTo segment_count total homed c → IsRecovered total a c
   recovered_to c up_to = record { contents = while_closed c up_to.still; closed = up_to.shut }
+
+-- the homes are written, and then the gates are closed
+module _ (total : ℕ) (places : List (ℕ × ℕ)) (told mid now : Option Image) (settles : (a : Image) → told ≡ Some a → Settles total places a) (is : mid ≡ option_map (λ a. written a (filled a places)) told) where
+  abbrev IsHome : Image → Image → Type 0
+  IsHome a b = b ≡ written a (filled a places)
+
+  homes : Becomes IsHome told mid
+  homes = becomes-changed IsHome (λ a. written a (filled a places)) told mid is (λ a at. refl)
+
+  pub contents_stay : Becomes StaysStill mid now → Becomes (SameContents total) told now
+  contents_stay =
+      becomes-then IsHome StaysStill (SameContents total) told mid now
+      (λ a b c at home still. while_closed total places a (settles a at) c (subst (λ i. StaysStill i c) home still total (own total places a (settles a at)))) homes
+
+  pub recovered_from : Becomes (ClosesUpTo segment_count) mid now → Becomes (IsRecovered total) told now
+  recovered_from =
+      becomes-then IsHome (ClosesUpTo segment_count) (IsRecovered total) told mid now
+      (λ a b c at home closed. recovered_to total places a (settles a at) c (subst (λ i. ClosesUpTo segment_count i c) home closed total (own total places a (settles a at)))) homes

@@ -1,7 +1,9 @@
 -- What a view holds, and when it fits an image.
-use Rattle.std.specs.Prelude.{◌≡◌, ℕ, true, List}
+use Rattle.std.specs.Prelude.{◌≡◌, ◌≤◌, ℕ, true, List}
+use Rattle.std.specs.Option.{ForSome}
 use Rattle.mg_disk.specs.Disk.{Image}
-use Rattle.mg_model.specs.Layout.{segment_count}
+use Rattle.mg_disk.specs.declared.disk.Disk.{Ghosts}
+use Rattle.mg_model.specs.Layout.{globals_block, segment_count}
 use Rattle.mg_model.specs.Replay.{segments_fit}
 use Rattle.mg_journal.specs.Newest.{HasLast}
 use Rattle.mg_journal.specs.Places.{places_since}
@@ -16,3 +18,9 @@ pub record Placed : Type 0 where
 pub record Fits (view : Placed) (image : Image) : Type 0 where
   pub fit : segments_fit view.total image 0 segment_count ≡ true
   pub newest : HasLast (places_since image 0 segment_count) view.table
+
+-- the volume is on the disk, and the view fits what reads give
+pub record IsViewOf {D : Type 0} (facts : Ghosts D) (view : Placed) (disk : D) : Type 0 where
+  pub journal : globals_block ≤ view.total
+  pub room : view.total ≤ facts.block_count disk
+  pub fits : ForSome (facts.seen disk) (Fits view)

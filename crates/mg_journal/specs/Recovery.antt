@@ -38,6 +38,13 @@ pub record IsClosedUpTo (s total : ℕ) (a b : Image) : Type 0 where
   pub still : IsStill total a b
   pub shut : (t : ℕ) → t < s → is_open b t ≡ false
 
+-- while the gates are closed of an image that is its own replay, and once those before s are
+abbrev pub StaysStill : Image → Image → Type 0
+StaysStill a b = (total : ℕ) → replay a total ≡ Some a → IsStill total a b
+
+abbrev pub ClosesUpTo : ℕ → Image → Image → Type 0
+ClosesUpTo s a b = (total : ℕ) → replay a total ≡ Some a → IsClosedUpTo s total a b
+
 -- the contents of b are those of a, and no segment of b is open
 pub record IsRecovered (total : ℕ) (a b : Image) : Type 0 where
   pub contents : SameContents total a b

@@ -1,5 +1,5 @@
 -- When a store stands on a disk, and what a commit may leave.
-use Rattle.std.specs.Prelude.{◌≡◌, ◌⊎◌, ◌+◌, ◌≤◌, ◌<◌, if◌then◌else◌, nat_lt, ℕ, zero, suc, Bool, false, List, Some}
+use Rattle.std.specs.Prelude.{◌≡◌, ◌≢◌, ◌⊎◌, ◌+◌, ◌≤◌, ◌<◌, if◌then◌else◌, nat_lt, ℕ, zero, suc, Bool, true, false, List, [], Some}
 use Rattle.std.specs.Option.{ForSome}
 use Rattle.mg_disk.specs.Disk.{Image, SameBut}
 use Rattle.mg_disk.specs.Stops.{NothingPending}
@@ -40,6 +40,28 @@ pub record Stands {D : Type 0} (facts : Ghosts D) (store : Store) (disk : D) : T
   pub settled : NothingPending facts disk
   pub fits : ForSome (facts.seen disk) (IsFitting store)
 
+-- so it stands, and it may commit
+pub record CanCommit {D : Type 0} (facts : Ghosts D) (store : Store) (disk : D) : Type 0 where
+  pub live : is_live store ≡ true
+  pub stands : Stands facts store disk
+
+-- a store of so many blocks just after it was opened: it can commit, and no segment is open
+pub record IsOpened {D : Type 0} (facts : Ghosts D) (blocks : ℕ) (store : Store) (disk : D) : Type 0 where
+  pub stands : Stands facts store disk
+  pub live : is_live store ≡ true
+  pub total : total_of store ≡ blocks
+  pub closed : ForSome (facts.seen disk) AllClosed
+
+-- the store of the same volume, as live as before
+pub record SameVolume (old new : Store) : Type 0 where
+  pub live : is_live new ≡ is_live old
+  pub total : total_of new ≡ total_of old
+
+-- how many segments are open before and after room was made for one more
+pub record HasRoom (old new : ℕ) : Type 0 where
+  pub some : new < segment_count
+  pub first : old ≡ segment_count → new ≡ 0
+
 -- the contents of c are those of a, or those with these writes over them
 abbrev pub OldOrNew : ℕ → List (ℕ × List ℕ) → Image → Image → Type 0
 OldOrNew total writes a c = SameContents total a c ⊎ NewContents total a writes c
@@ -57,6 +79,11 @@ open_count image = open_since image 0 segment_count
 pub record IsLate (a b : Image) : Type 0 where
   pub more : open_count a < segment_count → (open_count b ≡ open_count a + 1) × SameBut InJournal a b
   pub again : open_count a ≡ segment_count → open_count b ≡ 1
+
+-- b has the contents of a with these writes over them, and if there are any it is as a commit leaves it
+pub record IsCommitted (total : ℕ) (writes : List (ℕ × List ℕ)) (a b : Image) : Type 0 where
+  pub contents : NewContents total a writes b
+  pub late : writes ≢ [] → IsLate a b
 
 -- when a store fits, the journal can be replayed
 pub fitting_replays : (store : Store) (image : Image) → IsFitting store image → (r : Image) × (replay image (total_of store) ≡ Some r)

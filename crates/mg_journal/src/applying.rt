@@ -1,8 +1,8 @@
 // Writing homes: the newest bodies are read from the journal into memory, and go home from there.
-ghost use Rattle.std.specs.Prelude.{◌≡◌, ◌≤◌, ◌<◌, ◌+◌, ℕ, All, IsSomeAnd, OnOk, is_some, length, min, option_map, true, vec_capacity};
+ghost use Rattle.std.specs.Prelude.{◌≡◌, ◌≤◌, ◌<◌, ◌+◌, ℕ, All, OnOk, length, min, option_map, true, vec_capacity};
 ghost use Rattle.std.specs.Option.{ForSome};
 ghost use Rattle.mg_disk.specs.Disk.{SameBut};
-ghost use Rattle.mg_disk.specs.Stops.{DiskCalls, Leaves, NothingPending, WritesNothing};
+ghost use Rattle.mg_disk.specs.Stops.{Becomes, DiskCalls, Leaves, NothingPending, OnlyReads};
 ghost use Rattle.mg_model.specs.Layout.{body_limit, globals_block};
 ghost use Rattle.mg_model.specs.Replay.{written};
 ghost use Rattle.mg_journal.specs.Applied.{AreInRow, HasBodies, HasRun, filled, nth_body};
@@ -57,8 +57,7 @@ impl HomeBuffers {
         requires all_on_disk { All (IsPlace (D.block_count disk.old)) places.now }
         ensures any_moment { NothingPending D.Disk disk.old → ForSome (D.seen disk.old) (λ image. Leaves D.Disk disk.old disk.new (SameBut (λ k. names (filled image places.now) k ≡ true) image)) }
         ensures written { OnOk result (D.seen disk.new ≡ option_map (λ image. written image (filled image places.now)) (D.seen disk.old)) }
-        ensures torn { ForSome (D.seen disk.old) (λ image. IsSomeAnd (D.seen disk.new) (SameBut (λ k. names (filled image places.now) k ≡ true) image)) }
-        ensures tells { is_some (D.seen disk.new) ≡ is_some (D.seen disk.old) }
+        ensures torn { Becomes (λ image. SameBut (λ k. names (filled image places.now) k ≡ true) image) (D.seen disk.old) (D.seen disk.new) }
         ensures settled { OnOk result (NothingPending D.Disk disk.new) }
         ensures calls { DiskCalls D.Disk disk.old disk.new result }
     {
@@ -114,8 +113,7 @@ fn read_part<D: Disk>(
     requires within_disk { globals_block ≤ D.block_count disk.old }
     ensures read { OnOk result (ForSome (D.seen disk.old) (λ image. HasBodies from places.now journal.old image → HasBodies to places.now journal.new image)) }
     ensures whole { length journal.new ≡ length journal.old }
-    ensures writes { WritesNothing D.Disk disk.old disk.new }
-    ensures calls { DiskCalls D.Disk disk.old disk.new result }
+    ensures reads { OnlyReads D.Disk disk.old disk.new result }
 {
     let (low, high) = span_of(places, from, to.min(journal.len() as u64));
     disk.read_blocks(low, &mut journal[low as usize..high as usize])
@@ -131,8 +129,7 @@ fn read_bodies<D: Disk>(
     requires within_disk { globals_block ≤ D.block_count disk.old }
     ensures read { OnOk result (ForSome (D.seen disk.old) (HasBodies globals_block places.now journal.new)) }
     ensures whole { length journal.new ≡ length journal.old }
-    ensures writes { WritesNothing D.Disk disk.old disk.new }
-    ensures calls { DiskCalls D.Disk disk.old disk.new result }
+    ensures reads { OnlyReads D.Disk disk.old disk.new result }
 {
     let mut from = 0;
     for segment in 0..SEGMENTS {
@@ -216,8 +213,7 @@ fn apply<D: Disk>(
     requires room { min (length places.now) body_limit ≤ length run.old }
     ensures any_moment { NothingPending D.Disk disk.old → ForSome (D.seen disk.old) (λ image. Leaves D.Disk disk.old disk.new (SameBut (λ k. names (filled image places.now) k ≡ true) image)) }
     ensures written { OnOk result (D.seen disk.new ≡ option_map (λ image. written image (filled image places.now)) (D.seen disk.old)) }
-    ensures torn { ForSome (D.seen disk.old) (λ image. IsSomeAnd (D.seen disk.new) (SameBut (λ k. names (filled image places.now) k ≡ true) image)) }
-    ensures tells { is_some (D.seen disk.new) ≡ is_some (D.seen disk.old) }
+    ensures torn { Becomes (λ image. SameBut (λ k. names (filled image places.now) k ≡ true) image) (D.seen disk.old) (D.seen disk.new) }
     ensures settled { OnOk result (NothingPending D.Disk disk.new) }
     ensures calls { DiskCalls D.Disk disk.old disk.new result }
 {

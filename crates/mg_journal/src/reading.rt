@@ -2,7 +2,7 @@
 ghost use Rattle.std.specs.Prelude.{◌≡◌, ◌≤◌, ◌<◌, ◌+◌, ◌&&◌, All, IfOk, OnErr, OnOk, false, length, nat_le, nat_lt, true};
 ghost use Rattle.std.specs.Option.{ForSome};
 ghost use Rattle.mg_disk.specs.Disk.{Image, block_at};
-ghost use Rattle.mg_disk.specs.Stops.{DiskCalls, DiskCallsBy, WritesNothing};
+ghost use Rattle.mg_disk.specs.Stops.{OnlyReads, OnlyReadsBy};
 ghost use Rattle.mg_model.specs.Layout.{body_limit, globals_block, segment_count, segment_index};
 ghost use Rattle.mg_model.specs.Replay.{body_count, is_open, segment_fits};
 ghost use Rattle.mg_journal.specs.Contents.{bodies_fit};
@@ -53,8 +53,7 @@ fn is_open<D: Disk>(disk: &mut D, segment: u64) -> Result<bool, Failed>
     requires segment { segment < segment_count }
     requires within_disk { globals_block ≤ D.block_count disk.old }
     ensures open_now { IfOk result (λ opened. ForSome (D.seen disk.old) (λ image. is_open image segment ≡ opened)) }
-    ensures writes { WritesNothing D.Disk disk.old disk.new }
-    ensures calls { DiskCalls D.Disk disk.old disk.new result }
+    ensures reads { OnlyReads D.Disk disk.old disk.new result }
 {
     let mut gate = [0; BLOCK_SIZE];
     disk.read(gate_of(segment), &mut gate)?;
@@ -76,8 +75,7 @@ fn look_index<D: Disk>(
     ensures damaged { result ≡ Err ViewFault.Damaged → ForSome (D.seen disk.old) (λ image. bodies_fit total image segment ≡ false) }
     ensures fit { All (IsPlace total) table.old → All (IsPlace total) table.new }
     ensures at_most_160_more { length table.new ≤ length table.old + body_limit }
-    ensures writes { WritesNothing D.Disk disk.old disk.new }
-    ensures calls { DiskCallsBy D.Disk disk.old disk.new (result ≡ Err ViewFault.Disk) }
+    ensures reads { OnlyReadsBy D.Disk disk.old disk.new (result ≡ Err ViewFault.Disk) }
 {
     let mut index = [0; BLOCK_SIZE];
     match disk.read(index_of(segment), &mut index) {
@@ -109,8 +107,7 @@ pub(crate) fn look_segment<D: Disk>(
     ensures damaged { result ≡ Err ViewFault.Damaged → ForSome (D.seen disk.old) (λ image. segment_fits total image segment ≡ false) }
     ensures fit { All (IsPlace total) table.old → All (IsPlace total) table.new }
     ensures at_most_160_more { length table.new ≤ length table.old + body_limit }
-    ensures writes { WritesNothing D.Disk disk.old disk.new }
-    ensures calls { DiskCallsBy D.Disk disk.old disk.new (result ≡ Err ViewFault.Disk) }
+    ensures reads { OnlyReadsBy D.Disk disk.old disk.new (result ≡ Err ViewFault.Disk) }
 {
     match is_open(disk, segment) {
         Ok(true) => look_index(disk, segment, total, table),

@@ -1,12 +1,12 @@
 // Recovery: what open segments hold is written to its homes, and then the gates are closed.
-ghost use Rattle.std.specs.Prelude.{◌≡◌, ◌≤◌, ◌<◌, ℕ, IsSomeAnd, OnOk, Some, is_some, true};
+ghost use Rattle.std.specs.Prelude.{◌≡◌, ◌≤◌, ◌<◌, ℕ, OnOk, Some, true};
 ghost use Rattle.std.specs.Option.{ForSome};
-ghost use Rattle.mg_disk.specs.Stops.{DiskCalls, Leaves, NothingPending};
+ghost use Rattle.mg_disk.specs.Stops.{Becomes, DiskCalls, Leaves, NothingPending};
 ghost use Rattle.mg_model.specs.Layout.{globals_block, segment_count};
 ghost use Rattle.mg_model.specs.Replay.{is_open, replay};
 ghost use Rattle.mg_journal.specs.Contents.{SameContents};
-ghost use Rattle.mg_journal.specs.Looked.{Fits};
-ghost use Rattle.mg_journal.specs.Recovery.{AreOpen, ClosedOne, IsClosedUpTo, IsRecovered, IsStill, MayCloseOne};
+ghost use Rattle.mg_journal.specs.Looked.{IsViewOf};
+ghost use Rattle.mg_journal.specs.Recovery.{AreOpen, ClosedOne, ClosesUpTo, IsRecovered, IsStill, MayCloseOne, StaysStill};
 
 use crate::committing::write_firmly;
 use crate::places::{SEGMENTS, closed_gate, gate_of, is_opened};
@@ -21,9 +21,8 @@ fn close_open<D: Disk>(disk: &mut D, segment: u64) -> Result<(), Failed>
     requires gate { ForSome (D.seen disk.old) (λ image. is_open image segment ≡ true) }
     requires settled { NothingPending D.Disk disk.old }
     ensures any_moment { ForSome (D.seen disk.old) (λ image. Leaves D.Disk disk.old disk.new (MayCloseOne segment image)) }
-    ensures may { ForSome (D.seen disk.old) (λ image. IsSomeAnd (D.seen disk.new) (MayCloseOne segment image)) }
-    ensures closed { OnOk result (ForSome (D.seen disk.old) (λ image. IsSomeAnd (D.seen disk.new) (ClosedOne segment image))) }
-    ensures tells { is_some (D.seen disk.new) ≡ is_some (D.seen disk.old) }
+    ensures may { Becomes (MayCloseOne segment) (D.seen disk.old) (D.seen disk.new) }
+    ensures closed { OnOk result (Becomes (ClosedOne segment) (D.seen disk.old) (D.seen disk.new)) }
     ensures settled { OnOk result (NothingPending D.Disk disk.new) }
     ensures calls { DiskCalls D.Disk disk.old disk.new result }
 {
@@ -37,9 +36,8 @@ fn close_gate<D: Disk>(disk: &mut D, segment: u64, is_known: bool) -> Result<(),
     requires known { is_known ≡ true → ForSome (D.seen disk.old) (λ image. is_open image segment ≡ true) }
     requires settled { NothingPending D.Disk disk.old }
     ensures any_moment { ForSome (D.seen disk.old) (λ image. Leaves D.Disk disk.old disk.new (MayCloseOne segment image)) }
-    ensures may { ForSome (D.seen disk.old) (λ image. IsSomeAnd (D.seen disk.new) (MayCloseOne segment image)) }
-    ensures closed { OnOk result (ForSome (D.seen disk.old) (λ image. IsSomeAnd (D.seen disk.new) (ClosedOne segment image))) }
-    ensures tells { is_some (D.seen disk.new) ≡ is_some (D.seen disk.old) }
+    ensures may { Becomes (MayCloseOne segment) (D.seen disk.old) (D.seen disk.new) }
+    ensures closed { OnOk result (Becomes (ClosedOne segment) (D.seen disk.old) (D.seen disk.new)) }
     ensures settled { OnOk result (NothingPending D.Disk disk.new) }
     ensures calls { DiskCalls D.Disk disk.old disk.new result }
 {
@@ -62,9 +60,8 @@ fn close_gates<D: Disk>(disk: &mut D, opened: u64) -> Result<(), Failed>
     requires gates { ForSome (D.seen disk.old) (AreOpen 0 opened) }
     requires settled { NothingPending D.Disk disk.old }
     ensures any_moment { ForSome (D.seen disk.old) (λ image. (total : ℕ) → replay image total ≡ Some image → Leaves D.Disk disk.old disk.new (IsStill total image)) }
-    ensures closed { OnOk result (ForSome (D.seen disk.old) (λ image. (total : ℕ) → replay image total ≡ Some image → IsSomeAnd (D.seen disk.new) (IsClosedUpTo segment_count total image))) }
-    ensures still { ForSome (D.seen disk.old) (λ image. (total : ℕ) → replay image total ≡ Some image → IsSomeAnd (D.seen disk.new) (IsStill total image)) }
-    ensures tells { is_some (D.seen disk.new) ≡ is_some (D.seen disk.old) }
+    ensures closed { OnOk result (Becomes (ClosesUpTo segment_count) (D.seen disk.old) (D.seen disk.new)) }
+    ensures still { Becomes StaysStill (D.seen disk.old) (D.seen disk.new) }
     ensures settled { OnOk result (NothingPending D.Disk disk.new) }
     ensures calls { DiskCalls D.Disk disk.old disk.new result }
 {
@@ -78,19 +75,14 @@ fn close_gates<D: Disk>(disk: &mut D, opened: u64) -> Result<(), Failed>
 /// synced; then the gates are closed, first to last. The bodies are read from the journal, and so are the gates, but for the first
 /// `opened` ones, which are open.
 pub(crate) fn recover<D: Disk>(disk: &mut D, view: &mut View, opened: u64) -> Result<(), Failed>
-    requires journal { globals_block ≤ view.old.total }
-    requires within_disk { view.old.total ≤ D.block_count disk.old }
-    requires fits { ForSome (D.seen disk.old) (λ image. Fits view.old image) }
+    requires looks { IsViewOf D.Disk view.old disk.old }
     requires at_most_8_open { opened ≤ segment_count }
     requires gates { ForSome (D.seen disk.old) (AreOpen 0 opened) }
     ensures any_moment { NothingPending D.Disk disk.old → ForSome (D.seen disk.old) (λ image. Leaves D.Disk disk.old disk.new (SameContents view.old.total image)) }
-    ensures contents { ForSome (D.seen disk.old) (λ image. IsSomeAnd (D.seen disk.new) (SameContents view.old.total image)) }
-    ensures recovered { OnOk result (ForSome (D.seen disk.old) (λ image. IsSomeAnd (D.seen disk.new) (IsRecovered view.old.total image))) }
-    ensures came_from { OnOk result (ForSome (D.seen disk.new) (λ now. IsSomeAnd (D.seen disk.old) (λ image. IsRecovered view.old.total image now))) }
-    ensures tells { is_some (D.seen disk.new) ≡ is_some (D.seen disk.old) }
+    ensures contents { Becomes (SameContents view.old.total) (D.seen disk.old) (D.seen disk.new) }
+    ensures recovered { OnOk result (Becomes (IsRecovered view.old.total) (D.seen disk.old) (D.seen disk.new)) }
     ensures settled { OnOk result (NothingPending D.Disk disk.new) }
-    ensures total { view.new.total ≡ view.old.total }
-    ensures table { view.new.table ≡ view.old.table }
+    ensures same { view.new ≡ view.old }
     ensures calls { DiskCalls D.Disk disk.old disk.new result }
 {
     view.write_homes(disk)?;

@@ -1,15 +1,15 @@
 // The journal of a volume: commits that a stop leaves whole or absent.
-ghost use Rattle.std.specs.Prelude.{◌≡◌, ◌≢◌, ◌≤◌, ◌<◌, ◌+◌, [], IfOk, IsOk, IsSome, IsSomeAnd, None, OnOk, is_ok, is_some, length, true};
+ghost use Rattle.std.specs.Prelude.{◌≡◌, ◌≤◌, ◌<◌, ◌+◌, [], IfOk, IsOk, IsSome, None, OnOk, is_ok, length, true};
 ghost use Rattle.std.specs.Option.{ForSome};
 ghost use Rattle.mg_disk.specs.Disk.{block_at};
-ghost use Rattle.mg_disk.specs.Stops.{DiskCalls, DiskCallsBy, Leaves, NothingPending, WritesNothing};
+ghost use Rattle.mg_disk.specs.Stops.{Becomes, DiskCalls, DiskCallsBy, Leaves, NothingPending, OnlyReads, WritesNothing};
 ghost use Rattle.mg_model.specs.Layout.{body_limit, globals_block, segment_body, segment_count};
 ghost use Rattle.mg_model.specs.Replay.{homes_fit, replay};
-ghost use Rattle.mg_journal.specs.Contents.{NewContents, SameContents};
-ghost use Rattle.mg_journal.specs.Looked.{Fits};
+ghost use Rattle.mg_journal.specs.Contents.{SameContents};
+ghost use Rattle.mg_journal.specs.Looked.{IsViewOf};
 ghost use Rattle.mg_journal.specs.Newest.{Adds};
 ghost use Rattle.mg_journal.specs.Phases.{IsNext};
-ghost use Rattle.mg_journal.specs.Standing.{AllClosed, IsLate, OldOrNew, Stands, is_live, total_of};
+ghost use Rattle.mg_journal.specs.Standing.{AllClosed, CanCommit, HasRoom, IsCommitted, IsOpened, OldOrNew, SameVolume, Stands, is_live, total_of};
 
 use crate::committing::write_firmly;
 use crate::faults::ViewFault;
@@ -56,13 +56,9 @@ impl Store {
         requires journal { globals_block ≤ total }
         requires within_disk { total ≤ D.block_count disk.old }
         ensures any_moment { NothingPending D.Disk disk.old → ForSome (D.seen disk.old) (λ image. Leaves D.Disk disk.old disk.new (SameContents total image)) }
-        ensures contents { ForSome (D.seen disk.old) (λ image. IsSomeAnd (D.seen disk.new) (SameContents total image)) }
-        ensures came_from { ForSome (D.seen disk.new) (λ now. IsSomeAnd (D.seen disk.old) (λ image. SameContents total image now)) }
-        ensures stands { IfOk result (λ store. Stands D.Disk store disk.new) }
-        ensures live { IfOk result (λ store. is_live store ≡ true) }
-        ensures total { IfOk result (λ store. total_of store ≡ total) }
+        ensures contents { Becomes (SameContents total) (D.seen disk.old) (D.seen disk.new) }
+        ensures opened { IfOk result (λ store. IsOpened D.Disk total store disk.new) }
         ensures replayed { IfOk result (λ _. ForSome (D.seen disk.old) (λ image. IsSome (replay image total))) }
-        ensures closed { IfOk result (λ _. ForSome (D.seen disk.new) AllClosed) }
         ensures damaged { result ≡ Err ViewFault.Damaged → ForSome (D.seen disk.old) (λ image. replay image total ≡ None) }
         ensures untouched { result ≡ Err ViewFault.Damaged → WritesNothing D.Disk disk.old disk.new }
         ensures calls { DiskCallsBy D.Disk disk.old disk.new (result ≡ Err ViewFault.Disk) }
@@ -80,17 +76,10 @@ impl Store {
     /// Opens the journal of a disk that this view fits, as [`Store::open`] does once it has looked through the journal. It
     /// takes no memory. [`Failed`] comes only if a call of the disk failed.
     pub fn recover<D: Disk>(disk: &mut D, mut view: View) -> Result<Store, Failed>
-        requires journal { globals_block ≤ view.total }
-        requires within_disk { view.total ≤ D.block_count disk.old }
-        requires fits { ForSome (D.seen disk.old) (λ image. Fits view image) }
+        requires looks { IsViewOf D.Disk view disk.old }
         ensures any_moment { NothingPending D.Disk disk.old → ForSome (D.seen disk.old) (λ image. Leaves D.Disk disk.old disk.new (SameContents view.total image)) }
-        ensures contents { ForSome (D.seen disk.old) (λ image. IsSomeAnd (D.seen disk.new) (SameContents view.total image)) }
-        ensures came_from { ForSome (D.seen disk.new) (λ now. IsSomeAnd (D.seen disk.old) (λ image. SameContents view.total image now)) }
-        ensures tells { is_some (D.seen disk.new) ≡ is_some (D.seen disk.old) }
-        ensures stands { IfOk result (λ store. Stands D.Disk store disk.new) }
-        ensures live { IfOk result (λ store. is_live store ≡ true) }
-        ensures total { IfOk result (λ store. total_of store ≡ view.total) }
-        ensures closed { IfOk result (λ _. ForSome (D.seen disk.new) AllClosed) }
+        ensures contents { Becomes (SameContents view.total) (D.seen disk.old) (D.seen disk.new) }
+        ensures opened { IfOk result (λ store. IsOpened D.Disk view.total store disk.new) }
         ensures calls { DiskCalls D.Disk disk.old disk.new result }
     {
         match recover(disk, &mut view, 0) {
@@ -118,16 +107,13 @@ impl Store {
     /// the homes and closes the gates. With nothing in `writes` no call is made. After [`Failed`], which comes only if a call of
     /// the disk failed, it is not live: the disk has the old contents or the new.
     pub fn commit<D: Disk>(&mut self, disk: &mut D, writes: &Writes) -> Result<(), Failed>
-        requires live { is_live self.old ≡ true }
-        requires stands { Stands D.Disk self.old disk.old }
+        requires ready { CanCommit D.Disk self.old disk.old }
         requires homes { homes_fit (total_of self.old) writes.now ≡ true }
         ensures any_moment { ForSome (D.seen disk.old) (λ image. Leaves D.Disk disk.old disk.new (OldOrNew (total_of self.old) writes.now image)) }
-        ensures done { OnOk result (ForSome (D.seen disk.old) (λ image. IsSomeAnd (D.seen disk.new) (NewContents (total_of self.old) image writes.now))) }
-        ensures came_from { OnOk result (ForSome (D.seen disk.new) (λ now. IsSomeAnd (D.seen disk.old) (λ image. NewContents (total_of self.old) image writes.now now))) }
+        ensures done { OnOk result (Becomes (IsCommitted (total_of self.old) writes.now) (D.seen disk.old) (D.seen disk.new)) }
         ensures stands { OnOk result (Stands D.Disk self.new disk.new) }
         ensures live { is_live self.new ≡ is_ok result }
         ensures total { total_of self.new ≡ total_of self.old }
-        ensures late { writes.now ≢ [] → OnOk result (ForSome (D.seen disk.old) (λ image. IsSomeAnd (D.seen disk.new) (IsLate image))) }
         ensures no_call { writes.now ≡ [] → (disk.new ≡ disk.old) × IsOk result }
         ensures calls { DiskCalls D.Disk disk.old disk.new result }
     {
@@ -149,8 +135,7 @@ impl Store {
         requires stands { Stands D.Disk self.now disk.old }
         ensures block { OnOk result (ForSome (D.seen disk.old) (λ image. ForSome (replay image (total_of self.now)) (λ r. out.new ≡ block_at r i))) }
         ensures stands { Stands D.Disk self.now disk.new }
-        ensures writes { WritesNothing D.Disk disk.old disk.new }
-        ensures calls { DiskCalls D.Disk disk.old disk.new result }
+        ensures reads { OnlyReads D.Disk disk.old disk.new result }
     {
         self.view.read(disk, i, out)
     }
@@ -161,12 +146,9 @@ impl Store {
         requires homes { homes_fit (total_of self.old) writes.now ≡ true }
         requires at_most_160_writes { length writes.now ≤ body_limit }
         ensures any_moment { ForSome (D.seen disk.old) (λ image. Leaves D.Disk disk.old disk.new (OldOrNew (total_of self.old) writes.now image)) }
-        ensures done { OnOk result (ForSome (D.seen disk.old) (λ image. IsSomeAnd (D.seen disk.new) (NewContents (total_of self.old) image writes.now))) }
-        ensures tells { OnOk result (is_some (D.seen disk.new) ≡ is_some (D.seen disk.old)) }
-        ensures late { OnOk result (ForSome (D.seen disk.old) (λ image. IsSomeAnd (D.seen disk.new) (IsLate image))) }
+        ensures done { OnOk result (Becomes (IsCommitted (total_of self.old) writes.now) (D.seen disk.old) (D.seen disk.new)) }
         ensures stands { OnOk result (Stands D.Disk self.new disk.new) }
-        ensures live { is_live self.new ≡ is_live self.old }
-        ensures total { total_of self.new ≡ total_of self.old }
+        ensures same { SameVolume self.old self.new }
         ensures calls { DiskCalls D.Disk disk.old disk.new result }
     {
         self.make_room(disk)?;
@@ -179,15 +161,12 @@ impl Store {
     fn make_room<D: Disk>(&mut self, disk: &mut D) -> Result<(), Failed>
         requires stands { Stands D.Disk self.old disk.old }
         ensures any_moment { ForSome (D.seen disk.old) (λ image. Leaves D.Disk disk.old disk.new (SameContents (total_of self.old) image)) }
-        ensures contents { OnOk result (ForSome (D.seen disk.old) (λ image. IsSomeAnd (D.seen disk.new) (SameContents (total_of self.old) image))) }
-        ensures tells { OnOk result (is_some (D.seen disk.new) ≡ is_some (D.seen disk.old)) }
+        ensures contents { OnOk result (Becomes (SameContents (total_of self.old)) (D.seen disk.old) (D.seen disk.new)) }
         ensures stands { OnOk result (Stands D.Disk self.new disk.new) }
-        ensures fewer_than_8_open { OnOk result (self.new.opened < segment_count) }
+        ensures room { OnOk result (HasRoom self.old.opened self.new.opened) }
         ensures at_most_8_open { self.old.opened ≤ segment_count }
         ensures kept { self.old.opened < segment_count → (D.seen disk.new ≡ D.seen disk.old) × (self.new.opened ≡ self.old.opened) }
-        ensures first { OnOk result (self.old.opened ≡ segment_count → self.new.opened ≡ 0) }
-        ensures live { is_live self.new ≡ is_live self.old }
-        ensures total { total_of self.new ≡ total_of self.old }
+        ensures same { SameVolume self.old self.new }
         ensures calls { DiskCalls D.Disk disk.old disk.new result }
     {
         if self.opened < SEGMENTS {
@@ -201,10 +180,9 @@ impl Store {
     /// the gates first to last, with a sync after each, so that no segment is open. The contents stay, whatever the answer. After
     /// [`Failed`], which comes only if a call of the disk failed, it is not live.
     pub fn checkpoint<D: Disk>(&mut self, disk: &mut D) -> Result<(), Failed>
-        requires live { is_live self.old ≡ true }
-        requires stands { Stands D.Disk self.old disk.old }
+        requires ready { CanCommit D.Disk self.old disk.old }
         ensures any_moment { ForSome (D.seen disk.old) (λ image. Leaves D.Disk disk.old disk.new (SameContents (total_of self.old) image)) }
-        ensures contents { ForSome (D.seen disk.old) (λ image. IsSomeAnd (D.seen disk.new) (SameContents (total_of self.old) image)) }
+        ensures contents { Becomes (SameContents (total_of self.old)) (D.seen disk.old) (D.seen disk.new) }
         ensures closed { OnOk result (ForSome (D.seen disk.new) AllClosed) }
         ensures stands { OnOk result (Stands D.Disk self.new disk.new) }
         ensures live { is_live self.new ≡ is_ok result }
@@ -224,13 +202,11 @@ impl Store {
     fn close_segments<D: Disk>(&mut self, disk: &mut D) -> Result<(), Failed>
         requires stands { Stands D.Disk self.old disk.old }
         ensures any_moment { ForSome (D.seen disk.old) (λ image. Leaves D.Disk disk.old disk.new (SameContents (total_of self.old) image)) }
-        ensures contents { ForSome (D.seen disk.old) (λ image. IsSomeAnd (D.seen disk.new) (SameContents (total_of self.old) image)) }
-        ensures tells { is_some (D.seen disk.new) ≡ is_some (D.seen disk.old) }
+        ensures contents { Becomes (SameContents (total_of self.old)) (D.seen disk.old) (D.seen disk.new) }
         ensures stands { OnOk result (Stands D.Disk self.new disk.new) }
         ensures none { OnOk result (self.new.opened ≡ 0) }
         ensures closed { OnOk result (ForSome (D.seen disk.new) AllClosed) }
-        ensures live { is_live self.new ≡ is_live self.old }
-        ensures total { total_of self.new ≡ total_of self.old }
+        ensures same { SameVolume self.old self.new }
         ensures calls { DiskCalls D.Disk disk.old disk.new result }
     {
         recover(disk, &mut self.view, self.opened)?;
@@ -246,8 +222,7 @@ impl Store {
         requires homes { homes_fit (total_of self.now) writes.now ≡ true }
         requires at_most_160_writes { length writes.now ≤ body_limit }
         ensures any_moment { ForSome (D.seen disk.old) (λ image. Leaves D.Disk disk.old disk.new (OldOrNew (total_of self.now) writes.now image)) }
-        ensures next { OnOk result (ForSome (D.seen disk.old) (λ image. IsSomeAnd (D.seen disk.new) (IsNext (total_of self.now) self.now.opened writes.now image))) }
-        ensures tells { OnOk result (is_some (D.seen disk.new) ≡ is_some (D.seen disk.old)) }
+        ensures next { OnOk result (Becomes (IsNext (total_of self.now) self.now.opened writes.now) (D.seen disk.old) (D.seen disk.new)) }
         ensures settled { OnOk result (NothingPending D.Disk disk.new) }
         ensures calls { DiskCalls D.Disk disk.old disk.new result }
     {
@@ -262,8 +237,7 @@ impl Store {
         requires at_most_160_writes { length writes.now ≤ body_limit }
         ensures opened { self.new.opened ≡ self.old.opened + 1 }
         ensures added { Adds (segment_body self.old.opened 0) writes.now self.old.table self.new.table }
-        ensures live { is_live self.new ≡ is_live self.old }
-        ensures total { total_of self.new ≡ total_of self.old }
+        ensures same { SameVolume self.old self.new }
     {
         self.view.add(index_of(self.opened) + 1, writes);
         self.opened += 1;

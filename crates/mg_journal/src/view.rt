@@ -1,8 +1,8 @@
 // A journal that is looked through and left as it is.
-ghost use Rattle.std.specs.Prelude.{◌≡◌, ◌+◌, ◌≤◌, ◌<◌, [], All, IfOk, IsSome, IsSomeAnd, None, OnOk, is_some, length, option_map, true};
+ghost use Rattle.std.specs.Prelude.{◌≡◌, ◌+◌, ◌≤◌, ◌<◌, [], All, IfOk, IsSome, None, OnOk, length, option_map, true};
 ghost use Rattle.std.specs.Option.{ForSome};
 ghost use Rattle.mg_disk.specs.Disk.{HasBlocks, SameBut, block_at};
-ghost use Rattle.mg_disk.specs.Stops.{DiskCalls, DiskCallsBy, Leaves, NothingPending, WritesNothing};
+ghost use Rattle.mg_disk.specs.Stops.{Becomes, DiskCalls, Leaves, NothingPending, OnlyReads, OnlyReadsBy};
 ghost use Rattle.mg_model.specs.Layout.{globals_block, segment_count};
 ghost use Rattle.mg_model.specs.Replay.{homes_fit, replay, written};
 ghost use Rattle.mg_journal.specs.Applied.{filled};
@@ -57,8 +57,7 @@ impl View {
         ensures total { IfOk result (λ view. view.total ≡ total) }
         ensures damaged { result ≡ Err ViewFault.Damaged → ForSome (D.seen disk.old) (λ image. replay image total ≡ None) }
         ensures replayed { IfOk result (λ _. ForSome (D.seen disk.old) (λ image. IsSome (replay image total))) }
-        ensures writes { WritesNothing D.Disk disk.old disk.new }
-        ensures calls { DiskCallsBy D.Disk disk.old disk.new (result ≡ Err ViewFault.Disk) }
+        ensures reads { OnlyReadsBy D.Disk disk.old disk.new (result ≡ Err ViewFault.Disk) }
     {
         let mut table = match Table::new(alloc) {
             Ok(table) => table,
@@ -90,8 +89,7 @@ impl View {
         ensures same { self.new ≡ self.old }
         ensures any_moment { NothingPending D.Disk disk.old → ForSome (D.seen disk.old) (λ image. Leaves D.Disk disk.old disk.new (SameBut (λ k. names (filled image self.old.table) k ≡ true) image)) }
         ensures written { OnOk result (D.seen disk.new ≡ option_map (λ image. written image (filled image self.old.table)) (D.seen disk.old)) }
-        ensures torn { ForSome (D.seen disk.old) (λ image. IsSomeAnd (D.seen disk.new) (SameBut (λ k. names (filled image self.old.table) k ≡ true) image)) }
-        ensures tells { is_some (D.seen disk.new) ≡ is_some (D.seen disk.old) }
+        ensures torn { Becomes (λ image. SameBut (λ k. names (filled image self.old.table) k ≡ true) image) (D.seen disk.old) (D.seen disk.new) }
         ensures settled { OnOk result (NothingPending D.Disk disk.new) }
         ensures calls { DiskCalls D.Disk disk.old disk.new result }
     {
@@ -135,8 +133,7 @@ impl View {
         requires within_disk { self.now.total ≤ D.block_count disk.old }
         requires fits { ForSome (D.seen disk.old) (λ image. Fits self.now image) }
         ensures block { OnOk result (ForSome (D.seen disk.old) (λ image. ForSome (replay image self.now.total) (λ r. out.new ≡ block_at r i))) }
-        ensures writes { WritesNothing D.Disk disk.old disk.new }
-        ensures calls { DiskCalls D.Disk disk.old disk.new result }
+        ensures reads { OnlyReads D.Disk disk.old disk.new result }
     {
         disk.read(self.place_of(i), out)
     }
@@ -153,8 +150,7 @@ impl View {
         requires fits { ForSome (D.seen disk.old) (λ image. Fits self.now image) }
         ensures read { OnOk result (ForSome (D.seen disk.old) (λ image. ForSome (replay image self.now.total) (HasBlocks first out.new))) }
         ensures count { length out.new ≡ length out.old }
-        ensures writes { WritesNothing D.Disk disk.old disk.new }
-        ensures calls { DiskCalls D.Disk disk.old disk.new result }
+        ensures reads { OnlyReads D.Disk disk.old disk.new result }
     {
         disk.keeps_count();
         disk.read_blocks(first, out)?;
@@ -171,8 +167,7 @@ impl View {
         requires fits { ForSome (D.seen disk.old) (λ image. Fits self.now image) }
         requires home { ForSome (D.seen disk.old) (λ image. block.old ≡ block_at image i) }
         ensures block { OnOk result (ForSome (D.seen disk.old) (λ image. ForSome (replay image self.now.total) (λ r. block.new ≡ block_at r i))) }
-        ensures writes { WritesNothing D.Disk disk.old disk.new }
-        ensures calls { DiskCalls D.Disk disk.old disk.new result }
+        ensures reads { OnlyReads D.Disk disk.old disk.new result }
     {
         let place = self.place_of(i);
         if place == i {

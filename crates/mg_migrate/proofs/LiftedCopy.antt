@@ -20,7 +20,8 @@ use Rattle.mg_migrate.specs.Copied.{IsCopy, MayCopy, ReadsNow}
 use Rattle.mg_migrate.specs.Layout1.{total1_blocks}
 use Rattle.mg_migrate.specs.Lifted.{IsLifted, lifted}
 use Rattle.mg_migrate.specs.LiftedView.{LiftedView}
-use Rattle.mg_migrate.specs.Migrated.{HasLifted, IsLiftOf, IsState1, MayMigrate, needed}
+use Rattle.mg_migrate.specs.Migrated.{HasLifted, IsLiftOf, IsMigrated, IsState1, MayMigrate, needed}
+use Rattle.mg_migrate.specs.MigratedLemmas.{reads-wider}
 use Rattle.mg_migrate.specs.OldRead.{IsOldRead}
 use Rattle.mg_migrate.specs.Version1.{Volume1Read, as_volume1, lift, lift_volume, replayed1_volume, volume1}
 use Rattle.mg_model.specs.Layout.{total_blocks}
@@ -34,12 +35,6 @@ of_state NotVolume x P is then = absurd (cc)
 of_state OldVolume x P is then = absurd (cc)
 of_state Damaged x P is then = absurd (cc)
 of_state (Is s) x P is then = then s refl (cc)
-
--- what reads give has what follows of what it has
-reads-wider : (P Q : Image → Type 0) → ((c : Image) → P c → Q c) → (old new : Option Image) → ReadsNow P old new → ReadsNow Q old new
-reads-wider P Q then None new is = is
-reads-wider P Q then (Some before) None is = absurd is
-reads-wider P Q then (Some before) (Some c) is = then c is
 
 no_state : (c : Image) → volume c ≡ NotVolume → IsNoState (volume c)
 no_state c is = subst (λ (v : VolumeRead). IsNoState v) (sym is) (tt {0})
@@ -86,11 +81,8 @@ module _ (seen : LiftedView) (rows : VolumeRows) (image : Image) (read : IsOldRe
   pub copy-may : (new c : Image) → MayCopy (total_blocks seen.settings.frames) new old_lifted c → MayMigrate new (volume1 image) c
   copy-may new c may = ⊎_elim (λ none. inl (no_state c none)) (λ rest. ⊎_elim (λ before. inr (inl before)) (λ copy. inr (inr (copy-lifts c copy))) rest) may
 
-  pub reads-lift : (old new : Option Image) → ReadsNow (IsCopy (total_blocks seen.settings.frames) old_lifted) old new → ReadsNow (IsLiftOf (volume1 image)) old new
-  reads-lift old new is = reads-wider _ (IsLiftOf (volume1 image)) copy-lifts old new is
-
-  pub reads-places : (old new : Option Image) → ReadsNow (IsCopy (total_blocks seen.settings.frames) old_lifted) old new → ReadsNow (HasLifted image) old new
-  reads-places old new is = reads-wider _ (HasLifted image) copy-places old new is
+  pub reads-migrated : (old new : Option Image) → ReadsNow (IsCopy (total_blocks seen.settings.frames) old_lifted) old new → ReadsNow (IsMigrated image) old new
+  reads-migrated old new is = reads-wider _ (IsMigrated image) (λ c copy. record { state = copy-lifts c copy; blocks = copy-places c copy }) old new is
 
   -- the contents that reads of the old disk give
   pub contents-are : {E : Type 0} (facts : Ghosts E) (old : E) → seen.placed.total ≡ total1_blocks seen.settings.frames → facts.seen old ≡ Some image

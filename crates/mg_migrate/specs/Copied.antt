@@ -2,6 +2,7 @@
 use Rattle.std.specs.Prelude.{◌≡◌, ◌≢◌, ◌⊎◌, ℕ, ◌<◌, ◌≤◌, length, Option, Some, None, IsSomeAnd}
 use Rattle.std.specs.Option.{ForSome}
 use Rattle.mg_disk.specs.Disk.{Image, InRange}
+use Rattle.mg_disk.specs.Stops.{NothingPending}
 use Rattle.mg_disk.specs.declared.disk.Disk.{Ghosts}
 use Rattle.mg_layout.specs.MayFormat.{opened}
 use Rattle.mg_model.specs.Layout.{gate_open}
@@ -40,3 +41,13 @@ pub record StandsClosed {D : Type 0} (facts : Ghosts D) (disk : D) : Type 0 wher
 abbrev pub ReadsNow : (Image → Type 0) → Option Image → Option Image → Type 0
 ReadsNow P None new = new ≡ None
 ReadsNow P (Some image) new = IsSomeAnd new P
+
+-- so it is of what reads give, and a stop leaves no image that has not P
+pub record HoldsNow {D : Type 0} (facts : Ghosts D) (P : Image → Type 0) (old new : D) : Type 0 where
+  pub reads : ReadsNow P (facts.seen old) (facts.seen new)
+  pub left : (c : Image) → facts.left_since new (facts.moment new) c → P c
+
+-- reads give a copy of these contents, and nothing is pending
+pub record StandsCopied {D : Type 0} (facts : Ghosts D) (n : ℕ) (from : Option Image) (old new : D) : Type 0 where
+  pub reads : ForSome from (λ r. ReadsNow (IsCopy n r) (facts.seen old) (facts.seen new))
+  pub settled : NothingPending facts new

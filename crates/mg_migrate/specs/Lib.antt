@@ -13,3 +13,5 @@ pub mod LiftedView
 pub mod OldRead
 pub mod Copied
 pub mod Migrated
+-- Lemmas that crates above cite.
+pub mod MigratedLemmas

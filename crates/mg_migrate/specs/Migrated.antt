@@ -5,7 +5,7 @@ use Rattle.mg_check.specs.Summaries.{summary_of}
 use Rattle.mg_disk.specs.Disk.{Image}
 use Rattle.mg_layout.specs.MayFormat.{IsNoState, opened}
 use Rattle.mg_migrate.specs.Lifted.{IsLifted, IsReplayed1}
-use Rattle.mg_migrate.specs.Version1.{Damaged1, Is1, NewVolume1, NotVolume1, OldVolume1, Volume1Read, lift}
+use Rattle.mg_migrate.specs.Version1.{Damaged1, Is1, NewVolume1, NotVolume1, OldVolume1, Volume1Read, lift, volume1}
 use Rattle.mg_migrate.specs.declared.migrating.MigrateFault.{MigrateFault}
 use Rattle.mg_migrate.specs.declared.migrating.MigrateFault.TheVariants as fault
 use Rattle.mg_model.specs.Layout.{total_blocks}
@@ -50,6 +50,11 @@ pub record HasLifted (old c : Image) : Type 0 where
   pub replayed : Image
   pub is : IsReplayed1 settings old replayed
   pub lifted : IsLifted settings replayed c
+
+-- what a migration makes of the old image: the new one spells its state, lifted, and has its blocks
+pub record IsMigrated (old c : Image) : Type 0 where
+  pub state : IsLiftOf (volume1 old) c
+  pub blocks : HasLifted old c
 
 -- no state, what the blocks after the gate of the new disk spelled before, or the old state with passwords that never end
 abbrev pub MayMigrate : Image → Volume1Read → Image → Type 0

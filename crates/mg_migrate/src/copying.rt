@@ -2,10 +2,10 @@
 // that disk spelled, or the copy.
 ghost use Rattle.std.specs.Prelude.{◌≡◌, ◌≢◌, ◌+◌, ◌^◌, ◌≤◌, ◌<◌, OnOk, length};
 ghost use Rattle.std.specs.Option.{ForSome};
-ghost use Rattle.mg_check.specs.Reads.{CanRead, OnlyRead, contents};
+ghost use Rattle.mg_check.specs.Reads.{CanRead, contents};
 ghost use Rattle.mg_disk.specs.Disk.{InRange, SameBut, SeenBut, TornAt, only_place};
-ghost use Rattle.mg_disk.specs.Stops.{CountRose, DiskCallsBy, Leaves, NothingPending, TimeGoes};
-ghost use Rattle.mg_migrate.specs.Copied.{AreCopied, AreSame, IsCopy, MayCopy, ReadsNow, StandsClosed};
+ghost use Rattle.mg_disk.specs.Stops.{DiskCallsBy, Leaves, NothingPending, OnlyReadsBy, TimeGoes};
+ghost use Rattle.mg_migrate.specs.Copied.{AreCopied, AreSame, MayCopy, StandsClosed, StandsCopied};
 ghost use Rattle.mg_model.specs.Layout.{gate_block};
 ghost use Rattle.mg_model.specs.Volume.{gate_byte};
 
@@ -39,11 +39,9 @@ pub(crate) fn copy<C: Contents, D: Disk, E: Disk>(
     requires within_disk { C.total view.now ≤ D.block_count new.old }
     requires can { CanRead E.Disk (C.need view.now) (C.Fits view.now) old.old }
     ensures any_moment { NothingPending D.Disk new.old → ForSome (D.seen new.old) (λ image. ForSome (contents E.Disk (C.of view.now) old.old) (λ r. Leaves D.Disk new.old new.new (MayCopy (C.total view.now) image r))) }
-    ensures made { OnOk result (ForSome (contents E.Disk (C.of view.now) old.old) (λ r. ReadsNow (IsCopy (C.total view.now) r) (D.seen new.old) (D.seen new.new))) }
-    ensures settled { OnOk result (NothingPending D.Disk new.new) }
+    ensures copied { OnOk result (StandsCopied D.Disk (C.total view.now) (contents E.Disk (C.of view.now) old.old) new.old new.new) }
     ensures closed { result ≡ Err CopyFault.From → StandsClosed D.Disk new.new }
-    ensures reads { OnlyRead E.Disk old.old old.new }
-    ensures cause { result ≡ Err CopyFault.From → CountRose E.Disk old.old old.new }
+    ensures reads { OnlyReadsBy E.Disk old.old old.new (result ≡ Err CopyFault.From) }
     ensures calls { DiskCallsBy D.Disk new.old new.new (result ≡ Err CopyFault.To) }
 {
     write_gate(new, 0)?;
@@ -83,8 +81,7 @@ fn copy_behind<C: Contents, D: Disk, E: Disk>(
     ensures seen { SeenBut (λ k. 1 ≤ k) (D.seen new.old) (D.seen new.new) }
     ensures copied { OnOk result (ForSome (contents E.Disk (C.of view.now) old.old) (λ r. ForSome (D.seen new.new) (AreCopied (C.total view.now) r))) }
     ensures settled { OnOk result (NothingPending D.Disk new.new) }
-    ensures reads { OnlyRead E.Disk old.old old.new }
-    ensures cause { result ≡ Err CopyFault.From → CountRose E.Disk old.old old.new }
+    ensures reads { OnlyReadsBy E.Disk old.old old.new (result ≡ Err CopyFault.From) }
     ensures calls { DiskCallsBy D.Disk new.old new.new (result ≡ Err CopyFault.To) }
 {
     let mut blocks = [[0; BLOCK_SIZE]; COPY_BLOCKS];
@@ -113,8 +110,7 @@ fn copy_blocks<C: Contents, D: Disk, E: Disk>(
     ensures stops { TimeGoes D.Disk new.old new.new (TornAt (InRange first (length blocks.old)) (D.left_since new.old (D.moment new.old))) }
     ensures seen { SeenBut (InRange first (length blocks.old)) (D.seen new.old) (D.seen new.new) }
     ensures copied { OnOk result (ForSome (contents E.Disk (C.of view.now) old.old) (λ r. ForSome (D.seen new.new) (AreSame first (length blocks.old) r))) }
-    ensures reads { OnlyRead E.Disk old.old old.new }
-    ensures cause { result ≡ Err CopyFault.From → CountRose E.Disk old.old old.new }
+    ensures reads { OnlyReadsBy E.Disk old.old old.new (result ≡ Err CopyFault.From) }
     ensures calls { DiskCallsBy D.Disk new.old new.new (result ≡ Err CopyFault.To) }
 {
     match view.read_blocks(old, first, blocks) {

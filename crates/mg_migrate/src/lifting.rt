@@ -2,7 +2,7 @@
 ghost use Rattle.std.specs.Prelude.{◌≡◌, ◌≤◌, ◌<◌, ◌+◌, ◌/◌, ◌%◌, OnOk, option_map};
 ghost use Rattle.std.specs.Option.{ForSome};
 ghost use Rattle.mg_disk.specs.Disk.{Image};
-ghost use Rattle.mg_disk.specs.Stops.{DiskCalls, WritesNothing};
+ghost use Rattle.mg_disk.specs.Stops.{OnlyReads};
 ghost use Rattle.mg_journal.specs.Looked.{Fits};
 ghost use Rattle.mg_migrate.specs.Layout1.{total1_blocks};
 ghost use Rattle.mg_migrate.specs.Lifted.{lifted, lifted_block, lifted_objects};
@@ -70,8 +70,7 @@ fn read_objects<D: Disk>(view: &View, disk: &mut D, k: u64, out: &mut Block) -> 
     requires within_disk { view.now.total ≤ D.block_count disk.old }
     requires fits { ForSome (D.seen disk.old) (λ image. Fits view.now image) }
     ensures block { OnOk result (ForSome (D.seen disk.old) (λ image. ForSome (replay image view.now.total) (λ r. out.new ≡ lifted_objects (block_of r (first_object_block + k / 2)) (k % 2)))) }
-    ensures writes { WritesNothing D.Disk disk.old disk.new }
-    ensures calls { DiskCalls D.Disk disk.old disk.new result }
+    ensures reads { OnlyReads D.Disk disk.old disk.new result }
 {
     let mut old = [0; BLOCK_SIZE];
     match view.read(disk, FIRST_OBJECT_BLOCK + k / 2, &mut old) {

@@ -1,10 +1,9 @@
 // A volume of version 1 copied to another disk as one of this version.
 ghost use Rattle.std.specs.Prelude.{◌≡◌, ◌⊎◌, OnOk};
 ghost use Rattle.std.specs.Option.{ForSome};
-ghost use Rattle.mg_disk.specs.Disk.{Image};
-ghost use Rattle.mg_disk.specs.Stops.{DiskCallsBy, Leaves, NothingPending, WritesNothing};
-ghost use Rattle.mg_migrate.specs.Copied.{ReadsNow, StandsClosed};
-ghost use Rattle.mg_migrate.specs.Migrated.{Fits1, HasLifted, IsLiftOf, IsUntouched, MayMigrate, StandsBack, Tells1};
+ghost use Rattle.mg_disk.specs.Stops.{DiskCallsBy, Leaves, NothingPending, OnlyReadsBy};
+ghost use Rattle.mg_migrate.specs.Copied.{HoldsNow, StandsClosed};
+ghost use Rattle.mg_migrate.specs.Migrated.{Fits1, IsMigrated, IsUntouched, MayMigrate, StandsBack, Tells1};
 ghost use Rattle.mg_migrate.specs.Version1.{volume1};
 
 use crate::copying::{CopyFault, copy};
@@ -64,16 +63,12 @@ pub fn migrate<D: Disk, E: Disk>(
 ) -> Result<Summary, MigrateFault>
     ensures told { ForSome (E.seen old.old) (λ before. Tells1 result (D.block_count new.old) (volume1 before)) }
     ensures any_moment { NothingPending D.Disk new.old → ForSome (D.seen new.old) (λ image. ForSome (E.seen old.old) (λ before. Leaves D.Disk new.old new.new (MayMigrate image (volume1 before)))) }
-    ensures made { OnOk result (ForSome (E.seen old.old) (λ before. ReadsNow (IsLiftOf (volume1 before)) (D.seen new.old) (D.seen new.new))) }
+    ensures made { OnOk result (ForSome (E.seen old.old) (λ before. HoldsNow D.Disk (IsMigrated before) new.old new.new)) }
     ensures settled { OnOk result (NothingPending D.Disk new.new) }
-    ensures left { OnOk result (ForSome (E.seen old.old) (λ before. (c : Image) → D.left_since new.new (D.moment new.new) c → IsLiftOf (volume1 before) c)) }
-    ensures places { OnOk result (ForSome (E.seen old.old) (λ before. ReadsNow (HasLifted before) (D.seen new.old) (D.seen new.new))) }
-    ensures left_places { OnOk result (ForSome (E.seen old.old) (λ before. (c : Image) → D.left_since new.new (D.moment new.new) c → HasLifted before c)) }
     ensures untouched { IsUntouched new.old new.new result }
     ensures stands_back { ForSome (E.seen old.old) (λ before. StandsBack (D.block_count new.old) (volume1 before) new.old new.new) }
     ensures closed { result ≡ Err MigrateFault.OldDisk → (new.new ≡ new.old) ⊎ (StandsClosed D.Disk new.new × ForSome (E.seen old.old) (λ before. Fits1 (D.block_count new.old) (volume1 before))) }
-    ensures old_kept { WritesNothing E.Disk old.old old.new }
-    ensures old_calls { DiskCallsBy E.Disk old.old old.new (result ≡ Err MigrateFault.OldDisk) }
+    ensures old_reads { OnlyReadsBy E.Disk old.old old.new (result ≡ Err MigrateFault.OldDisk) }
     ensures new_calls { DiskCallsBy D.Disk new.old new.new (result ≡ Err MigrateFault.NewDisk) }
 {
     let (lifting, rows) = read_old(alloc, old)?;

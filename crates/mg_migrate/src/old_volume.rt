@@ -1,9 +1,8 @@
 // Reading a volume of version 1: its settings, its journal, and then its tables, as those of the volume that it becomes.
-ghost use Rattle.std.specs.Prelude.{◌≡◌, ◌≢◌, ◌≤◌, IfOk, OnErr};
+ghost use Rattle.std.specs.Prelude.{◌≡◌, ◌≢◌, ◌≤◌, IfOk};
 ghost use Rattle.std.specs.Option.{ForSome};
-ghost use Rattle.mg_check.specs.Reads.{OnlyRead};
 ghost use Rattle.mg_check.specs.RowsRead.{AreKept};
-ghost use Rattle.mg_disk.specs.Stops.{CountRose};
+ghost use Rattle.mg_disk.specs.Stops.{OnlyReads, OnlyReadsBy};
 ghost use Rattle.mg_migrate.specs.Layout1.{total1_blocks};
 ghost use Rattle.mg_migrate.specs.OldRead.{HasSettings1, IsOldRead, IsSeen1, TellsOld};
 ghost use Rattle.mg_migrate.specs.Spelling1.{super1_read};
@@ -28,8 +27,7 @@ use std::alloc::Global;
 fn read_second<E: Disk>(old: &mut E) -> Result<Super1, Failed>
     requires at_least_2_blocks { 2 ≤ E.block_count old.old }
     ensures spelled { IfOk result (λ spelled. ForSome (E.seen old.old) (λ image. IsSuper1 spelled (super1_read (block_of image super_block)))) }
-    ensures cause { OnErr result (CountRose E.Disk old.old old.new) }
-    ensures reads { OnlyRead E.Disk old.old old.new }
+    ensures reads { OnlyReads E.Disk old.old old.new result }
 {
     let mut block = [0; BLOCK_SIZE];
     match old.read(SUPER_BLOCK, &mut block) {
@@ -43,8 +41,7 @@ fn read_settings<E: Disk>(old: &mut E) -> Result<Params, MigrateFault>
     ensures told { IfOk result (λ p. ForSome (E.seen old.old) (HasSettings1 p)) }
     ensures none { ForSome (E.seen old.old) (λ image. TellsOld result (volume1 image)) }
     ensures no_new { result ≢ Err MigrateFault.NewDisk }
-    ensures cause { result ≡ Err MigrateFault.OldDisk → CountRose E.Disk old.old old.new }
-    ensures reads { OnlyRead E.Disk old.old old.new }
+    ensures reads { OnlyReadsBy E.Disk old.old old.new (result ≡ Err MigrateFault.OldDisk) }
 {
     if old.blocks() < 2 {
         return Err(MigrateFault::Not);
@@ -86,8 +83,7 @@ fn look_through<E: Disk>(
     ensures within_disk { IfOk result (λ seen. seen.placed.total ≤ E.block_count old.old) }
     ensures none { ForSome (E.seen old.old) (λ image. TellsOld result (volume1 image)) }
     ensures no_new { result ≢ Err MigrateFault.NewDisk }
-    ensures cause { result ≡ Err MigrateFault.OldDisk → CountRose E.Disk old.old old.new }
-    ensures reads { OnlyRead E.Disk old.old old.new }
+    ensures reads { OnlyReadsBy E.Disk old.old old.new (result ≡ Err MigrateFault.OldDisk) }
 {
     let total = total1(params);
     if old.blocks() < total {
@@ -116,8 +112,7 @@ fn read_lifted<E: Disk>(
     ensures kept { IfOk result AreKept }
     ensures none { ForSome (E.seen old.old) (λ image. TellsOld result (volume1 image)) }
     ensures no_new { result ≢ Err MigrateFault.NewDisk }
-    ensures cause { result ≡ Err MigrateFault.OldDisk → CountRose E.Disk old.old old.new }
-    ensures reads { OnlyRead E.Disk old.old old.new }
+    ensures reads { OnlyReadsBy E.Disk old.old old.new (result ≡ Err MigrateFault.OldDisk) }
 {
     match read_rows(alloc, seen, old, params) {
         Ok(rows) => Ok(rows),
@@ -138,8 +133,7 @@ pub(crate) fn read_old<E: Disk>(
     ensures within_disk { IfOk result (λ read. read.0.placed.total ≤ E.block_count old.old) }
     ensures none { ForSome (E.seen old.old) (λ image. TellsOld result (volume1 image)) }
     ensures no_new { result ≢ Err MigrateFault.NewDisk }
-    ensures cause { result ≡ Err MigrateFault.OldDisk → CountRose E.Disk old.old old.new }
-    ensures reads { OnlyRead E.Disk old.old old.new }
+    ensures reads { OnlyReadsBy E.Disk old.old old.new (result ≡ Err MigrateFault.OldDisk) }
 {
     let p = match read_settings(old) {
         Ok(p) => p,

@@ -1,9 +1,16 @@
 -- The first blocks of one image on another, block 0 last.
-use Rattle.std.specs.Prelude.{◌≡◌, ◌⊎◌, ◌<◌, ◌≤◌, ℕ, Bool, false, IsTrue, is_some, slice_index, take, Option, Result, IfOk, OnErr}
+use Rattle.std.specs.Prelude.{◌≡◌, ◌⊎◌, ◌<◌, ◌≤◌, ℕ, Bool, false, IsTrue, is_some, length, slice_index, take, Option, Result, IfOk, OnErr}
 use Rattle.std.specs.Option.{ForSome}
-use Rattle.mg_disk.specs.Disk.{Image, InRange, SameBut, block_at, only_place}
+use Rattle.mg_disk.specs.Disk.{HasBlocks, Image, InRange, SameBut, block_at, only_place}
 use Rattle.mg_disk.specs.Stops.{Leaves, NothingPending, WritesNothing, CountGoes, CountRose}
 use Rattle.mg_disk.specs.declared.disk.Disk.{Ghosts}
+
+-- two disks have n blocks, and these, no more than n, are the first ones of the one that is copied
+pub record CanCopy {D E : Type 0} (d : Ghosts D) (e : Ghosts E) (n : ℕ) (first : Image) (from : D) (to : E) : Type 0 where
+  pub from_long : n ≤ d.block_count from
+  pub to_long : n ≤ e.block_count to
+  pub are_first : ForSome (d.seen from) (HasBlocks 0 first)
+  pub few : length first ≤ n
 
 -- the second has the first n blocks of the first, if both are told
 abbrev pub IsCopied : ℕ → Option Image → Option Image → Type 0

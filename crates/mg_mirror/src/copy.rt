@@ -2,9 +2,9 @@
 // the copy leaves nothing there that counts as a volume.
 ghost use Rattle.std.specs.Prelude.{◌≡◌, ◌+◌, ◌≤◌, IfOk, IsTrue, OnOk, length};
 ghost use Rattle.std.specs.Option.{ForSome};
-ghost use Rattle.mg_disk.specs.Disk.{HasBlocks, InRange, SameBut, SeenBut, TornAt, only_place};
+ghost use Rattle.mg_disk.specs.Disk.{InRange, SameBut, SeenBut, TornAt, only_place};
 ghost use Rattle.mg_disk.specs.Stops.{DiskCalls, Leaves, NothingPending, TimeGoes};
-ghost use Rattle.mg_mirror.specs.Copy.{AreFrom, AreSame, Copies, CopyCalls, first_byte};
+ghost use Rattle.mg_mirror.specs.Copy.{AreFrom, AreSame, CanCopy, Copies, CopyCalls, first_byte};
 
 use crate::mirror::Side;
 use mg_disk::{BLOCK_SIZE, Block, COPY_BLOCKS, Disk, Failed, write_firmly};
@@ -17,11 +17,8 @@ pub(crate) fn copy_side<D: Disk, E: Disk>(
     blocks: u64,
     first: &[Block],
 ) -> Result<bool, Failed>
-    requires left_long { blocks ≤ D.block_count left.old }
-    requires right_long { blocks ≤ E.block_count right.old }
-    requires left_first { from ≡ Side.Left → ForSome (D.seen left.old) (HasBlocks 0 first.now) }
-    requires right_first { from ≡ Side.Right → ForSome (E.seen right.old) (HasBlocks 0 first.now) }
-    requires at_most_so_many_blocks { length first.now ≤ blocks }
+    requires left { from ≡ Side.Left → CanCopy D.Disk E.Disk blocks first.now left.old right.old }
+    requires right { from ≡ Side.Right → CanCopy E.Disk D.Disk blocks first.now right.old left.old }
     ensures left { from ≡ Side.Left → Copies D.Disk E.Disk blocks left.old left.new right.old right.new result }
     ensures right { from ≡ Side.Right → Copies E.Disk D.Disk blocks right.old right.new left.old left.new result }
 {
@@ -39,10 +36,7 @@ fn copy_blocks<D: Disk, E: Disk>(
     blocks: u64,
     first: &[Block],
 ) -> Result<bool, Failed>
-    requires from_long { blocks ≤ D.block_count from.old }
-    requires to_long { blocks ≤ E.block_count to.old }
-    requires are_first { ForSome (D.seen from.old) (HasBlocks 0 first.now) }
-    requires at_most_so_many_blocks { length first.now ≤ blocks }
+    requires can { CanCopy D.Disk E.Disk blocks first.now from.old to.old }
     ensures copies { Copies D.Disk E.Disk blocks from.old from.new to.old to.new result }
 {
     if blocks == 0 {
@@ -63,11 +57,8 @@ fn copy_gated<D: Disk, E: Disk>(
     blocks: u64,
     first: &[Block],
 ) -> Result<bool, Failed>
-    requires from_long { blocks ≤ D.block_count from.old }
-    requires to_long { blocks ≤ E.block_count to.old }
-    requires are_first { ForSome (D.seen from.old) (HasBlocks 0 first.now) }
+    requires can { CanCopy D.Disk E.Disk blocks first.now from.old to.old }
     requires some { 1 ≤ length first.now }
-    requires at_most_so_many_blocks { length first.now ≤ blocks }
     ensures copies { Copies D.Disk E.Disk blocks from.old from.new to.old to.new result }
 {
     if close(to).is_err() {
@@ -101,11 +92,8 @@ fn copy_after<D: Disk, E: Disk>(
     blocks: u64,
     first: &[Block],
 ) -> Result<bool, Failed>
-    requires from_long { blocks ≤ D.block_count from.old }
-    requires to_long { blocks ≤ E.block_count to.old }
-    requires are_first { ForSome (D.seen from.old) (HasBlocks 0 first.now) }
+    requires can { CanCopy D.Disk E.Disk blocks first.now from.old to.old }
     requires some { 1 ≤ length first.now }
-    requires at_most_so_many_blocks { length first.now ≤ blocks }
     ensures any_moment { NothingPending E.Disk to.old → ForSome (E.seen to.old) (λ image. Leaves E.Disk to.old to.new (SameBut (λ k. 1 ≤ k) image)) }
     ensures seen { SeenBut (λ k. 1 ≤ k) (E.seen to.old) (E.seen to.new) }
     ensures copied { IfOk result (λ good. IsTrue good → ForSome (D.seen from.old) (λ x. ForSome (E.seen to.new) (AreFrom 1 blocks x))) }

@@ -1,7 +1,7 @@
 // One disk of two.
 ghost use Rattle.std.specs.Prelude.{◌≡◌, ◌+◌, ◌<◌, ◌≤◌, ℕ, Option, None, Some, ◌&&◌, option_map, slice_set, length, OnOk, OnErr};
 ghost use Rattle.std.specs.Option.{ForSome};
-ghost use Rattle.mg_disk.specs.Stops.{NothingPending, WritesNothing, TimeGoes, CountGoes, CountRose};
+ghost use Rattle.mg_disk.specs.Stops.{NothingPending, WritesNothing, TimeGoes, DiskCalls};
 ghost use Rattle.mg_disk.specs.Disk.{HasBlocks, InRange, SeenBut, TornAt, block_at, no_image, only_place};
 ghost use Rattle.mg_disk.specs.Calls.{IsWrite, IsSync};
 ghost use Rattle.mg_mirror.specs.Sides.{FailsWithSides, ReadsSides, DropsSides};
@@ -221,10 +221,8 @@ impl<D: Disk, E: Disk, K: Opened<D, E>> Disk for Mirror<D, E, K> {
         ensures block { OnOk result (ForSome (⟦<Mirror<D, E, K> as Disk>⟧.seen self.old) (λ image. out.new ≡ block_at image i)) }
         ensures seen { ⟦<Mirror<D, E, K> as Disk>⟧.seen self.new ≡ ⟦<Mirror<D, E, K> as Disk>⟧.seen self.old }
         ensures stops { TimeGoes ⟦<Mirror<D, E, K> as Disk>⟧ self.old self.new no_image }
-        ensures blocks { ⟦<Mirror<D, E, K> as Disk>⟧.block_count self.new ≡ ⟦<Mirror<D, E, K> as Disk>⟧.block_count self.old }
         ensures tells { ⟦<Mirror<D, E, K> as Disk>⟧.tells_stops self.new ≡ ⟦<Mirror<D, E, K> as Disk>⟧.tells_stops self.old }
-        ensures count { CountGoes ⟦<Mirror<D, E, K> as Disk>⟧ self.old self.new }
-        ensures cause { OnErr result (CountRose ⟦<Mirror<D, E, K> as Disk>⟧ self.old self.new) }
+        ensures calls { DiskCalls ⟦<Mirror<D, E, K> as Disk>⟧ self.old self.new result }
         ensures fails { FailsWithSides D.Disk E.Disk self.old.alone self.old.left self.new.left self.old.right self.new.right result }
         ensures sides { ReadsSides D.Disk self.old.alone self.new.alone self.old.left self.new.left self.old.right self.new.right }
     {
@@ -261,10 +259,8 @@ impl<D: Disk, E: Disk, K: Opened<D, E>> Disk for Mirror<D, E, K> {
         ensures written { OnOk result (⟦<Mirror<D, E, K> as Disk>⟧.seen self.new ≡ option_map (λ image. slice_set image i from.now) (⟦<Mirror<D, E, K> as Disk>⟧.seen self.old)) }
         ensures unknown { OnErr result (SeenBut (only_place i) (⟦<Mirror<D, E, K> as Disk>⟧.seen self.old) (⟦<Mirror<D, E, K> as Disk>⟧.seen self.new)) }
         ensures stops { TimeGoes ⟦<Mirror<D, E, K> as Disk>⟧ self.old self.new (TornAt (only_place i) (⟦<Mirror<D, E, K> as Disk>⟧.left_since self.old (⟦<Mirror<D, E, K> as Disk>⟧.moment self.old))) }
-        ensures blocks { ⟦<Mirror<D, E, K> as Disk>⟧.block_count self.new ≡ ⟦<Mirror<D, E, K> as Disk>⟧.block_count self.old }
         ensures tells { ⟦<Mirror<D, E, K> as Disk>⟧.tells_stops self.new ≡ ⟦<Mirror<D, E, K> as Disk>⟧.tells_stops self.old }
-        ensures count { CountGoes ⟦<Mirror<D, E, K> as Disk>⟧ self.old self.new }
-        ensures cause { OnErr result (CountRose ⟦<Mirror<D, E, K> as Disk>⟧ self.old self.new) }
+        ensures calls { DiskCalls ⟦<Mirror<D, E, K> as Disk>⟧ self.old self.new result }
         ensures fails { FailsWithSides D.Disk E.Disk self.old.alone self.old.left self.new.left self.old.right self.new.right result }
         ensures sides { DropsSides D.Disk E.Disk self.old.alone self.new.alone self.old.left self.new.left self.old.right self.new.right result }
     {
@@ -312,10 +308,8 @@ impl<D: Disk, E: Disk, K: Opened<D, E>> Disk for Mirror<D, E, K> {
         ensures same_length { length out.new ≡ length out.old }
         ensures seen { ⟦<Mirror<D, E, K> as Disk>⟧.seen self.new ≡ ⟦<Mirror<D, E, K> as Disk>⟧.seen self.old }
         ensures stops { TimeGoes ⟦<Mirror<D, E, K> as Disk>⟧ self.old self.new no_image }
-        ensures blocks { ⟦<Mirror<D, E, K> as Disk>⟧.block_count self.new ≡ ⟦<Mirror<D, E, K> as Disk>⟧.block_count self.old }
         ensures tells { ⟦<Mirror<D, E, K> as Disk>⟧.tells_stops self.new ≡ ⟦<Mirror<D, E, K> as Disk>⟧.tells_stops self.old }
-        ensures count { CountGoes ⟦<Mirror<D, E, K> as Disk>⟧ self.old self.new }
-        ensures cause { OnErr result (CountRose ⟦<Mirror<D, E, K> as Disk>⟧ self.old self.new) }
+        ensures calls { DiskCalls ⟦<Mirror<D, E, K> as Disk>⟧ self.old self.new result }
         ensures fails { FailsWithSides D.Disk E.Disk self.old.alone self.old.left self.new.left self.old.right self.new.right result }
         ensures sides { ReadsSides D.Disk self.old.alone self.new.alone self.old.left self.new.left self.old.right self.new.right }
     {
@@ -354,10 +348,8 @@ impl<D: Disk, E: Disk, K: Opened<D, E>> Disk for Mirror<D, E, K> {
         ensures unknown { SeenBut (InRange first (length from.now)) (⟦<Mirror<D, E, K> as Disk>⟧.seen self.old) (⟦<Mirror<D, E, K> as Disk>⟧.seen self.new) }
         ensures stops { TimeGoes ⟦<Mirror<D, E, K> as Disk>⟧ self.old self.new
             (TornAt (InRange first (length from.now)) (⟦<Mirror<D, E, K> as Disk>⟧.left_since self.old (⟦<Mirror<D, E, K> as Disk>⟧.moment self.old))) }
-        ensures blocks { ⟦<Mirror<D, E, K> as Disk>⟧.block_count self.new ≡ ⟦<Mirror<D, E, K> as Disk>⟧.block_count self.old }
         ensures tells { ⟦<Mirror<D, E, K> as Disk>⟧.tells_stops self.new ≡ ⟦<Mirror<D, E, K> as Disk>⟧.tells_stops self.old }
-        ensures count { CountGoes ⟦<Mirror<D, E, K> as Disk>⟧ self.old self.new }
-        ensures cause { OnErr result (CountRose ⟦<Mirror<D, E, K> as Disk>⟧ self.old self.new) }
+        ensures calls { DiskCalls ⟦<Mirror<D, E, K> as Disk>⟧ self.old self.new result }
         ensures fails { FailsWithSides D.Disk E.Disk self.old.alone self.old.left self.new.left self.old.right self.new.right result }
         ensures sides { DropsSides D.Disk E.Disk self.old.alone self.new.alone self.old.left self.new.left self.old.right self.new.right result }
     {

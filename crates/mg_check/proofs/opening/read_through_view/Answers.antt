@@ -1,8 +1,8 @@
 use Rattle.std.proofs.Common.{◌≡◌, ap, sym, ◌∙◌, arith}
 use Rattle.mg_model.specs.Layout.{total_blocks}
 use Rattle.mg_model.specs.Replay.{replay}
-use Rattle.mg_check.specs.ReadRuns.{still_read, told_contents}
-use Rattle.mg_check.specs.Reads.{OnlyRead}
+use Rattle.mg_check.specs.ReadRuns.{only_by, still_read, told_contents}
+use Rattle.mg_disk.specs.Stops.{OnlyRead}
 use Rattle.mg_check.proofs.SettledVolume.{settled-damaged, settled-short, settled-tells, some_in}
 use Rattle.mg_check.proofs.opening.read_through_view.Goals as goal
 
@@ -22,7 +22,7 @@ returns-in-Ok-clause-told g c image told =
     let counted = g.met.D.Disk.seen_count c.args.disk.now image told in
     let needed : c.of-total.result.total ≡ total_blocks p.frames = c.of-total.ensures.total ∙ ap total_blocks c.frames.ensures.value in
     let r = some_in (replay image c.of-total.result.total) (c.in_ok-view.ensures.replayed image told) in
-    let reads : OnlyRead g.D.Disk c.args.disk.now c.look.new.disk = record { writes = c.look.ensures.writes; count = c.look.ensures.calls.count; blocks = c.look.ensures.calls.blocks } in
+    let reads : OnlyRead g.D.Disk c.args.disk.now c.look.new.disk = only_by c.look.ensures.reads in
     let same = told_contents g.D.Disk (λ i. replay i view.total) c.args.disk.now c.look.new.disk image r.0 reads told (ap (replay image) c.in_ok-view.ensures.total ∙ r.1) in
     settled-tells p image c.in-Ok.rows r.0 (omega arith) (ap (replay image) (sym needed) ∙ r.1) (c.in-Ok.ensures.told r.0 same)
 

@@ -1,5 +1,5 @@
 use Rattle.std.proofs.Common.{Err, ap, ◌∙◌}
-use Rattle.mg_disk.specs.Runs.{nothing_then}
+use Rattle.mg_check.specs.ReadRuns.{caused, only_by, only_then}
 use Rattle.mg_check.proofs.SettledVolume.{volume-damaged, volume-read}
 use Rattle.mg_check.proofs.opening.read_volume.Goals as goal
 
@@ -16,5 +16,7 @@ returns-in-Err-Damaged-clause-damaged g c is image told =
     let later = c.read_settings.ensures.reads.writes.same ∙ told in
     volume-damaged c.in_ok-p.p image (c.in_ok-p.ensures.told image told) (c.read_through_view.ensures.damaged (c.in-Err-Damaged.is ∙ ap Err c.in-Err-Damaged.field-0-is) image later)
 
-pub returns-in-Ok-clause-writes : goal.returns-in-Ok-clause-writes
-returns-in-Ok-clause-writes g c = nothing_then g.D.Disk c.args.disk.now c.read_settings.new.disk c.read_through_view.new.disk c.read_settings.ensures.reads.writes c.read_through_view.ensures.reads.writes
+pub returns-in-Ok-clause-reads : goal.returns-in-Ok-clause-reads
+returns-in-Ok-clause-reads g c =
+    caused g.D.Disk _ _ _ (only_then g.D.Disk c.args.disk.now c.read_settings.new.disk c.read_through_view.new.disk (only_by c.read_settings.ensures.reads) (only_by c.read_through_view.ensures.reads))
+    (λ is. let never : ⊥ = cc in absurd never)

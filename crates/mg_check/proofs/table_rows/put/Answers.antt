@@ -8,37 +8,33 @@ use Rattle.mg_check.proofs.LiveTables.{behind-filled, long-more}
 use Rattle.mg_check.proofs.Placed.{kept_more, placed_more, placed_wider}
 use Rattle.mg_check.proofs.table_rows.put.Goals as goal
 
-pub returns-in_ok-fill_to-in-Row-clause-told : goal.returns-in_ok-fill_to-in-Row-clause-told
-returns-in_ok-fill_to-in-Row-clause-told g c =
+pub returns-in_ok-fill_to-in-Row-clause-taken : goal.returns-in_ok-fill_to-in-Row-clause-taken
+returns-in_ok-fill_to-in-Row-clause-taken g c =
+    let i = c.args.i in
+    let row = c.in-Row.row in
+    let old = live_from 0 c.args.rows.now.items in
+    let new = live_from 0 c.add.new.list.items in
+    let filled = c.in_ok-fill_to-in-Row.ensures in
+    let is = ap as_read c.in-Some.is ∙ ap (λ f. as_read (Some f)) c.in-Row.is in
     on_ok_weaker c.add.result
-    (λ more read here live.
-    live_more read c.args.i c.in-Row.row (live_from 0 c.args.rows.now.items) (live_from 0 c.add.new.list.items) live (here ∙ sym c.read-found.ensures.spelled ∙ ap as_read c.in-Some.is ∙ ap (λ f. as_read (Some f)) c.in-Row.is)
-    (behind-filled c.args.i c.in-Row.row c.args.rows.now.items c.fill_to.new.rows.items c.add.new.list.items c.in_ok-fill_to-in-Row.ensures.long c.in_ok-fill_to-in-Row.ensures.live more))
-    c.add.ensures.more
-
-pub returns-in_ok-fill_to-in-Row-clause-placed : goal.returns-in_ok-fill_to-in-Row-clause-placed
-returns-in_ok-fill_to-in-Row-clause-placed g c =
-    on_ok_weaker c.add.result
-    (λ more are.
-    placed_more c.args.i c.in-Row.row (live_from 0 c.args.rows.now.items) (live_from 0 c.add.new.list.items)
-    (behind-filled c.args.i c.in-Row.row c.args.rows.now.items c.fill_to.new.rows.items c.add.new.list.items c.in_ok-fill_to-in-Row.ensures.long c.in_ok-fill_to-in-Row.ensures.live more) are)
-    c.add.ensures.more
-
-pub returns-in_ok-fill_to-in-Row-clause-kept : goal.returns-in_ok-fill_to-in-Row-clause-kept
-returns-in_ok-fill_to-in-Row-clause-kept g c =
-    on_ok_weaker c.add.result
-    (λ more are.
-    kept_more g.R.TableRow.IsKept c.args.i c.in-Row.row (live_from 0 c.args.rows.now.items) (live_from 0 c.add.new.list.items)
-    (behind-filled c.args.i c.in-Row.row c.args.rows.now.items c.fill_to.new.rows.items c.add.new.list.items c.in_ok-fill_to-in-Row.ensures.long c.in_ok-fill_to-in-Row.ensures.live more)
-    (c.read-found.ensures.kept c.in-Row.row (ap as_read c.in-Some.is ∙ ap (λ f. as_read (Some f)) c.in-Row.is))
-    are)
+    (λ more.
+    let behind = behind-filled i row c.args.rows.now.items c.fill_to.new.rows.items c.add.new.list.items filled.long filled.live more in
+    record {
+      told = λ read here live. live_more read i row old new live (here ∙ sym c.read-found.ensures.spelled ∙ is) behind;
+      placed = placed_more i row old new behind;
+      kept = kept_more g.R.TableRow.IsKept i row old new behind (c.read-found.ensures.kept row is);
+    })
     c.add.ensures.more
 
 pub returns-in_ok-fill_to-in-Row-clause-long : goal.returns-in_ok-fill_to-in-Row-clause-long
 returns-in_ok-fill_to-in-Row-clause-long g c = search (rules, on_ok_weaker, long-more)
 
-pub returns-in-Free-clause-told : goal.returns-in-Free-clause-told
-returns-in-Free-clause-told g c = grind (arith, live_free)
-
-pub returns-in-Free-clause-placed : goal.returns-in-Free-clause-placed
-returns-in-Free-clause-placed g c = λ are. placed_wider c.args.i (c.args.i + 1) (live_from 0 c.args.rows.now.items) (omega arith) are
+pub returns-in-Free-clause-taken : goal.returns-in-Free-clause-taken
+returns-in-Free-clause-taken g c =
+    let i = c.args.i in
+    let rows = live_from 0 c.args.rows.now.items in
+    record {
+      told = λ read here live. live_free read i rows live (here ∙ sym c.read-found.ensures.spelled ∙ ap as_read c.in-Some.is ∙ ap (λ f. as_read (Some f)) c.in-Free.is);
+      placed = placed_wider i (i + 1) rows (omega arith);
+      kept = λ are. are;
+    }

@@ -7,7 +7,7 @@ use Rattle.mg_check.specs.TableRows.{AreLive}
 use Rattle.mg_check.proofs.LiveRows.{live_none, not_spelled}
 use Rattle.mg_check.proofs.RunsAtHand.{handed-on, here, none_yet}
 use Rattle.mg_check.proofs.Placed.{kept_none, placed_all, placed_none}
-use Rattle.mg_check.specs.ReadRuns.{only_none, only_then, same_contents, still_read}
+use Rattle.mg_check.specs.ReadRuns.{caused, failed_then, only_none, only_of, only_then, same_contents, still_read}
 use Rattle.mg_check.proofs.table_rows.read_places.Goals as goal
 
 pub turn_to-requires-clause-can : goal.turn_to-requires-clause-can
@@ -20,24 +20,26 @@ pub returns-in_err-put-clause-damaged : goal.returns-in_err-put-clause-damaged
 returns-in_err-put-clause-damaged g c is r told =
     let damaged = handed-on c.put.result c.from_residual-in_err-put.result _ _ c.in_err-put.was c.from_residual-in_err-put.ensures.1 is in
     let i = c.loop-i.i in
-    let there = here c.turn_to.new.self.first c.turn_to.new.self.count c.turn_to.new.self.blocks r _ c.block.result.now (c.in-Ok.ensures.there r (same_contents g.D.Disk (g.C.Contents.of c.args.view.now) c.args.disk.now c.loop-i.disk c.loop-i.invariant.reads ∙ told)) c.in-Ok.ensures.low c.in-Ok.ensures.high c.block.ensures.block ∙ ap (block_of r) c.block_at-block.ensures.place in
+    let there = here c.turn_to.new.self.first c.turn_to.new.self.count c.turn_to.new.self.blocks r _ c.block.result.now (c.in-Ok.ensures.there r (same_contents g.D.Disk (g.C.Contents.of c.args.view.now) c.args.disk.now c.loop-i.disk c.loop-i.invariant.reads ∙ told)) c.in-Ok.ensures.among c.block.ensures.block ∙ ap (block_of r) c.block_at-block.ensures.place in
     not_spelled (λ k. g.R.TableRow.spelled (block_of r (g.R.TableRow.block_at k)) k) g.R.TableRow.ROWS i
     (ap (λ block. g.R.TableRow.spelled block i) (sym there) ∙ c.put.ensures.damaged damaged) (omega arith)
 
 pub returns-in_err-put-clause-reads : goal.returns-in_err-put-clause-reads
-returns-in_err-put-clause-reads g c = only_then g.D.Disk c.args.disk.now c.loop-i.disk c.turn_to.new.disk c.loop-i.invariant.reads c.turn_to.ensures.reads
+returns-in_err-put-clause-reads g c =
+    caused g.D.Disk _ _ _ (only_then g.D.Disk c.args.disk.now c.loop-i.disk c.turn_to.new.disk c.loop-i.invariant.reads (only_of c.turn_to.ensures.reads))
+    (λ is. absurd (c.put.ensures.no_disk (handed-on c.put.result c.from_residual-in_err-put.result _ _ c.in_err-put.was c.from_residual-in_err-put.ensures.1 is)))
 
 pub loop-i-preserved : goal.loop-i-preserved
 loop-i-preserved g c =
     let i = c.loop-i.i in
-    let at_hand = λ (r : Image) (told : contents g.D.Disk (g.C.Contents.of c.args.view.now) c.args.disk.now ≡ Some r). here c.turn_to.new.self.first c.turn_to.new.self.count c.turn_to.new.self.blocks r _ c.block.result.now (c.in-Ok.ensures.there r (same_contents g.D.Disk (g.C.Contents.of c.args.view.now) c.args.disk.now c.loop-i.disk c.loop-i.invariant.reads ∙ told)) c.in-Ok.ensures.low c.in-Ok.ensures.high c.block.ensures.block ∙ ap (block_of r) c.block_at-block.ensures.place in
+    let at_hand = λ (r : Image) (told : contents g.D.Disk (g.C.Contents.of c.args.view.now) c.args.disk.now ≡ Some r). here c.turn_to.new.self.first c.turn_to.new.self.count c.turn_to.new.self.blocks r _ c.block.result.now (c.in-Ok.ensures.there r (same_contents g.D.Disk (g.C.Contents.of c.args.view.now) c.args.disk.now c.loop-i.disk c.loop-i.invariant.reads ∙ told)) c.in-Ok.ensures.among c.block.ensures.block ∙ ap (block_of r) c.block_at-block.ensures.place in
     record {
-      reads = only_then g.D.Disk c.args.disk.now c.loop-i.disk c.turn_to.new.disk c.loop-i.invariant.reads c.turn_to.ensures.reads;
+      reads = only_then g.D.Disk c.args.disk.now c.loop-i.disk c.turn_to.new.disk c.loop-i.invariant.reads (only_of c.turn_to.ensures.reads);
       there = λ r told. c.in-Ok.ensures.there r (same_contents g.D.Disk (g.C.Contents.of c.args.view.now) c.args.disk.now c.loop-i.disk c.loop-i.invariant.reads ∙ told);
       few = c.in-Ok.ensures.room;
-      told = λ r told. c.in_ok-put.ensures.told (λ k. g.R.TableRow.spelled (block_of r (g.R.TableRow.block_at k)) k) (ap (λ block. g.R.TableRow.spelled block i) (sym (at_hand r told))) (c.loop-i.invariant.told r told);
-      placed = c.in_ok-put.ensures.placed c.loop-i.invariant.placed;
-      kept = c.in_ok-put.ensures.kept c.loop-i.invariant.kept;
+      told = λ r told. c.in_ok-put.ensures.taken.told (λ k. g.R.TableRow.spelled (block_of r (g.R.TableRow.block_at k)) k) (ap (λ block. g.R.TableRow.spelled block i) (sym (at_hand r told))) (c.loop-i.invariant.told r told);
+      placed = c.in_ok-put.ensures.taken.placed c.loop-i.invariant.placed;
+      kept = c.in_ok-put.ensures.taken.kept c.loop-i.invariant.kept;
       long = c.in_ok-put.ensures.long;
       room = let before = c.loop-i.invariant.room in let more = c.put.ensures.keeps_capacity in omega arith;
     }
@@ -55,4 +57,4 @@ pub returns-clause-placed : goal.returns-clause-placed
 returns-clause-placed g c = grind (arith, placed_all)
 
 pub returns-in-Err-clause-reads : goal.returns-in-Err-clause-reads
-returns-in-Err-clause-reads g c = only_then g.D.Disk c.args.disk.now c.loop-i.disk c.turn_to.new.disk c.loop-i.invariant.reads c.turn_to.ensures.reads
+returns-in-Err-clause-reads g c = failed_then g.D.Disk c.turn_to.result _ _ _ _ _ c.in-Err.is c.loop-i.invariant.reads c.turn_to.ensures.reads

@@ -1,10 +1,9 @@
-use Rattle.std.proofs.Common.{rules, ◌≡◌, ◌∙◌, ℕ, arith, refl, true}
+use Rattle.std.proofs.Common.{rules, ◌≡◌, ◌∙◌, ℕ, arith, true}
 use Rattle.mg_disk.specs.Disk.{InRange, SameBut}
 use Rattle.mg_disk.specs.Runs.{torn_at}
 use Rattle.mg_journal.specs.Applied.{filled, nth_home}
 use Rattle.mg_journal.specs.Contents.{names}
 use Rattle.mg_journal.proofs.ApplyRuns.{named_row, row_applied, row_fits, torn_more}
-use Rattle.mg_journal.proofs.PhaseSteps.{told_still}
 use Rattle.mg_journal.proofs.applying.apply.Goals as goal
 
 pub returns-in_err-write_blocks-clause-any_moment : goal.returns-in_err-write_blocks-clause-any_moment
@@ -42,7 +41,6 @@ loop-first-preserved g c =
           c.requires.all_on_disk counted.there counted.row made.row made.long c.requires.read inv.written c.write_blocks.ensures.unknown c.in_ok-write_blocks.ensures.written;
       torn = torn_more (λ image i. names (filled image places) i ≡ true) (InRange (nth_home places first) _) (g.D.Disk.seen c.args.disk.now) (g.D.Disk.seen c.loop-first.disk) (g.D.Disk.seen c.write_blocks.new.self)
           (λ image. named_row image places first n row counted.there counted.row made.long) inv.torn c.write_blocks.ensures.unknown;
-      tells = told_still (InRange (nth_home places first) _) (g.D.Disk.seen c.loop-first.disk) (g.D.Disk.seen c.write_blocks.new.self) (g.D.Disk.seen c.write_blocks.new.self) c.write_blocks.ensures.unknown refl ∙ inv.tells;
       tracks = λ pending image told.
           let P : ℕ → Type 0 = λ i. names (filled image places) i ≡ true in
           torn_at g.D.Disk P image c.args.disk.now c.loop-first.disk c.write_blocks.new.self (InRange (nth_home places first) _) (SameBut P image) (inv.tracks pending image told)

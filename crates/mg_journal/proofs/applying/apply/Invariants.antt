@@ -1,9 +1,8 @@
-use Rattle.std.proofs.Common.{◌≡◌, ◌≤◌, ◌-◌, is_some, length, option_map, take, true}
-use Rattle.std.specs.Prelude.{IsSomeAnd}
+use Rattle.std.proofs.Common.{◌≡◌, ◌≤◌, ◌-◌, length, option_map, take, true}
 use Rattle.std.specs.Option.{ForSome}
 use Rattle.mg_disk.specs.Disk.{SameBut}
 use Rattle.mg_disk.specs.Runs.{Tracks}
-use Rattle.mg_disk.specs.Stops.{CountGoes, NothingPending}
+use Rattle.mg_disk.specs.Stops.{Becomes, CountGoes, NothingPending}
 use Rattle.mg_model.specs.Replay.{written}
 use Rattle.mg_journal.specs.Applied.{filled}
 use Rattle.mg_journal.specs.Contents.{names}
@@ -17,8 +16,7 @@ invariant-loop-first g l = record {
   blocks : g.D.Disk.block_count l.disk ≡ g.D.Disk.block_count l.initial.disk;
   count : CountGoes g.D.Disk l.initial.disk l.disk;
   written : g.D.Disk.seen l.disk ≡ option_map (λ image. written image (filled image (take l.first l.places))) (g.D.Disk.seen l.initial.disk);
-  torn : ForSome (g.D.Disk.seen l.initial.disk) (λ image. IsSomeAnd (g.D.Disk.seen l.disk) (SameBut (λ k. names (filled image l.places) k ≡ true) image));
-  tells : is_some (g.D.Disk.seen l.disk) ≡ is_some (g.D.Disk.seen l.initial.disk);
+  torn : Becomes (λ image. SameBut (λ k. names (filled image l.places) k ≡ true) image) (g.D.Disk.seen l.initial.disk) (g.D.Disk.seen l.disk);
   tracks : NothingPending g.D.Disk l.initial.disk → ForSome (g.D.Disk.seen l.initial.disk) (λ image. Tracks g.D.Disk l.initial.disk l.disk (SameBut (λ k. names (filled image l.places) k ≡ true) image) (SameBut (λ k. names (filled image l.places) k ≡ true) image));
 }
 

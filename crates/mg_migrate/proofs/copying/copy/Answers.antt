@@ -2,6 +2,7 @@ use Rattle.std.proofs.Common.{◌≡◌, ◌≤◌, length, arith, Some}
 use Rattle.std.specs.Option.{ForSome}
 use Rattle.std.proofs.lemmas.Result.{on_ok_weaker}
 use Rattle.mg_disk.specs.Disk.{Image, SeenBut, only_place}
+use Rattle.mg_disk.specs.Stops.{NothingPending}
 use Rattle.mg_journal.specs.ResultLemmas.{on_ok_both}
 use Rattle.mg_migrate.proofs.CopySteps.{all_made, first_phase, second_phase, seen_then, stands_closed, third_phase}
 use Rattle.mg_model.specs.Layout.{gate_block, gate_open}
@@ -38,12 +39,20 @@ returns-clause-any_moment g c pending image told r read =
     (c.copy_behind.ensures.any_moment c.in_ok-write_gate.ensures.settled closed.c closed.is))
     (c.write_gate-2.ensures.any_moment c.in_ok-copy_behind.ensures.settled behind.c behind.is)
 
-pub returns-clause-made : goal.returns-clause-made
-returns-clause-made g c =
+pub returns-clause-copied : goal.returns-clause-copied
+returns-clause-copied g c =
     let n = g.C.Contents.total c.args.view.now in
+    let new = g.D.Disk.seen c.write_gate-2.new.new in
+    let Opened = ForSome new (λ d. gate_byte d ≡ gate_open) in
+    let Seen = SeenBut (only_place gate_block) (g.D.Disk.seen c.copy_behind.new.new) new in
+    let Settled = NothingPending g.D.Disk c.write_gate-2.new.new in
     let long = λ (s : Image) (is : g.D.Disk.seen c.copy_behind.new.new ≡ Some s). let count = g.met.D.Disk.seen_count c.copy_behind.new.new s is in let room = c.requires.within_disk in let one = c.write_gate.ensures.calls.blocks in let two = c.copy_behind.ensures.calls.blocks in let fits : n ≤ length s = omega arith in fits in
     on_ok_weaker c.write_gate-2.result
-    (λ both r read.
-    all_made n r (g.D.Disk.seen c.args.new.now) (g.D.Disk.seen c.write_gate.new.new) (g.D.Disk.seen c.copy_behind.new.new) (g.D.Disk.seen c.write_gate-2.new.new) c.in_ok-write_gate.ensures.seen c.copy_behind.ensures.seen both.1
-    long (c.in_ok-copy_behind.ensures.copied r read) both.0)
-    (on_ok_both (ForSome (g.D.Disk.seen c.write_gate-2.new.new) (λ d. gate_byte d ≡ gate_open)) (SeenBut (only_place gate_block) (g.D.Disk.seen c.copy_behind.new.new) (g.D.Disk.seen c.write_gate-2.new.new)) c.write_gate-2.result c.write_gate-2.ensures.byte c.write_gate-2.ensures.seen)
+    (λ all.
+    record {
+      reads = λ r read.
+          all_made n r (g.D.Disk.seen c.args.new.now) (g.D.Disk.seen c.write_gate.new.new) (g.D.Disk.seen c.copy_behind.new.new) new c.in_ok-write_gate.ensures.seen c.copy_behind.ensures.seen all.1.0
+          long (c.in_ok-copy_behind.ensures.copied r read) all.0;
+      settled = all.1.1;
+    })
+    (on_ok_both Opened (Seen × Settled) c.write_gate-2.result c.write_gate-2.ensures.byte (on_ok_both Seen Settled c.write_gate-2.result c.write_gate-2.ensures.seen c.write_gate-2.ensures.settled))

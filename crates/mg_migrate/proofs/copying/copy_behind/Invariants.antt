@@ -1,9 +1,9 @@
 use Rattle.std.proofs.Common.{◌≡◌, ◌≤◌, ◌-◌}
 use Rattle.std.specs.Option.{ForSome}
-use Rattle.mg_check.specs.Reads.{OnlyRead, contents}
+use Rattle.mg_check.specs.Reads.{contents}
 use Rattle.mg_disk.specs.Disk.{SameBut, SeenBut}
 use Rattle.mg_disk.specs.Runs.{Tracks}
-use Rattle.mg_disk.specs.Stops.{CountGoes, NothingPending}
+use Rattle.mg_disk.specs.Stops.{CountGoes, NothingPending, OnlyRead}
 use Rattle.mg_migrate.proofs.CopySteps.{AreBefore}
 use Rattle.mg_migrate.proofs.copying.copy_behind.Given as goal
 

@@ -1,10 +1,10 @@
 use Rattle.std.proofs.Common.{rules, sym, ap, subst, ◌∙◌, ◌≡◌, arith, inr}
 use Rattle.mg_disk.specs.Runs.{leaves_wider}
-use Rattle.mg_migrate.proofs.LiftedCopy.{contents-are, copy-may, left-lifts, reads-lift, reads-places, tells-done, tells-enough, tells-small, untouched_may}
+use Rattle.mg_migrate.proofs.LiftedCopy.{contents-are, copy-may, left-lifts, reads-migrated, tells-done, tells-enough, tells-small, untouched_may}
 use Rattle.mg_migrate.specs.Layout1.{total1_blocks}
 use Rattle.mg_migrate.specs.Lifted.{lifted}
 use Rattle.mg_migrate.specs.LiftedView.{LiftedView}
-use Rattle.mg_migrate.specs.Migrated.{HasLifted, IsLiftOf, MayMigrate}
+use Rattle.mg_migrate.specs.Migrated.{IsMigrated, MayMigrate}
 use Rattle.mg_migrate.specs.Version1.{volume1}
 use Rattle.mg_model.specs.Layout.{total_blocks}
 use Rattle.mg_migrate.proofs.migrating.migrate.Goals as goal
@@ -37,7 +37,7 @@ pub copy-requires-clause-can : goal.copy-requires-clause-can
 copy-requires-clause-can g c =
     let reads = c.in_ok-lifting.ensures.reads in
     record {
-      room = let room = c.in_ok-lifting.ensures.within_disk in let same = reads.blocks in omega arith;
+      room = let room = c.in_ok-lifting.ensures.within_disk in let same = reads.calls.blocks in omega arith;
       fits = λ image told. (c.in_ok-lifting.ensures.told image (sym reads.writes.same ∙ told)).fits;
     }
 
@@ -72,25 +72,15 @@ pub returns-in-Ok-clause-made : goal.returns-in-Ok-clause-made
 returns-in-Ok-clause-made g c before read =
     let seen = c.in_ok-lifting.lifting in
     let old = c.in_ok-lifting.ensures.told before read in
-    reads-lift seen c.in_ok-lifting.rows before old (g.D.Disk.seen c.args.new.now) (g.D.Disk.seen c.copy.new.new)
-    (c.in-Ok.ensures.made (lifted seen.settings old.replayed)
-    (contents-are seen c.in_ok-lifting.rows before old g.E.Disk c.read_old.new.old (subst (λ (v : LiftedView). v.placed.total ≡ total1_blocks v.settings.frames) c.lifting.view_is c.lifting.invariant) (c.in_ok-lifting.ensures.reads.writes.same ∙ read)))
-
-pub returns-in-Ok-clause-left : goal.returns-in-Ok-clause-left
-returns-in-Ok-clause-left g c before read i left =
-    left-lifts (IsLiftOf (volume1 before)) (g.D.Disk.seen c.args.new.now) (g.D.Disk.seen c.copy.new.new) i (returns-in-Ok-clause-made g c before read) (c.in-Ok.ensures.settled i left)
-
-pub returns-in-Ok-clause-places : goal.returns-in-Ok-clause-places
-returns-in-Ok-clause-places g c before read =
-    let seen = c.in_ok-lifting.lifting in
-    let old = c.in_ok-lifting.ensures.told before read in
-    reads-places seen c.in_ok-lifting.rows before old (g.D.Disk.seen c.args.new.now) (g.D.Disk.seen c.copy.new.new)
-    (c.in-Ok.ensures.made (lifted seen.settings old.replayed)
-    (contents-are seen c.in_ok-lifting.rows before old g.E.Disk c.read_old.new.old (subst (λ (v : LiftedView). v.placed.total ≡ total1_blocks v.settings.frames) c.lifting.view_is c.lifting.invariant) (c.in_ok-lifting.ensures.reads.writes.same ∙ read)))
-
-pub returns-in-Ok-clause-left_places : goal.returns-in-Ok-clause-left_places
-returns-in-Ok-clause-left_places g c before read i left =
-    left-lifts (HasLifted before) (g.D.Disk.seen c.args.new.now) (g.D.Disk.seen c.copy.new.new) i (returns-in-Ok-clause-places g c before read) (c.in-Ok.ensures.settled i left)
+    let copied = c.in-Ok.ensures.copied in
+    let reads =
+    reads-migrated seen c.in_ok-lifting.rows before old (g.D.Disk.seen c.args.new.now) (g.D.Disk.seen c.copy.new.new)
+    (copied.reads (lifted seen.settings old.replayed)
+    (contents-are seen c.in_ok-lifting.rows before old g.E.Disk c.read_old.new.old (subst (λ (v : LiftedView). v.placed.total ≡ total1_blocks v.settings.frames) c.lifting.view_is c.lifting.invariant) (c.in_ok-lifting.ensures.reads.writes.same ∙ read))) in
+    record {
+      reads = reads;
+      left = λ i left. left-lifts (IsMigrated before) (g.D.Disk.seen c.args.new.now) (g.D.Disk.seen c.copy.new.new) i reads (copied.settled i left);
+    }
 
 pub returns-in-Ok-clause-stands_back : goal.returns-in-Ok-clause-stands_back
 returns-in-Ok-clause-stands_back g c before read unfit =

@@ -1,4 +1,5 @@
 use Rattle.std.proofs.Common.{Err, ap, subst, sym, IsSome, ◌≡◌, ◌∙◌, arith}
+use Rattle.mg_check.specs.ReadRuns.{caused, only_by}
 use Rattle.mg_model.specs.Replay.{replay}
 use Rattle.mg_migrate.specs.Layout1.{total1_blocks}
 use Rattle.mg_migrate.proofs.OldReads.{is_seen, not_replayed, too_short}
@@ -24,3 +25,6 @@ returns-in-Err-Damaged-clause-none g c image told =
     let needed : c.total1-total.result ≡ total1_blocks c.args.params.now.frames = c.total1-total.ensures in
     not_replayed c.args.params.now image (c.requires.has image told) (omega arith)
     (sym (ap (replay image) needed) ∙ c.look.ensures.damaged (c.in-Err-Damaged.is ∙ ap Err c.in-Err-Damaged.field-0-is) image told)
+
+pub returns-in-Ok-clause-reads : goal.returns-in-Ok-clause-reads
+returns-in-Ok-clause-reads g c = caused g.E.Disk _ _ _ (only_by c.look.ensures.reads) (λ is. let never : ⊥ = cc in absurd never)

@@ -14,4 +14,4 @@ returns-clause-copied g c good =
     let one = c.write_blocks.new.self in
     let wrote : ForSome (e.seen one) (HasBlocks 1 (take (length first - 1) (drop 1 first))) = search rules in
     after_all c.args.blocks first (drop 1 first) (d.seen c.args.from.now) (d.seen c.args.from.now) (e.seen c.write_blocks.new.self) (e.seen c.copy_rest.new.to) (e.seen c.sync.new.self)
-    (λ k below. let dropped = length-drop 1 first in omega arith) (λ k. get_or_after_one first k []) c.sync.ensures.seen refl c.requires.are_first (subst (λ rest. ForSome (e.seen one) (HasBlocks 1 rest)) (take_rest first 1) wrote) c.copy_rest.ensures.seen (c.in_ok-copy_rest.ensures.copied c.if-not-branch.false)
+    (λ k below. let dropped = length-drop 1 first in omega arith) (λ k. get_or_after_one first k []) c.sync.ensures.seen refl c.requires.can.are_first (subst (λ rest. ForSome (e.seen one) (HasBlocks 1 rest)) (take_rest first 1) wrote) c.copy_rest.ensures.seen (c.in_ok-copy_rest.ensures.copied c.if-not-branch.false)

@@ -74,14 +74,14 @@ returns g c =
     let settled : NothingPending e shut = search rules in
     let zero : ForSome (e.seen shut) (λ s. first_byte s ≡ 0) = search rules in
     let copied : ForSome (d.seen from) (λ x. ForSome (e.seen after) (AreFrom 1 n x)) = c.in_ok-copy_after.ensures.copied c.if-not-branch.false in
-    let from_long = λ (x : Image) (is : d.seen from ≡ Some x). let count = g.met.D.Disk.seen_count from x is in let room = c.requires.from_long in let fits : n ≤ length x = omega arith in fits in
-    let after_long = λ (s : Image) (is : e.seen after ≡ Some s). let count = g.met.E.Disk.seen_count after s is in let room = c.requires.to_long in let one = c.close.ensures.calls.blocks in let two = c.copy_after.ensures.calls.steps.to_blocks in let fits : n ≤ length s = omega arith in fits in
+    let from_long = λ (x : Image) (is : d.seen from ≡ Some x). let count = g.met.D.Disk.seen_count from x is in let room = c.requires.can.from_long in let fits : n ≤ length x = omega arith in fits in
+    let after_long = λ (s : Image) (is : e.seen after ≡ Some s). let count = g.met.E.Disk.seen_count after s is in let room = c.requires.can.to_long in let one = c.close.ensures.calls.blocks in let two = c.copy_after.ensures.calls.steps.to_blocks in let fits : n ≤ length s = omega arith in fits in
     let steps = steps_then d e from from c.copy_after.new.from to shut after (steps_to d e from to shut (g.met.D.Disk.now_has_been from) c.close.ensures.calls.blocks c.close.ensures.tells c.close.ensures.calls.count) c.copy_after.ensures.calls.steps in
     record {
       copies = record {
         copied = λ good.
             let put : e.seen last ≡ option_map (λ image. slice_set image 0 (block_at first 0)) (e.seen after) = search rules in
-            all_copied n first (d.seen from) (d.seen from) (e.seen after) (e.seen last) refl c.requires.some put c.requires.are_first from_long after_long copied;
+            all_copied n first (d.seen from) (d.seen from) (e.seen after) (e.seen last) refl c.requires.some put c.requires.can.are_first from_long after_long copied;
         settled = search rules;
         leaves = λ pending image told x read.
             let s = seen_then (only_place 0) (e.seen to) (e.seen shut) image c.close.ensures.seen told in

@@ -1,17 +1,26 @@
-use Rattle.std.proofs.Common.{◌∙◌, ◌<◌, ap, arith, subst, sym}
+use Rattle.std.proofs.Common.{◌≡◌, ◌∙◌, ◌<◌, ap, arith, subst, sym}
 use Rattle.std.proofs.lemmas.Bool.{lt-ltb}
+use Rattle.mg_disk.specs.BecomesLemmas.{becomes-of}
 use Rattle.mg_journal.proofs.NewestSteps.{closed_holds}
 use Rattle.mg_journal.specs.Held.{Store}
-use Rattle.mg_journal.specs.Looked.{Fits}
+use Rattle.mg_journal.specs.Looked.{Fits, Placed}
 use Rattle.mg_journal.specs.Recovery.{IsRecovered}
-use Rattle.mg_journal.specs.ResultLemmas.{some_of}
 use Rattle.mg_journal.specs.Standing.{HoldsOpen, fits_held, held_fits}
 use Rattle.mg_journal.proofs.store.Store.close_segments.Goals as goal
 
-pub recover-requires-clause-fits : goal.recover-requires-clause-fits
-recover-requires-clause-fits g c image told =
-    let fits = subst (λ (s : Store). Fits (record { total = s.total; table = s.table }) image) (sym c.self.view_is) (held_fits c.args.self.now image (c.requires.stands.fits image told)).fits in
-    record { fit = fits.fit; newest = fits.newest }
+pub recover-requires-clause-looks : goal.recover-requires-clause-looks
+recover-requires-clause-looks g c =
+    let stands = c.requires.stands in
+    let low = stands.journal in
+    let high = stands.room in
+    let same = ap (λ (s : Store). s.total) c.self.view_is in
+    record {
+      journal = omega arith;
+      room = omega arith;
+      fits = λ image told.
+          let fits = subst (λ (s : Store). Fits (record { total = s.total; table = s.table }) image) (sym c.self.view_is) (held_fits c.args.self.now image (stands.fits image told)).fits in
+          record { fit = fits.fit; newest = fits.newest };
+    }
 
 pub recover-requires-clause-gates : goal.recover-requires-clause-gates
 recover-requires-clause-gates g c image told t low high =
@@ -21,6 +30,10 @@ recover-requires-clause-gates g c image told t low high =
     let below : t < store.opened = omega (arith, same) in
     (held_fits store image (c.requires.stands.fits image told)).gates t (omega arith) ∙ lt-ltb t store.opened below
 
+pub returns-clause-closed : goal.returns-clause-closed
+returns-clause-closed g c now told =
+    (becomes-of (IsRecovered c.self.inside.view.total) (g.D.Disk.seen c.args.disk.now) (g.D.Disk.seen c.recover.new.disk) now c.in_ok-recover.ensures.recovered told).2.closed
+
 pub returns-clause-stands : goal.returns-clause-stands
 returns-clause-stands g c =
     let total = c.clear.new.self.total in
@@ -28,16 +41,12 @@ returns-clause-stands g c =
     let low = stands.journal in
     let high = stands.room in
     let same = ap (λ (s : Store). s.total) c.self.view_is in
+    let kept : total ≡ c.self.inside.view.total = c.clear.ensures.total ∙ ap (λ (v : Placed). v.total) c.recover.ensures.same in
     record {
-      journal = omega (arith, c.clear.ensures.total, c.recover.ensures.total);
-      room = omega (arith, c.recover.ensures.calls.blocks, c.clear.ensures.total, c.recover.ensures.total);
+      journal = omega arith;
+      room = omega (arith, c.recover.ensures.calls.blocks);
       settled = c.in_ok-recover.ensures.settled;
       fits = λ now told.
-          let from = some_of (λ image. IsRecovered c.self.inside.view.total image now) (g.D.Disk.seen c.args.disk.now) (c.in_ok-recover.ensures.came_from now told) in
           fits_held (record { total = total; live = c.self.inside.live; opened = 0; table = c.clear.new.self.table }) now
-          (subst (λ t. HoldsOpen total 0 t now) (sym c.clear.ensures.none) (closed_holds total now from.2.closed));
+          (subst (λ t. HoldsOpen total 0 t now) (sym c.clear.ensures.none) (closed_holds total now (returns-clause-closed g c now told)));
     }
-
-pub returns-clause-closed : goal.returns-clause-closed
-returns-clause-closed g c now told =
-    (some_of (λ image. IsRecovered c.self.inside.view.total image now) (g.D.Disk.seen c.args.disk.now) (c.in_ok-recover.ensures.came_from now told)).2.closed

@@ -1,6 +1,6 @@
-use Rattle.std.proofs.Common.{◌≡◌, ◌≤◌, ◌∙◌, ap, arith, length, option_map, slice_set, subst, sym, Some}
-use Rattle.std.specs.Prelude.{IsSomeAnd}
+use Rattle.std.proofs.Common.{◌≡◌, ◌≤◌, ◌∙◌, ap, arith, length, option_map, refl, slice_set, subst, sym}
 use Rattle.std.proofs.lemmas.Result.{on_ok_weaker}
+use Rattle.mg_disk.specs.BecomesLemmas.{becomes-changed, becomes-then, becomes-to}
 use Rattle.mg_disk.specs.Disk.{SameBut}
 use Rattle.mg_disk.specs.Stops.{Leaves}
 use Rattle.mg_model.specs.Layout.{globals_block, segment_gate}
@@ -9,7 +9,6 @@ use Rattle.mg_journal.proofs.CommitSteps.{next}
 use Rattle.mg_journal.proofs.NewestSteps.{shut_from}
 use Rattle.mg_journal.specs.Held.{Store}
 use Rattle.mg_journal.specs.Phases.{HoldsWrites, IsBehind, IsNext}
-use Rattle.mg_journal.specs.ResultLemmas.{some_of}
 use Rattle.mg_journal.specs.Standing.{held_fits}
 use Rattle.mg_journal.proofs.store.Store.write_next.Goals as goal
 
@@ -28,7 +27,7 @@ returns-clause-any_moment g c image told =
     let writes = c.args.writes.now in
     let is = ap (λ (s : Store). s.opened) c.self.view_is in
     let shut = shut_from store.total store.opened store.table image (held_fits store image (stands.fits image told)) in
-    let b = some_of (HoldsWrites c.self.inside.opened writes image) (g.D.Disk.seen c.write_segment.new.disk) (c.in_ok-write_segment.ensures.written image told) in
+    let b = becomes-to (HoldsWrites c.self.inside.opened writes) (g.D.Disk.seen c.args.disk.now) (g.D.Disk.seen c.write_segment.new.disk) image c.in_ok-write_segment.ensures.written told in
     after_gate g.D.Disk store.total store.opened writes image c.requires.fewer_than_8_open shut c.requires.homes c.requires.at_most_160_writes b.0 (subst (λ n. HoldsWrites n writes image b.0) is b.2)
     c.gate_of.result (c.gate_of.ensures ∙ ap segment_gate is) c.args.disk.now c.write_segment.new.disk c.write_firmly.new.disk
     (subst (λ n. Leaves g.D.Disk c.args.disk.now c.write_segment.new.disk (SameBut (IsBehind n) image)) is (c.write_segment.ensures.any_moment stands.settled image told))
@@ -37,21 +36,24 @@ returns-clause-any_moment g c image told =
 pub returns-clause-next : goal.returns-clause-next
 returns-clause-next g c =
     on_ok_weaker c.write_firmly.result
-    (λ wrote image told.
+    (λ wrote.
     let store = c.args.self.now in
     let stands = c.requires.stands in
     let writes = c.args.writes.now in
     let gate = c.opened_gate.result in
     let at = c.gate_of.result in
+    let mid = g.D.Disk.seen c.write_segment.new.disk in
+    let now = g.D.Disk.seen c.write_firmly.new.disk in
     let is = ap (λ (s : Store). s.opened) c.self.view_is in
+    let set : now ≡ option_map (λ i. slice_set i (segment_gate store.opened) gate) mid = wrote ∙ ap (λ k. option_map (λ i. slice_set i k gate) mid) (c.gate_of.ensures ∙ ap segment_gate is) in
+    becomes-then (HoldsWrites c.self.inside.opened writes) (λ b z. z ≡ slice_set b (segment_gate store.opened) gate) (IsNext store.total store.opened writes) (g.D.Disk.seen c.args.disk.now) mid now
+    (λ image b z told holds z_is.
     let shut = shut_from store.total store.opened store.table image (held_fits store image (stands.fits image told)) in
-    let b = some_of (HoldsWrites c.self.inside.opened writes image) (g.D.Disk.seen c.write_segment.new.disk) (c.in_ok-write_segment.ensures.written image told) in
     let counted = g.met.D.Disk.seen_count c.args.disk.now image told in
     let low = stands.journal in
     let high = stands.room in
     let room : globals_block ≤ length image = omega arith in
-    let now : g.D.Disk.seen c.write_firmly.new.disk ≡ Some (slice_set b.0 (segment_gate store.opened) gate) =
-    wrote ∙ ap (option_map (λ i. slice_set i at gate)) b.1 ∙ ap (λ k. Some (slice_set b.0 k gate)) (c.gate_of.ensures ∙ ap segment_gate is) in
-    subst (λ o. IsSomeAnd o (IsNext store.total store.opened writes image)) (sym now)
-    (next store.total store.opened writes image c.requires.fewer_than_8_open shut c.requires.homes c.requires.at_most_160_writes b.0 (subst (λ n. HoldsWrites n writes image b.0) is b.2) gate c.opened_gate.ensures room))
+    subst (IsNext store.total store.opened writes image) (sym z_is)
+    (next store.total store.opened writes image c.requires.fewer_than_8_open shut c.requires.homes c.requires.at_most_160_writes b (subst (λ n. HoldsWrites n writes image b) is holds) gate c.opened_gate.ensures room))
+    c.in_ok-write_segment.ensures.written (becomes-changed (λ b z. z ≡ slice_set b (segment_gate store.opened) gate) (λ i. slice_set i (segment_gate store.opened) gate) mid now set (λ b at. refl)))
     c.write_firmly.ensures.written

@@ -40,9 +40,9 @@ loop-segment-preserved g c =
       newest = λ image told. subst (λ p. HasLast p c.look_segment.new.table) (one_more image s) (look.newest image (inv.writes.same ∙ told) (places_since image 0 s) (inv.newest image told));
       fit = look.fit inv.fit;
       few = omega (arith, look.at_most_160_more, inv.few);
-      writes = nothing_then g.D.Disk c.args.disk.now c.loop-segment.disk c.look_segment.new.disk inv.writes look.writes;
+      writes = nothing_then g.D.Disk c.args.disk.now c.loop-segment.disk c.look_segment.new.disk inv.writes look.reads.writes;
       count = search rules;
-      blocks = look.calls.blocks ∙ inv.blocks;
+      blocks = look.reads.calls.blocks ∙ inv.blocks;
     }
 
 pub returns-clause-fits : goal.returns-clause-fits

@@ -1,0 +1,96 @@
+-- Lemmas on what reads give before and after.
+use Rattle.std.specs.Prelude.{◌≡◌, ℕ, IsSomeAnd, Option, None, Some, is_some, option_map}
+use Rattle.std.specs.Option.{ForSome}
+use Rattle.std.proofs.Common.{refl, subst, sym}
+use Rattle.mg_disk.specs.Disk.{Image, SameBut, SeenBut}
+use Rattle.mg_disk.specs.Stops.{Becomes}
+
+some_inj : (a b : Image) → Some a ≡ Some b → a ≡ b
+some_inj a b is = cc
+
+none_some : (a : Image) → ◌≡◌ {A = Option Image} None (Some a) → ⊥
+none_some a is = cc
+
+module _ (R : Image → Image → Type 0) where
+  -- each image that reads gave has one that they give
+  pub becomes-forth : (told now : Option Image) → Becomes R told now → ForSome told (λ a. IsSomeAnd now (R a))
+  becomes-forth None now is a at = absurd (none_some a at)
+  becomes-forth (Some x) None is a at = absurd is
+  becomes-forth (Some x) (Some y) is a at = subst (λ i. R i y) (some_inj x a at) is
+
+  -- and the other way round
+  pub becomes-back : (told now : Option Image) → Becomes R told now → ForSome now (λ b. IsSomeAnd told (λ a. R a b))
+  becomes-back told None is b at = absurd (none_some b at)
+  becomes-back None (Some y) is b at = absurd is
+  becomes-back (Some x) (Some y) is b at = subst (R x) (some_inj y b at) is
+
+  pub becomes-tells : (told now : Option Image) → Becomes R told now → is_some now ≡ is_some told
+  becomes-tells None None is = refl
+  becomes-tells None (Some y) is = absurd is
+  becomes-tells (Some x) None is = absurd is
+  becomes-tells (Some x) (Some y) is = refl
+
+  -- from what is known of each image that reads gave
+  pub becomes-from : (told now : Option Image) → is_some now ≡ is_some told → ForSome told (λ a. IsSomeAnd now (R a)) → Becomes R told now
+  becomes-from None None same each = tt
+  becomes-from None (Some y) same each = absurd cc
+  becomes-from (Some x) None same each = each x refl
+  becomes-from (Some x) (Some y) same each = each x refl
+
+  -- the image that reads gave, of one that they give
+  pub becomes-of : (told now : Option Image) (b : Image) → Becomes R told now → now ≡ Some b → (a : Image) × (told ≡ Some a) × R a b
+  becomes-of told None b is at = absurd (none_some b at)
+  becomes-of None (Some y) b is at = absurd is
+  becomes-of (Some x) (Some y) b is at = (x, refl, subst (R x) (some_inj y b at) is)
+
+  -- the image that they give, of one that they gave
+  pub becomes-to : (told now : Option Image) (a : Image) → Becomes R told now → told ≡ Some a → (b : Image) × (now ≡ Some b) × R a b
+  becomes-to None now a is at = absurd (none_some a at)
+  becomes-to (Some x) None a is at = absurd is
+  becomes-to (Some x) (Some y) a is at = (y, refl, subst (λ i. R i y) (some_inj x a at) is)
+
+  -- calls before or after it that change nothing
+  pub becomes-after : (told mid now : Option Image) → mid ≡ told → Becomes R mid now → Becomes R told now
+  becomes-after told mid now same = subst (λ o. Becomes R o now) same
+
+  pub becomes-kept : (told mid now : Option Image) → now ≡ mid → Becomes R told mid → Becomes R told now
+  becomes-kept told mid now same = subst (Becomes R told) (sym same)
+
+  -- reads give what they gave
+  pub becomes-same : (told now : Option Image) → now ≡ told → ((a : Image) → told ≡ Some a → R a a) → Becomes R told now
+  becomes-same told now is same = subst (Becomes R told) (sym is) (itself told same)
+    where
+      itself : (o : Option Image) → ((a : Image) → o ≡ Some a → R a a) → Becomes R o o
+      itself None each = tt
+      itself (Some x) each = each x refl
+
+  -- what reads give changed in one way
+  pub becomes-changed : (change : Image → Image) (told now : Option Image) → now ≡ option_map change told → ((a : Image) → told ≡ Some a → R a (change a)) → Becomes R told now
+  becomes-changed change told now is each = subst (Becomes R told) (sym is) (changed told each)
+    where
+      changed : (o : Option Image) → ((a : Image) → o ≡ Some a → R a (change a)) → Becomes R o (option_map change o)
+      changed None all = tt
+      changed (Some x) all = all x refl
+
+module _ (R S : Image → Image → Type 0) where
+  pub becomes-wider : (told now : Option Image) → ((a b : Image) → told ≡ Some a → now ≡ Some b → R a b → S a b) → Becomes R told now → Becomes S told now
+  becomes-wider None None sub is = is
+  becomes-wider None (Some y) sub is = is
+  becomes-wider (Some x) None sub is = is
+  becomes-wider (Some x) (Some y) sub is = sub x y refl refl is
+
+  -- one after another
+  pub becomes-then : (T : Image → Image → Type 0) (told mid now : Option Image) → ((a b c : Image) → told ≡ Some a → R a b → S b c → T a c) → Becomes R told mid → Becomes S mid now → Becomes T told now
+  becomes-then T None None None join first second = tt
+  becomes-then T None None (Some z) join first second = second
+  becomes-then T None (Some y) now join first second = absurd first
+  becomes-then T (Some x) None now join first second = absurd first
+  becomes-then T (Some x) (Some y) None join first second = absurd second
+  becomes-then T (Some x) (Some y) (Some z) join first second = join x y z refl first second
+
+-- that only some places differ is one such relation
+pub becomes-seen : (places : ℕ → Type 0) (told now : Option Image) → SeenBut places told now → Becomes (SameBut places) told now
+becomes-seen places None None is = is
+becomes-seen places None (Some y) is = is
+becomes-seen places (Some x) None is = is
+becomes-seen places (Some x) (Some y) is = is
