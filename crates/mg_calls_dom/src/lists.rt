@@ -1,5 +1,5 @@
 // The search through the capability lists of a thread, over the words of the moment.
-ghost use Rattle.std.specs.Prelude.{List, ◌≡◌, ◌≤◌, ◌<◌, ◌+◌, ◌*◌, ◌/◌, ◌==◌, ℕ, true, false, find, length, slice_index, IfOk, IfSome, IsSome, MatchOption, None, OnErr, OnOk};
+ghost use Rattle.std.specs.Prelude.{List, ◌≡◌, ◌≤◌, ◌<◌, ◌+◌, ◌*◌, ◌/◌, ◌==◌, ℕ, true, false, find, length, slice_index, IfOk, IfSome, IsSome, MatchOption, MatchResult, None, OnErr};
 ghost use Rattle.std.specs.List.{list_any};
 ghost use Rattle.std.specs.Option.{ForSome};
 ghost use Rattle.mg_calls_dom.specs.Searching as searching;
@@ -7,7 +7,7 @@ ghost use Rattle.mg_calls_dom.specs.Searching.{IsOpenedBy};
 ghost use Rattle.mg_disk.specs.Stops.{CountRose};
 ghost use Rattle.mg_model.specs.Access.{domain_of, entries_of};
 ghost use Rattle.mg_model.specs.Limits.{page_size, search_limit};
-ghost use Rattle.mg_volume.specs.Pairs.{IsNextPair, words_looked_at};
+ghost use Rattle.mg_volume.specs.Pairs.{ArePlaces, IsNextPair, words_looked_at};
 ghost use Rattle.mg_volume.specs.Calls.{IsSoundOn, Reads};
 ghost use Rattle.mg_volume.specs.Meaning.{has_page, now_of, objects_in, threads_in};
 
@@ -41,8 +41,7 @@ fn list_word<D: Disk, L: Ledger>(
     requires page { has_page volume.old (list / page_size) ≡ true }
     requires index { index < 512 }
     ensures word { IfOk result (λ word. ForSome (D.seen disk.old) (λ image. word ≡ slice_index (searching.words_based (now_of volume.old image).objects list) index)) }
-    ensures one { OnOk result (steps.new ≡ steps.old + 1) }
-    ensures none { OnErr result (steps.new ≡ steps.old) }
+    ensures counts { MatchResult result (λ _. steps.new ≡ steps.old + 1) (λ _. steps.new ≡ steps.old) }
     ensures reads { Reads D.Disk volume.old volume.new disk.old disk.new steps.old steps.new }
     ensures cause { OnErr result (CountRose D.Disk disk.old disk.new) }
 {
@@ -63,12 +62,10 @@ fn next_entry<D: Disk, L: Ledger>(
     requires sound { IsSoundOn D.Disk volume.old disk.old }
     requires held { IsSome (find (λ row. row.base == list) (objects_in volume.old)) }
     requires page { has_page volume.old (list / page_size) ≡ true }
-    requires from_up_to_count { from ≤ count }
-    requires at_most_255_entries { count ≤ 255 }
+    requires entries { ArePlaces from count }
     ensures found { IfOk result (λ found. ForSome (D.seen disk.old) (λ image. IsNextPair (λ index. slice_index (searching.words_based (now_of volume.old image).objects list) index) from count base found)) }
     ensures place { IfOk result (λ found. IfSome found (λ pair. (from ≤ pair.0) × (pair.0 < count))) }
-    ensures each { IfOk result (λ found. steps.new ≡ steps.old + words_looked_at from count found) }
-    ensures none { OnErr result (steps.new ≡ steps.old) }
+    ensures counts { MatchResult result (λ found. steps.new ≡ steps.old + words_looked_at from count found) (λ _. steps.new ≡ steps.old) }
     ensures reads { Reads D.Disk volume.old volume.new disk.old disk.new steps.old steps.new }
     ensures cause { OnErr result (CountRose D.Disk disk.old disk.new) }
 {

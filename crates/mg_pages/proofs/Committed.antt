@@ -1,10 +1,10 @@
 -- What a commit leaves, in the words of the pages.
-use Rattle.std.specs.Prelude.{◌≡◌, ◌⊎◌, ◌+◌, ◌≤◌, ℕ, List, [], length, Option, Some, IsSomeAnd}
-use Rattle.std.specs.Option.{ForSome}
+use Rattle.std.specs.Prelude.{◌≡◌, ◌⊎◌, ◌+◌, ◌≤◌, ℕ, Bool, true, List, [], length, MatchResult, OnOk, Option, Some, Result, Ok, Err, is_ok}
 use Rattle.std.proofs.Common.{sym, subst, ◌∙◌, ⊎_elim, inl, inr, arith}
+use Rattle.mg_disk.specs.BecomesLemmas.{becomes-of}
 use Rattle.mg_disk.specs.Disk.{Image, SameBut, SeenBut}
+use Rattle.mg_disk.specs.Stops.{Becomes}
 use Rattle.mg_disk.specs.declared.disk.Disk.{Ghosts}
-use Rattle.mg_journal.specs.ResultLemmas.{some_of}
 use Rattle.mg_journal.specs.Contents.{InJournal, NewContents, SameContents}
 use Rattle.mg_journal.specs.Standing as journal
 use Rattle.mg_journal.specs.WrittenLemmas.{written_elsewhere}
@@ -66,7 +66,7 @@ module _ (p q : Pages) (same : q.blocks.store.total ≡ p.blocks.store.total) (f
 
   -- and the pages stand there
   pub stands-then : {D : Type 0} (facts : Ghosts D) (disk disk' : D) → journal.Stands facts q.blocks.store disk' → ((now : Image) → facts.seen disk' ≡ Some now → length now ≡ facts.block_count disk')
-      → StandsOn facts p disk → ForSome (facts.seen disk') (λ now. IsSomeAnd (facts.seen disk) (λ image. NewContents p.blocks.store.total image p.blocks.writes now)) → StandsOn facts q disk'
+      → StandsOn facts p disk → Becomes (journal.IsCommitted p.blocks.store.total p.blocks.writes) (facts.seen disk) (facts.seen disk') → StandsOn facts q disk'
   unfolding total_of
   stands-then facts disk disk' stands counted old came =
       let room = stands.room in
@@ -74,7 +74,16 @@ module _ (p q : Pages) (same : q.blocks.store.total ≡ p.blocks.store.total) (f
         room = room;
         settled = stands.settled;
         fits = λ now told.
-            let image = some_of (λ image. NewContents p.blocks.store.total image p.blocks.writes now) (facts.seen disk) (came now told) in
+            let image = becomes-of (journal.IsCommitted p.blocks.store.total p.blocks.writes) (facts.seen disk) (facts.seen disk') now came told in
             let long = counted now told in
-            spelled-then image.0 now (stands.fits now told) (omega arith) (old.fits image.0 image.1) image.2;
+            spelled-then image.0 now (stands.fits now told) (omega arith) (old.fits image.0 image.1) image.2.contents;
       }
+
+-- what holds of a good answer
+pub taken : {T E : Type 0} (done failed : Type 0) (r : Result T E) → MatchResult r (λ _. done) (λ _. failed) → OnOk r done
+taken done failed (Ok x) is = is
+taken done failed (Err e) is = tt
+
+pub live-ok : {T E : Type 0} (live : Bool) (r : Result T E) → live ≡ is_ok r → OnOk r (live ≡ true)
+live-ok live (Ok x) is = is
+live-ok live (Err e) is = tt

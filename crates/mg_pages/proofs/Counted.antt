@@ -1,8 +1,9 @@
 -- The same journal, the same frames and the same writes, whatever is kept and counted.
-use Rattle.std.specs.Prelude.{◌≡◌, ℕ, List, length}
-use Rattle.std.proofs.Common.{ap, ◌∙◌}
+use Rattle.std.specs.Prelude.{◌≡◌, ◌==◌, ℕ, true, List, length, OnErr, Result}
+use Rattle.std.specs.List.{list_any}
+use Rattle.std.proofs.Common.{ap, arith, inr, subst, ◌∙◌}
 use Rattle.mg_disk.specs.Disk.{Image}
-use Rattle.mg_disk.specs.Stops.{NothingPending}
+use Rattle.mg_disk.specs.Stops.{CountRose, NothingPending}
 use Rattle.mg_disk.specs.declared.disk.Disk.{Ghosts}
 use Rattle.mg_journal.specs.Contents.{names}
 use Rattle.mg_journal.specs.Held.{Store}
@@ -11,8 +12,8 @@ use Rattle.mg_model.specs.Volume.{page_words}
 use Rattle.mg_pages.proofs.Opened.{same-shape, stands-again}
 use Rattle.mg_pages.proofs.Tables.{spelled-new}
 use Rattle.mg_pages.specs.declared.pages.Pages.{Pages}
-use Rattle.mg_pages.specs.Meaning.{Keeps, StandsOn, coming, frame_count, is_staged, page_now, staged_in, staged_of, table_in}
-use Rattle.mg_pages.specs.Parts.{KeepsMore, coming_of}
+use Rattle.mg_pages.specs.Meaning.{Keeps, Reads, ServesPage, StandsOn, coming, frame_count, is_staged, page_now, staged_in, staged_of, table_in}
+use Rattle.mg_pages.specs.Parts.{KeepsMore, LooksAt, coming_of}
 
 -- what is coming, and the words of a page, if the fields are told
 module _ (q : Pages) (store : Store) (frames : List ℕ) (writes : List (ℕ × List ℕ)) (same_store : q.blocks.store ≡ store) (same_frames : q.frames ≡ frames) (same_writes : q.blocks.writes ≡ writes) where
@@ -41,3 +42,23 @@ module _ (p q : Pages) (store : q.blocks.store ≡ p.blocks.store) (writes : q.b
   stands-alike facts disk disk' seen blocks settled keeps stands =
       stands-again facts p q disk disk' stands seen blocks settled store
       (λ image told. spelled-new p q image store (ap (λ (xs : List ℕ). length xs) frames) (λ holds. rw (frames, writes) holds) (keeps.kept image told))
+
+  -- reads of blocks are reads of the pages
+  pub reads-alike : {D T T' E E' : Type 0} (facts : Ghosts D) (disk disk' : D) (read : Result T E) (result : Result T' E') → LooksAt facts p.blocks q.blocks disk disk' read → OnErr result (CountRose facts disk disk') → StandsOn facts p disk → Reads facts p q disk disk' result
+  reads-alike facts disk disk' read result looks cause stands = record {
+    keeps = keeps-alike;
+    stands = stands-alike facts disk disk' looks.reads.writes.same looks.reads.calls.blocks looks.stands.settled (looks.keeps (first_frame (length p.frames))) stands;
+    reads = record { writes = looks.reads.writes; calls = record { count = looks.reads.calls.count; blocks = looks.reads.calls.blocks; cause = cause } };
+  }
+
+-- a store that failed read, and nothing else
+pub served : {D T E : Type 0} (page : ℕ) (facts : Ghosts D) (p q : Pages) (disk disk' : D) (result : Result T E) → Reads facts p q disk disk' result → ServesPage page facts p q disk disk' result
+served page facts p q disk disk' result reads =
+    let keeps = reads.keeps in
+    record {
+      binds = λ other bound. inr (subst (λ table. list_any (λ entry. entry == other) table ≡ true) keeps.table bound);
+      shape = keeps.shape;
+      staged = record { least = omega arith; staged = omega arith; still = λ block is. keeps.each block ∙ is };
+      stands = reads.stands;
+      reads = reads.reads;
+    }

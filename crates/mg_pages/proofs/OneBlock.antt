@@ -14,7 +14,7 @@ use Rattle.mg_pages.specs.declared.blocks.Blocks.{Blocks}
 use Rattle.mg_pages.specs.declared.pages.Pages.{Pages}
 use Rattle.mg_pages.specs.Held.{with_writes}
 use Rattle.mg_pages.specs.Kept.{AreKept}
-use Rattle.mg_pages.specs.Meaning.{IsSpelledBy, SameShape, StagesMore, coming, is_staged, replayed, staged_of}
+use Rattle.mg_pages.specs.Meaning.{IsRowBlock, IsSpelledBy, SameShape, StagesBlock, StagesMore, coming, is_staged, replayed, staged_of, table_in, words_in}
 use Rattle.mg_pages.specs.Parts.{coming_of}
 
 pub still-named : (writes : List (ℕ × List ℕ)) (b : ℕ) (bytes : List ℕ) (block : ℕ) → names writes block ≡ true → names (staged writes b bytes) block ≡ true
@@ -52,3 +52,7 @@ module _ (p q : Pages) (block : ℕ) (bytes : List ℕ) (blocks : q.blocks ≡ w
       ap (λ i. block_at i (table_block + k)) (written-staged p.blocks.writes (replayed p.blocks.store.total image) block bytes p.sound.once)
       ∙ get_or-set_other (coming_of p.blocks.store p.blocks.writes image) block (table_block + k) bytes [] (λ at. omega arith)) holds))
       (subst (λ (b : Blocks). AreKept (first_frame (length p.frames)) (replayed p.blocks.store.total image) p.blocks.kept → AreKept (first_frame (length p.frames)) (replayed p.blocks.store.total image) b.kept) (sym blocks) (λ kept. kept))
+
+  pub stages-block : IsRowBlock block → q.count ≡ p.count → StagesBlock block bytes p q
+  unfolding table_in words_in
+  stages-block place count = record { coming = coming-more; table = frames; shape = shape-more; staged = stages-more; here = here-more; words = count; spelled = spelled-more place.low place.high }

@@ -1,15 +1,17 @@
 -- The pages after their frame table was read.
-use Rattle.std.specs.Prelude.{◌≡◌, ℕ, true, List, length, Some}
+use Rattle.std.specs.Prelude.{◌≡◌, ℕ, true, List, drop, length, Some}
 use Rattle.std.specs.Option.{ForSome}
-use Rattle.std.proofs.Common.{arith}
+use Rattle.std.proofs.Common.{sym, ap, ◌∙◌, arith}
 use Rattle.std.proofs.lemmas.List.{nil_from_length}
 use Rattle.mg_disk.specs.Disk.{Image}
 use Rattle.mg_disk.specs.declared.disk.Disk.{Ghosts}
 use Rattle.mg_journal.specs.Standing as journal
 use Rattle.mg_model.specs.Abbreviations.{table_of}
+use Rattle.mg_model.specs.Bytes.{are_zeros}
 use Rattle.mg_model.specs.Tests.{all_distinct}
-use Rattle.mg_model.specs.Volume.{bound_pages}
+use Rattle.mg_model.specs.Volume.{bound_pages, whole_table}
 use Rattle.mg_pages.proofs.Made.{made-spelled}
+use Rattle.mg_pages.specs.declared.blocks.Blocks.{Blocks}
 use Rattle.mg_pages.specs.declared.pages.Pages.{Pages}
 use Rattle.mg_pages.specs.Meaning.{IsBare, SpellsTable, StandsOn, frame_count, kept_in, replayed, staged_of, total_of}
 
@@ -20,4 +22,15 @@ pub stands-loaded : {D : Type 0} (facts : Ghosts D) (p q : Pages) (frames : List
     → IsBare p → ForSome (facts.seen disk) (λ image. SpellsTable (frame_count p) (replayed (total_of p) image)) → StandsOn facts q disk'
 unfolding total_of frame_count staged_of kept_in
 stands-loaded facts p q frames disk disk' blocks same_frames many loaded stands same counted bare spells =
-    grind (arith, made-spelled, nil_from_length)
+    let total = ap (λ (b : Blocks). b.store.total) blocks in
+    let room = stands.room in
+    record {
+      room = omega arith;
+      settled = stands.settled;
+      fits = λ image told.
+          let tall = counted image told in
+          let has = spells image (sym same ∙ told) in
+          let is = loaded image (sym same ∙ told) has.distinct in
+          made-spelled q p.blocks.store frames (ap (λ (b : Blocks). b.store) blocks) same_frames (ap (λ (b : Blocks). b.writes) blocks ∙ nil_from_length p.blocks.writes bare.staged) (ap (λ (b : Blocks). b.kept) blocks ∙ bare.kept)
+          image (stands.fits image told) (omega arith) (record { table = ap (table_of (replayed p.blocks.store.total image)) many ∙ sym is; past = ap (λ n. are_zeros (drop n (whole_table (replayed p.blocks.store.total image) n))) many ∙ has.past });
+    }

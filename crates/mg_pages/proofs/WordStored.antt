@@ -1,18 +1,20 @@
 -- All that a store to a word does, whether its page had a frame or not.
-use Rattle.std.specs.Prelude.{◌≡◌, ◌≢◌, ◌+◌, ◌/◌, ◌≤◌, ℕ, List, length, Option, Some}
+use Rattle.std.specs.Prelude.{◌≡◌, ◌≢◌, ◌+◌, ◌/◌, ◌≤◌, ℕ, List, length, OnErr, Option, Result, Some}
 use Rattle.std.proofs.Common.{ap, subst, ◌∙◌, ⊎_elim}
 use Rattle.std.proofs.lemmas.List.{length-set}
 use Rattle.mg_disk.specs.Disk.{Image}
+use Rattle.mg_disk.specs.Stops.{CountRose}
+use Rattle.mg_disk.specs.declared.disk.Disk.{Ghosts}
 use Rattle.mg_journal.specs.Held.{Store}
 use Rattle.mg_model.specs.Layout.{body_limit, first_frame}
 use Rattle.mg_pages.proofs.Begun.{binds-begun, sets-begun, sound-begun, spelled-begun, staged-begun}
 use Rattle.mg_pages.proofs.Changed.{binds-changed, sets-changed, sound-changed, spelled-changed, staged-changed}
-use Rattle.mg_pages.proofs.Opened.{held-kept, same-shape}
+use Rattle.mg_pages.proofs.Opened.{held-kept, same-shape, stands-again}
 use Rattle.mg_pages.specs.declared.pages.Pages.{Pages}
 use Rattle.mg_pages.specs.Entries.{HoldsEntries}
 use Rattle.mg_pages.specs.Held.{IsSound}
-use Rattle.mg_pages.specs.Meaning.{BindsOnly, IsSpelledBy, SameShape, SetsWord, StagesMore}
-use Rattle.mg_pages.specs.Parts.{BindsWord, ChangesWord, KeepsMore, Stores}
+use Rattle.mg_pages.specs.Meaning.{BindsOnly, IsSpelledBy, SameShape, ServesPage, SetsWord, StagesMore, StandsOn}
+use Rattle.mg_pages.specs.Parts.{BindsWord, ChangesWord, KeepsMore, LooksAt, Stores}
 
 pub sound-stored : (told : Option Image) (store : Store) (kept : List (ℕ × List ℕ)) (page index value : ℕ) (frames frames' : List ℕ) (writes writes' : List (ℕ × List ℕ)) → page ≢ 0 → length writes + 2 ≤ body_limit
     → Stores told store kept page index value frames frames' writes writes' → IsSound store.total frames writes → IsSound store.total frames' writes'
@@ -51,3 +53,17 @@ module _ (told : Option Image) (p q : Pages) (page index value : ℕ) (some : pa
 
   pub stored : Stores told p.blocks.store p.blocks.kept page index value p.frames q.frames p.blocks.writes q.blocks.writes → Stored told page index value p q
   stored stores = ⊎_elim (λ here. changed here.0 here.1) begun stores
+
+-- what it leaves, over reads of blocks
+pub serves-stored : {D T T' E E' : Type 0} (facts : Ghosts D) (disk disk' : D) (read : Result T E) (result : Result T' E') (p q : Pages) (page index value : ℕ) → page ≢ 0
+    → Stores (facts.seen disk) p.blocks.store p.blocks.kept page index value p.frames q.frames p.blocks.writes q.blocks.writes → LooksAt facts p.blocks q.blocks disk disk' read → OnErr result (CountRose facts disk disk') → StandsOn facts p disk → ServesPage page facts p q disk disk' result
+serves-stored facts disk disk' read result p q page index value some stores looks cause stands =
+    let keeps = looks.keeps (first_frame (length p.frames)) in
+    let is = stored (facts.seen disk) p q page index value some keeps stores in
+    record {
+      binds = is.binds;
+      shape = is.shape;
+      staged = is.staged;
+      stands = stands-again facts p q disk disk' stands looks.reads.writes.same looks.reads.calls.blocks looks.stands.settled keeps.store is.spelled;
+      reads = record { writes = looks.reads.writes; calls = record { count = looks.reads.calls.count; blocks = looks.reads.calls.blocks; cause = cause } };
+    }

@@ -11,6 +11,12 @@ use Rattle.mg_pages.specs.declared.blocks.Blocks.{Blocks}
 abbrev pub with_writes : Blocks → List (ℕ × List ℕ) → Blocks
 with_writes b writes = record { store = b.store; writes = writes; kept = b.kept; blank = b.blank }
 
+-- a volume of this many blocks has this many frames, 16 to 65,536
+pub record HasFrames (total frames : ℕ) : Type 0 where
+  pub some : 16 ≤ frames
+  pub few : frames ≤ 65536
+  pub size : total ≡ total_blocks frames
+
 -- what the pages of a volume keep, of the places of the volume, the page of each frame and the writes that wait
 pub record IsSound (total : ℕ) (frames : List ℕ) (writes : List (ℕ × List ℕ)) : Type 0 where
   pub some : 16 ≤ length frames

@@ -1,9 +1,9 @@
 -- What the pages of a volume are, as functions of the value and an image. The layers above see these words by their names.
-use Rattle.std.specs.Prelude.{◌≡◌, ◌≢◌, ◌⊎◌, ◌+◌, ◌≤◌, ◌<◌, ◌==◌, ◌%◌, ◌^◌, ℕ, Bool, true, false, List, [], length, replicate, slice_set, Option, Some}
+use Rattle.std.specs.Prelude.{◌≡◌, ◌≢◌, ◌⊎◌, ◌+◌, ◌≤◌, ◌<◌, ◌==◌, ◌%◌, ◌^◌, ℕ, Bool, true, false, List, [], length, replicate, slice_set, Option, Result, Some}
 use Rattle.std.specs.List.{list_any}
 use Rattle.std.specs.Option.{ForSome, option_map_or}
 use Rattle.mg_disk.specs.Disk.{Image, block_at}
-use Rattle.mg_disk.specs.Stops.{NothingPending}
+use Rattle.mg_disk.specs.Stops.{NothingPending, OnlyReads}
 use Rattle.mg_disk.specs.declared.disk.Disk.{Ghosts}
 use Rattle.mg_journal.specs.Contents.{names}
 use Rattle.mg_journal.specs.Staged.{waiting}
@@ -11,11 +11,12 @@ use Rattle.mg_journal.specs.Standing as journal
 use Rattle.mg_journal.specs.Held.{Store}
 use Rattle.mg_model.specs.Abbreviations.{table_of}
 use Rattle.mg_model.specs.Bytes.{are_zeros}
-use Rattle.mg_model.specs.Layout.{first_frame, table_block, total_blocks}
+use Rattle.mg_model.specs.Layout.{first_frame, globals_block, table_block, total_blocks}
 use Rattle.mg_model.specs.Replay.{replay, written}
 use Rattle.mg_model.specs.Tests.{all_distinct}
 use Rattle.mg_model.specs.Volume.{bound_pages, page_words, whole_table}
 use Rattle.mg_pages.specs.declared.pages.Pages.{Pages}
+use Rattle.mg_pages.specs.Committing.{HasContents}
 use Rattle.mg_pages.specs.Kept.{AreKept}
 use Rattle.std.specs.Prelude.{drop}
 
@@ -95,6 +96,23 @@ pub record StandsOn {D : Type 0} (facts : Ghosts D) (p : Pages) (disk : D) : Typ
   pub settled : NothingPending facts disk
   pub fits : ForSome (facts.seen disk) (λ image. IsSpelledBy p image)
 
+-- so they stand, and a commit may be made
+pub record CanCommit {D : Type 0} (facts : Ghosts D) (p : Pages) (disk : D) : Type 0 where
+  pub live : is_live p ≡ true
+  pub stands : StandsOn facts p disk
+
+-- an image has the contents that were coming of another, and if something was staged it is as a commit leaves it
+pub record IsCommitted (p : Pages) (image now : Image) : Type 0 where
+  pub contents : HasContents (total_of p) (coming p image) now
+  pub late : 0 < staged_of p → journal.IsLate image now
+
+-- the same volume with the same pages bound, and as many words counted
+pub record SamePages (old new : Pages) : Type 0 where
+  pub total : total_of new ≡ total_of old
+  pub frames : frame_count new ≡ frame_count old
+  pub table : table_in new ≡ table_in old
+  pub words : words_in new ≡ words_in old
+
 -- the same volume, and as live
 pub record SameShape (old new : Pages) : Type 0 where
   pub total : total_of new ≡ total_of old
@@ -124,6 +142,27 @@ pub record StagesMore (most : ℕ) (old new : Pages) : Type 0 where
   pub staged : staged_of new ≤ staged_of old + most
   pub still : (block : ℕ) → is_staged old block ≡ true → is_staged new block ≡ true
 
+-- words were read, and nothing else happened: the pages stand on the disk as it is now, and nothing was written
+pub record Reads {D T E : Type 0} (facts : Ghosts D) (old new : Pages) (before after : D) (result : Result T E) : Type 0 where
+  pub keeps : Keeps old new
+  pub stands : StandsOn facts new after
+  pub reads : OnlyReads facts before after result
+
+-- a block between the journal and the frame table: a row of the volume's tables is in such a block
+pub record IsRowBlock (block : ℕ) : Type 0 where
+  pub low : globals_block ≤ block
+  pub high : block < table_block
+
+-- a block is staged with these bytes, and nothing else has changed
+pub record StagesBlock (block : ℕ) (bytes : List ℕ) (old new : Pages) : Type 0 where
+  pub coming : (image : Image) → coming new image ≡ slice_set (coming old image) block bytes
+  pub table : table_in new ≡ table_in old
+  pub shape : SameShape old new
+  pub staged : StagesMore 1 old new
+  pub here : is_staged new block ≡ true
+  pub words : words_in new ≡ words_in old
+  pub spelled : (image : Image) → IsSpelledBy old image → IsSpelledBy new image
+
 -- a block that was staged is staged with these bytes, and nothing else has changed
 pub record Restages (block : ℕ) (bytes : List ℕ) (old new : Pages) : Type 0 where
   pub waits : waiting_in new block ≡ Some bytes
@@ -144,6 +183,15 @@ pub record SetsWord (old new : Pages) (image : Image) (page index value : ℕ) :
 -- no page is bound that was not, but this one
 abbrev pub BindsOnly : ℕ → Pages → Pages → Type 0
 BindsOnly page old new = (other : ℕ) → is_bound new other ≡ true → (other ≡ page) ⊎ (is_bound old other ≡ true)
+
+-- What a store to a page leaves, whether it was made or failed: no page is bound but this one, at most two blocks more are staged,
+-- the pages stand on the disk as it is now, and nothing was written.
+pub record ServesPage {D T E : Type 0} (page : ℕ) (facts : Ghosts D) (old new : Pages) (before after : D) (result : Result T E) : Type 0 where
+  pub binds : BindsOnly page old new
+  pub shape : SameShape old new
+  pub staged : StagesMore 2 old new
+  pub stands : StandsOn facts new after
+  pub reads : OnlyReads facts before after result
 
 -- one word was read or written, and counted
 pub record CountsOne (old new : Pages) (before now : ℕ) : Type 0 where
@@ -175,6 +223,24 @@ pub record SpellsTable (frames : ℕ) (r : Image) : Type 0 where
 pub record IsBare (p : Pages) : Type 0 where
   pub staged : staged_of p ≡ 0
   pub kept : kept_in p ≡ []
+
+-- pages of a volume with this journal and so many frames, of which no word was counted, nothing is staged and no block is kept
+pub record AreMade (store : Store) (frames : ℕ) (p : Pages) : Type 0 where
+  pub same : store_of p ≡ store
+  pub total : total_of p ≡ journal.total_of store
+  pub count : frame_count p ≡ frames
+  pub live : is_live p ≡ journal.is_live store
+  pub bare : IsBare p
+  pub words : words_in p ≡ 0
+  pub coming : (image : Image) → coming p image ≡ replayed (journal.total_of store) image
+
+-- nothing changed but which pages are bound
+pub record OnlyBinds (old new : Pages) : Type 0 where
+  pub coming : (image : Image) → coming new image ≡ coming old image
+  pub store : store_of new ≡ store_of old
+  pub shape : SameShape old new
+  pub staged : staged_in new ≡ staged_in old
+  pub words : words_in new ≡ words_in old
 
 -- the pages of a range read as zeros; the other pages, and all blocks before the frame table, are as they were
 pub record Releases (old new : Pages) (image : Image) (first pages : ℕ) : Type 0 where

@@ -2,6 +2,11 @@
 use Rattle.std.specs.Prelude.{◌≡◌, ◌≢◌, ◌+◌, ◌-◌, ◌*◌, ◌≤◌, ◌<◌, ℕ, Option, IfSome}
 use Rattle.std.specs.Option.{option_map_or}
 
+-- the places of pairs from one on and before another; a page has 255 pairs
+pub record ArePlaces (from count : ℕ) : Type 0 where
+  pub from_up_to_count : from ≤ count
+  pub at_most_255 : count ≤ 255
+
 -- the first pair from place `from` on, and before place `count`, whose first word is this one: its place and its second word
 pub record IsNextPair (word : ℕ → ℕ) (from count first : ℕ) (found : Option (ℕ × ℕ)) : Type 0 where
   pub none_before : (j : ℕ) → from ≤ j → j < option_map_or (λ pair. pair.0) found count → word (2 + 2 * j) ≢ first

@@ -1,11 +1,14 @@
 -- What the parts of a change of pages do, over the lists that they are given.
-use Rattle.std.specs.Prelude.{◌≡◌, ◌⊎◌, ◌+◌, ◌/◌, ◌≤◌, ◌<◌, ◌==◌, ℕ, true, false, List, length, replicate, slice_set, Option, Some}
+use Rattle.std.specs.Prelude.{◌≡◌, ◌⊎◌, ◌+◌, ◌/◌, ◌≤◌, ◌<◌, ◌==◌, ℕ, true, false, List, [], length, replicate, slice_set, Option, Result, Some}
 use Rattle.std.specs.List.{list_any, position}
 use Rattle.std.specs.Option.{ForSome}
 use Rattle.mg_disk.specs.Disk.{Image, block_at}
+use Rattle.mg_disk.specs.Stops.{OnlyReads}
+use Rattle.mg_disk.specs.declared.disk.Disk.{Ghosts}
 use Rattle.mg_journal.specs.Contents.{names}
 use Rattle.mg_journal.specs.Staged.{are_once, staged}
 use Rattle.mg_journal.specs.Held.{Store}
+use Rattle.mg_journal.specs.Standing.{Stands}
 use Rattle.mg_model.specs.Bytes.{block_words}
 use Rattle.mg_model.specs.Layout.{first_frame, table_block}
 use Rattle.mg_model.specs.Replay.{homes_fit, written}
@@ -22,6 +25,18 @@ coming_of store writes image = written (replayed store.total image) writes
 pub record KeepsMore (told : Option Image) (first : ℕ) (old new : Blocks) : Type 0 where
   pub store : new.store ≡ old.store
   pub kept : ForSome told (λ image. AreKept first (replayed old.store.total image) old.kept → AreKept first (replayed old.store.total image) new.kept)
+
+-- blocks of the contents were read: the journal stands on the disk as it is now, from whatever number on blocks are kept
+pub record LooksAt {D T E : Type 0} (facts : Ghosts D) (old new : Blocks) (before after : D) (result : Result T E) : Type 0 where
+  pub keeps : (first : ℕ) → KeepsMore (facts.seen before) first old new
+  pub stands : Stands facts new.store after
+  pub reads : OnlyReads facts before after result
+
+-- a commit was made: the journal stands on the disk as it is now, nothing is staged, and of blocks from this number on what was written is kept
+pub record TakesOver {D : Type 0} (facts : Ghosts D) (first : ℕ) (old new : Blocks) (now : D) : Type 0 where
+  pub stands : Stands facts new.store now
+  pub staged : new.writes ≡ []
+  pub kept : (r : Image) → old.store.total ≤ length r → AreKept first r old.kept → AreKept first (written r old.writes) new.kept
 
 -- one block more is staged
 pub record StagesBlock (old new : List (ℕ × List ℕ)) (block : ℕ) (is : List ℕ → Type 0) : Type 0 where

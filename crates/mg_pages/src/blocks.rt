@@ -1,20 +1,19 @@
 // The blocks of a volume: those of its journal's contents, those that wait for a commit over them, and frame blocks that are
 // kept in memory.
-ghost use Rattle.std.specs.Prelude.{[], ◌≡◌, ◌≢◌, ◌⊎◌, ◌≤◌, ◌<◌, ◌*◌, ℕ, List, IfOk, IsOk, IsSome, IsSomeAnd, MatchOption, None, OnErr, OnOk, Some, ◌+◌, ◌++◌, is_ok, is_some, length, replicate, slice_set, true};
+ghost use Rattle.std.specs.Prelude.{[], ◌≡◌, ◌≢◌, ◌⊎◌, ◌≤◌, ◌<◌, ◌*◌, ℕ, List, IfOk, IsOk, IsSome, MatchOption, MatchResult, None, OnErr, OnOk, Some, ◌+◌, ◌++◌, is_ok, is_some, length, replicate, slice_set, true};
 ghost use Rattle.std.specs.List.{position, splice};
 ghost use Rattle.std.specs.Option.{ForSome};
-ghost use Rattle.mg_disk.specs.Disk.{Image, block_at};
-ghost use Rattle.mg_disk.specs.Stops.{DiskCalls, Leaves, WritesNothing};
-ghost use Rattle.mg_journal.specs.Contents.{NewContents};
+ghost use Rattle.mg_disk.specs.Disk.{block_at};
+ghost use Rattle.mg_disk.specs.Stops.{Becomes, DiskCalls, Leaves, OnlyReads};
 ghost use Rattle.mg_journal.specs.Staged.{are_once, goes_to, staged, waiting};
-ghost use Rattle.mg_journal.specs.Standing.{IsLate, OldOrNew, Stands, is_live, total_of};
+ghost use Rattle.mg_journal.specs.Standing.{CanCommit, IsCommitted, OldOrNew, Stands, is_live, total_of};
 ghost use Rattle.mg_model.specs.Bytes.{block_words, number_at, padded_to, word_bytes};
 ghost use Rattle.mg_model.specs.Layout.{block_size, body_limit};
-ghost use Rattle.mg_model.specs.Replay.{homes_fit, written};
+ghost use Rattle.mg_model.specs.Replay.{homes_fit};
 ghost use Rattle.mg_pages.specs.Held.{with_writes};
 ghost use Rattle.mg_pages.specs.Kept.{AreKept, kept_at};
 ghost use Rattle.mg_pages.specs.Meaning.{replayed};
-ghost use Rattle.mg_pages.specs.Parts.{KeepsMore, StagesBlock, coming_of};
+ghost use Rattle.mg_pages.specs.Parts.{LooksAt, StagesBlock, TakesOver, coming_of};
 
 use crate::blank::Blank;
 use crate::kept::CachedBlocks;
@@ -106,10 +105,7 @@ impl Blocks {
         ensures word { IfOk result (λ word. ForSome (D.seen disk.old) (λ image. (first : ℕ) → first ≤ block → AreKept first (replayed (total_of self.old.store) image) self.old.kept
             → word ≡ number_at (block_at (coming_of self.old.store self.old.writes image) block) (8 * index))) }
         ensures staged { self.new.writes ≡ self.old.writes }
-        ensures keeps { (first : ℕ) → KeepsMore (D.seen disk.old) first self.old self.new }
-        ensures stands { Stands D.Disk self.new.store disk.new }
-        ensures writes { WritesNothing D.Disk disk.old disk.new }
-        ensures calls { DiskCalls D.Disk disk.old disk.new result }
+        ensures looks { LooksAt D.Disk self.old self.new disk.old disk.new result }
     {
         match staged_word(&self.writes, block, index) {
             Some(word) => Ok(word),
@@ -144,10 +140,7 @@ impl Blocks {
         requires index { index < 512 }
         ensures word { IfOk result (λ word. ForSome (D.seen disk.old) (λ image. word ≡ number_at (block_at (replayed (total_of self.old.store) image) block) (8 * index))) }
         ensures staged { self.new.writes ≡ self.old.writes }
-        ensures keeps { (first : ℕ) → KeepsMore (D.seen disk.old) first self.old self.new }
-        ensures stands { Stands D.Disk self.new.store disk.new }
-        ensures writes { WritesNothing D.Disk disk.old disk.new }
-        ensures calls { DiskCalls D.Disk disk.old disk.new result }
+        ensures looks { LooksAt D.Disk self.old self.new disk.old disk.new result }
     {
         let mut bytes = [0; BLOCK_SIZE];
         match self.read(disk, block, &mut bytes) {
@@ -167,10 +160,7 @@ impl Blocks {
         requires place { block < total_of self.old.store }
         ensures block { OnOk result (ForSome (D.seen disk.old) (λ image. bytes.new ≡ block_at (replayed (total_of self.old.store) image) block)) }
         ensures staged { self.new.writes ≡ self.old.writes }
-        ensures keeps { (first : ℕ) → KeepsMore (D.seen disk.old) first self.old self.new }
-        ensures stands { Stands D.Disk self.new.store disk.new }
-        ensures writes { WritesNothing D.Disk disk.old disk.new }
-        ensures calls { DiskCalls D.Disk disk.old disk.new result }
+        ensures looks { LooksAt D.Disk self.old self.new disk.old disk.new result }
     {
         match self.store.read(disk, block, bytes) {
             Ok(()) => {
@@ -192,8 +182,7 @@ impl Blocks {
         requires place { block < total_of self.now.store }
         ensures block { OnOk result (ForSome (D.seen disk.old) (λ image. bytes.new ≡ block_at (replayed (total_of self.now.store) image) block)) }
         ensures stands { Stands D.Disk self.now.store disk.new }
-        ensures writes { WritesNothing D.Disk disk.old disk.new }
-        ensures calls { DiskCalls D.Disk disk.old disk.new result }
+        ensures reads { OnlyReads D.Disk disk.old disk.new result }
     {
         self.store.read(disk, block, bytes)
     }
@@ -214,10 +203,7 @@ impl Blocks {
         ensures staged { OnOk result (StagesBlock self.old.writes self.new.writes block (λ bytes. ForSome (D.seen disk.old) (λ image. (first : ℕ) → first ≤ block → AreKept first (replayed (total_of self.old.store) image) self.old.kept
             → block_words bytes ≡ slice_set (block_words (block_at (coming_of self.old.store self.old.writes image) block)) index value))) }
         ensures failed { OnErr result (self.new.writes ≡ self.old.writes) }
-        ensures keeps { (first : ℕ) → KeepsMore (D.seen disk.old) first self.old self.new }
-        ensures stands { Stands D.Disk self.new.store disk.new }
-        ensures writes { WritesNothing D.Disk disk.old disk.new }
-        ensures calls { DiskCalls D.Disk disk.old disk.new result }
+        ensures looks { LooksAt D.Disk self.old self.new disk.old disk.new result }
     {
         if put_staged(&mut self.writes, block, index, value) {
             return Ok(());
@@ -239,10 +225,7 @@ impl Blocks {
         ensures staged { OnOk result (StagesBlock self.old.writes self.new.writes block (λ bytes. ForSome (D.seen disk.old) (λ image. (first : ℕ) → first ≤ block → AreKept first (replayed (total_of self.old.store) image) self.old.kept
             → bytes ≡ block_at (replayed (total_of self.old.store) image) block))) }
         ensures failed { OnErr result (self.new.writes ≡ self.old.writes) }
-        ensures keeps { (first : ℕ) → KeepsMore (D.seen disk.old) first self.old self.new }
-        ensures stands { Stands D.Disk self.new.store disk.new }
-        ensures writes { WritesNothing D.Disk disk.old disk.new }
-        ensures calls { DiskCalls D.Disk disk.old disk.new result }
+        ensures looks { LooksAt D.Disk self.old self.new disk.old disk.new result }
     {
         if self.kept.stage(block, &mut self.writes) {
             Ok(())
@@ -258,10 +241,7 @@ impl Blocks {
         requires fewer_than_160_writes { length self.old.writes < body_limit }
         ensures staged { OnOk result (StagesBlock self.old.writes self.new.writes block (λ bytes. ForSome (D.seen disk.old) (λ image. bytes ≡ block_at (replayed (total_of self.old.store) image) block))) }
         ensures failed { OnErr result (self.new.writes ≡ self.old.writes) }
-        ensures keeps { (first : ℕ) → KeepsMore (D.seen disk.old) first self.old self.new }
-        ensures stands { Stands D.Disk self.new.store disk.new }
-        ensures writes { WritesNothing D.Disk disk.old disk.new }
-        ensures calls { DiskCalls D.Disk disk.old disk.new result }
+        ensures looks { LooksAt D.Disk self.old self.new disk.old disk.new result }
     {
         let mut bytes = [0; BLOCK_SIZE];
         match self.contents(disk, block, &mut bytes) {
@@ -276,19 +256,13 @@ impl Blocks {
     /// Makes what is staged durable. Then nothing is staged, and of each block from `first` on that was, what is kept is what was
     /// written.
     pub(crate) fn commit<D: Disk>(&mut self, disk: &mut D, first: u64) -> Result<(), Failed>
-        requires live { is_live self.old.store ≡ true }
-        requires stands { Stands D.Disk self.old.store disk.old }
+        requires ready { CanCommit D.Disk self.old.store disk.old }
         requires homes { homes_fit (total_of self.old.store) self.old.writes ≡ true }
         ensures any_moment { ForSome (D.seen disk.old) (λ image. Leaves D.Disk disk.old disk.new (OldOrNew (total_of self.old.store) self.old.writes image)) }
-        ensures done { OnOk result (ForSome (D.seen disk.old) (λ image. IsSomeAnd (D.seen disk.new) (NewContents (total_of self.old.store) image self.old.writes))) }
-        ensures came_from { OnOk result (ForSome (D.seen disk.new) (λ now. IsSomeAnd (D.seen disk.old) (λ image. NewContents (total_of self.old.store) image self.old.writes now))) }
-        ensures stands { OnOk result (Stands D.Disk self.new.store disk.new) }
+        ensures done { OnOk result (Becomes (IsCommitted (total_of self.old.store) self.old.writes) (D.seen disk.old) (D.seen disk.new)) }
+        ensures takes { MatchResult result (λ _. TakesOver D.Disk first self.old self.new disk.new) (λ _. self.new.writes ≡ self.old.writes) }
         ensures live { is_live self.new.store ≡ is_ok result }
         ensures total { total_of self.new.store ≡ total_of self.old.store }
-        ensures staged { OnOk result (self.new.writes ≡ []) }
-        ensures failed { OnErr result (self.new.writes ≡ self.old.writes) }
-        ensures kept { OnOk result ((r : Image) → total_of self.old.store ≤ length r → AreKept first r self.old.kept → AreKept first (written r self.old.writes) self.new.kept) }
-        ensures late { self.old.writes ≢ [] → OnOk result (ForSome (D.seen disk.old) (λ image. IsSomeAnd (D.seen disk.new) (IsLate image))) }
         ensures no_call { self.old.writes ≡ [] → (disk.new ≡ disk.old) × IsOk result }
         ensures calls { DiskCalls D.Disk disk.old disk.new result }
     {

@@ -2,14 +2,13 @@
 ghost use Rattle.std.specs.Prelude.{◌≡◌, ◌≢◌, ◌≤◌, ◌<◌, ◌*◌, true, IfOk, IsSomeAnd, MatchOption, None, length, slice_index};
 ghost use Rattle.std.specs.Option.{ForSome};
 ghost use Rattle.mg_disk.specs.Disk.{block_at};
-ghost use Rattle.mg_disk.specs.Stops.{DiskCalls, WritesNothing};
-ghost use Rattle.mg_journal.specs.Staged.{are_once, waiting};
 ghost use Rattle.mg_journal.specs.Standing.{Stands, total_of};
-ghost use Rattle.mg_model.specs.Layout.{first_frame, total_blocks};
+ghost use Rattle.mg_model.specs.Layout.{first_frame};
 ghost use Rattle.mg_model.specs.Volume.{page_words};
+ghost use Rattle.mg_pages.specs.Held.{IsSound};
 ghost use Rattle.mg_pages.specs.Kept.{AreKept};
 ghost use Rattle.mg_pages.specs.Meaning.{replayed};
-ghost use Rattle.mg_pages.specs.Parts.{KeepsMore, coming_of};
+ghost use Rattle.mg_pages.specs.Parts.{LooksAt, coming_of};
 
 use crate::blocks::Blocks;
 use crate::table::frame_block;
@@ -26,18 +25,13 @@ pub(crate) fn page_word<D: Disk>(
     index: u64,
 ) -> Result<u64, Failed>
     requires stands { Stands D.Disk blocks.old.store disk.old }
-    requires at_least_16_frames { 16 ≤ length frames.now }
-    requires size { total_of blocks.old.store ≡ total_blocks (length frames.now) }
+    requires sound { IsSound (total_of blocks.old.store) frames.now blocks.old.writes }
     requires page { page ≢ 0 }
     requires index { index < 512 }
-    requires once { are_once blocks.old.writes ≡ true }
     ensures word { IfOk result (λ word. ForSome (D.seen disk.old) (λ image. AreKept (first_frame (length frames.now)) (replayed (total_of blocks.old.store) image) blocks.old.kept
         → word ≡ slice_index (page_words (coming_of blocks.old.store blocks.old.writes image) (length frames.now) frames.now page) index)) }
     ensures staged { blocks.new.writes ≡ blocks.old.writes }
-    ensures keeps { KeepsMore (D.seen disk.old) (first_frame (length frames.now)) blocks.old blocks.new }
-    ensures stands { Stands D.Disk blocks.new.store disk.new }
-    ensures writes { WritesNothing D.Disk disk.old disk.new }
-    ensures calls { DiskCalls D.Disk disk.old disk.new result }
+    ensures looks { LooksAt D.Disk blocks.old blocks.new disk.old disk.new result }
 {
     match frames.bound_frame(page) {
         Some(frame) => blocks.word(disk, frame_block(frames.len(), frame), index),

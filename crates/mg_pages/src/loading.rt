@@ -2,13 +2,14 @@
 ghost use Rattle.std.specs.Prelude.{◌≡◌, ◌≤◌, ◌+◌, ◌*◌, ◌<◌, OnOk, length, true};
 ghost use Rattle.std.specs.Option.{ForSome};
 ghost use Rattle.mg_disk.specs.Disk.{block_at};
-ghost use Rattle.mg_disk.specs.Stops.{DiskCalls, WritesNothing};
+ghost use Rattle.mg_disk.specs.Stops.{OnlyReads};
 ghost use Rattle.mg_journal.specs.Standing.{Stands, total_of};
 ghost use Rattle.mg_model.specs.Abbreviations.{table_of};
 ghost use Rattle.mg_model.specs.Bytes.{are_zeros};
-ghost use Rattle.mg_model.specs.Layout.{table_block, table_blocks, total_blocks};
+ghost use Rattle.mg_model.specs.Layout.{table_block};
 ghost use Rattle.mg_model.specs.Tests.{all_distinct};
 ghost use Rattle.mg_model.specs.Volume.{bound_pages};
+ghost use Rattle.mg_pages.specs.Held.{IsSound};
 ghost use Rattle.mg_pages.specs.Loading.{AreFreeFrom, HoldFirstEntries, LoadsBlock, entry_bound};
 ghost use Rattle.mg_pages.specs.Meaning.{replayed};
 
@@ -61,8 +62,7 @@ fn load_block<D: Disk>(
     ensures free { OnOk result (AreFreeFrom (512 * (k + 1)) frames.new) }
     ensures count { length frames.new ≡ length frames.old }
     ensures stands { Stands D.Disk blocks.now.store disk.new }
-    ensures writes { WritesNothing D.Disk disk.old disk.new }
-    ensures calls { DiskCalls D.Disk disk.old disk.new result }
+    ensures reads { OnlyReads D.Disk disk.old disk.new result }
 {
     let mut block = [0; BLOCK_SIZE];
     match blocks.contents(disk, TABLE_BLOCK + k, &mut block) {
@@ -82,16 +82,13 @@ pub(crate) fn load_pages<D: Disk>(
     disk: &mut D,
 ) -> Result<(), Failed>
     requires stands { Stands D.Disk blocks.now.store disk.old }
-    requires at_least_16_frames { 16 ≤ length frames.old }
-    requires at_most_65536_frames { length frames.old ≤ 65536 }
-    requires size { total_of blocks.now.store ≡ total_blocks (length frames.old) }
+    requires sound { IsSound (total_of blocks.now.store) frames.old blocks.now.writes }
     requires unbound { are_zeros frames.old ≡ true }
     ensures first_entries { OnOk result (ForSome (D.seen disk.old) (λ image. HoldFirstEntries (table_of (replayed (total_of blocks.now.store) image) (length frames.old)) frames.new)) }
     ensures table { OnOk result (ForSome (D.seen disk.old) (λ image. all_distinct (bound_pages (table_of (replayed (total_of blocks.now.store) image) (length frames.old))) ≡ true → frames.new ≡ table_of (replayed (total_of blocks.now.store) image) (length frames.old))) }
     ensures count { length frames.new ≡ length frames.old }
     ensures stands { Stands D.Disk blocks.now.store disk.new }
-    ensures writes { WritesNothing D.Disk disk.old disk.new }
-    ensures calls { DiskCalls D.Disk disk.old disk.new result }
+    ensures reads { OnlyReads D.Disk disk.old disk.new result }
 {
     for k in 0..Geometry::of(frames.len()).table {
         match load_block(blocks, frames, disk, k) {

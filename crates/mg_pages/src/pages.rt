@@ -1,20 +1,20 @@
 // The pages of a volume, and what is staged.
-ghost use Rattle.std.specs.Prelude.{[], List, ◌≡◌, ◌≢◌, ◌⊎◌, ◌≤◌, ◌<◌, ◌+◌, ◌-◌, ℕ, true, false, IfOk, IfSome, IsOk, Ok, IsSomeAnd, MatchOption, None, OnErr, OnOk, is_some, length, slice_index, slice_set};
+ghost use Rattle.std.specs.Prelude.{[], List, ◌≡◌, ◌≢◌, ◌⊎◌, ◌≤◌, ◌<◌, ◌+◌, ◌-◌, ℕ, true, false, IfOk, IfSome, IsOk, Ok, MatchOption, MatchResult, None, OnErr, OnOk, is_some, length, slice_index};
 ghost use Rattle.std.specs.List.{splice};
 ghost use Rattle.std.specs.Option.{ForSome};
 ghost use Rattle.mg_disk.specs.Disk.{block_at};
-ghost use Rattle.mg_disk.specs.Stops.{DiskCalls, Leaves, WritesNothing};
+ghost use Rattle.mg_disk.specs.Stops.{Becomes, DiskCalls, Leaves, OnlyReads};
 ghost use Rattle.mg_journal.specs.Contents.{SameContents};
 ghost use Rattle.mg_journal.specs.Standing as journal;
 ghost use Rattle.mg_model.specs.Abbreviations.{table_of};
 ghost use Rattle.mg_model.specs.Bytes.{are_zeros, block_words, padded_to, word_bytes};
-ghost use Rattle.mg_model.specs.Layout.{block_size, body_limit, first_frame, globals_block, table_block, total_blocks};
+ghost use Rattle.mg_model.specs.Layout.{block_size, body_limit, first_frame};
 ghost use Rattle.mg_model.specs.Tests.{all_distinct};
 ghost use Rattle.mg_model.specs.Volume.{bound_pages};
 ghost use Rattle.mg_pages.specs.Committing.{HasContents};
-ghost use Rattle.mg_pages.specs.Held.{IsSound};
+ghost use Rattle.mg_pages.specs.Held.{HasFrames, IsSound};
 ghost use Rattle.mg_pages.specs.Loading.{HoldFirstEntries};
-ghost use Rattle.mg_pages.specs.Pairs.{IsNextPair, words_looked_at};
+ghost use Rattle.mg_pages.specs.Pairs.{ArePlaces, IsNextPair, words_looked_at};
 
 use crate::blocks::Blocks;
 use crate::coming::page_word;
@@ -44,23 +44,15 @@ pub struct Pages {
 
 #[tactic(auto, unfolding(crate::specs::Meaning::total_of, crate::specs::Meaning::store_of, crate::specs::Meaning::frame_count, crate::specs::Meaning::table_in, crate::specs::Meaning::coming, crate::specs::Meaning::staged_in, crate::specs::Meaning::staged_of, crate::specs::Meaning::is_staged, crate::specs::Meaning::waiting_in, crate::specs::Meaning::kept_in, crate::specs::Meaning::is_live, crate::specs::Meaning::words_in))]
 impl Pages {
-    ghost use Rattle.mg_pages.specs.Meaning.{BindsOnly, CountsNone, CountsOne, CountsSome, HasTable, IsBare, IsKept, Keeps, Releases, Restages, SameShape, SetsWord, SpellsTable, StagesMore, StandsOn, Unbinds, IsSpelledBy, coming, frame_count, is_bound, is_live, is_staged, page_now, replayed, staged_in, staged_of, store_of, table_in, total_of, waiting_in, words_in};
+    ghost use Rattle.mg_pages.specs.Meaning.{AreMade, CanCommit, CountsNone, CountsOne, CountsSome, HasTable, IsBare, IsCommitted, IsKept, IsRowBlock, IsSpelledBy, Keeps, OnlyBinds, Reads, Releases, Restages, SamePages, SameShape, ServesPage, SetsWord, SpellsTable, StagesBlock, StagesMore, StandsOn, Unbinds, coming, frame_count, is_bound, is_live, is_staged, page_now, replayed, staged_of, store_of, table_in, total_of, waiting_in, words_in};
 
     /// The pages of a volume with this journal and these entries of its frame table, one a frame, 16 to 65,536 of them: the
     /// page that the frame holds, or 0. No page occurs twice. All memory that they will need is taken here.
     pub fn open(alloc: Global, store: Store, entries: Vec<u64>) -> Result<Pages, AllocError>
-        requires at_least_16_entries { 16 ≤ length entries.items }
-        requires at_most_65536_entries { length entries.items ≤ 65536 }
-        requires total { journal.total_of store ≡ total_blocks (length entries.items) }
+        requires frames { HasFrames (journal.total_of store) (length entries.items) }
         requires distinct { all_distinct (bound_pages entries.items) ≡ true }
-        ensures store { IfOk result (λ p. store_of p ≡ store) }
-        ensures total { IfOk result (λ p. total_of p ≡ journal.total_of store) }
-        ensures frames { IfOk result (λ p. frame_count p ≡ length entries.items) }
+        ensures made { IfOk result (AreMade store (length entries.items)) }
         ensures table { IfOk result (λ p. table_in p ≡ entries.items) }
-        ensures live { IfOk result (λ p. is_live p ≡ journal.is_live store) }
-        ensures staged { IfOk result (λ p. staged_of p ≡ 0) }
-        ensures words { IfOk result (λ p. words_in p ≡ 0) }
-        ensures coming { IfOk result (λ p. (image : List (List ℕ)) → coming p image ≡ replayed (journal.total_of store) image) }
         ensures spelled { IfOk result (λ p. (image : List (List ℕ)) → journal.IsFitting store image → journal.total_of store ≤ length image
             → HasTable entries.items (replayed (journal.total_of store) image) → IsSpelledBy p image) }
     {
@@ -82,18 +74,10 @@ impl Pages {
     /// If the entries of the frame table are at hand already, [`Pages::open`] makes the same in one step, and the table is read
     /// once.
     pub fn new(alloc: Global, store: Store, geometry: Geometry) -> Result<Pages, AllocError>
-        requires at_least_16_frames { 16 ≤ geometry.total - geometry.first_frame }
-        requires at_most_65536_frames { geometry.total - geometry.first_frame ≤ 65536 }
-        requires places { geometry.total ≡ total_blocks (geometry.total - geometry.first_frame) }
+        requires frames { HasFrames geometry.total (geometry.total - geometry.first_frame) }
         requires total { journal.total_of store ≡ geometry.total }
-        ensures store { IfOk result (λ p. store_of p ≡ store) }
-        ensures total { IfOk result (λ p. total_of p ≡ journal.total_of store) }
-        ensures frames { IfOk result (λ p. frame_count p ≡ geometry.total - geometry.first_frame) }
+        ensures made { IfOk result (AreMade store (geometry.total - geometry.first_frame)) }
         ensures unbound { IfOk result (λ p. are_zeros (table_in p) ≡ true) }
-        ensures live { IfOk result (λ p. is_live p ≡ journal.is_live store) }
-        ensures bare { IfOk result IsBare }
-        ensures words { IfOk result (λ p. words_in p ≡ 0) }
-        ensures coming { IfOk result (λ p. (image : List (List ℕ)) → coming p image ≡ replayed (journal.total_of store) image) }
     {
         let frames = Frames::new(alloc, geometry.total - geometry.first_frame)?;
         let blocks = Blocks::open(alloc, store)?;
@@ -114,13 +98,8 @@ impl Pages {
         ensures first_entries { OnOk result (ForSome (D.seen disk.old) (λ image. HoldFirstEntries (table_of (replayed (total_of self.old) image) (frame_count self.old)) (table_in self.new))) }
         ensures table { OnOk result (ForSome (D.seen disk.old) (λ image. all_distinct (bound_pages (table_of (replayed (total_of self.old) image) (frame_count self.old))) ≡ true → table_in self.new ≡ table_of (replayed (total_of self.old) image) (frame_count self.old))) }
         ensures stands { OnOk result (IsBare self.old → ForSome (D.seen disk.old) (λ image. SpellsTable (frame_count self.old) (replayed (total_of self.old) image)) → StandsOn D.Disk self.new disk.new) }
-        ensures coming { (image : List (List ℕ)) → coming self.new image ≡ coming self.old image }
-        ensures store { store_of self.new ≡ store_of self.old }
-        ensures shape { SameShape self.old self.new }
-        ensures staged { staged_in self.new ≡ staged_in self.old }
-        ensures words { words_in self.new ≡ words_in self.old }
-        ensures writes { WritesNothing D.Disk disk.old disk.new }
-        ensures calls { DiskCalls D.Disk disk.old disk.new result }
+        ensures binds { OnlyBinds self.old self.new }
+        ensures reads { OnlyReads D.Disk disk.old disk.new result }
     {
         let frames = &mut self.frames;
         let loaded = load_pages(&self.blocks, frames, disk);
@@ -166,10 +145,8 @@ impl Pages {
         ensures no_page { page ≡ 0 → result ≡ Ok 0 }
         ensures keeps { Keeps self.old self.new }
         ensures stands { StandsOn D.Disk self.old disk.old → StandsOn D.Disk self.new disk.new }
-        ensures writes { WritesNothing D.Disk disk.old disk.new }
-        ensures counts { OnOk result (CountsOne self.old self.new steps.old steps.new) }
-        ensures counts_failed { OnErr result (CountsNone self.old self.new steps.old steps.new) }
-        ensures calls { DiskCalls D.Disk disk.old disk.new result }
+        ensures reads { OnlyReads D.Disk disk.old disk.new result }
+        ensures counts { MatchResult result (λ _. CountsOne self.old self.new steps.old steps.new) (λ _. CountsNone self.old self.new steps.old steps.new) }
     {
         if page == 0 {
             count_word(&mut self.count, steps);
@@ -190,12 +167,8 @@ impl Pages {
         requires page { page ≢ 0 }
         requires index { index < 512 }
         ensures word { IfOk result (λ word. ForSome (D.seen disk.old) (λ image. word ≡ slice_index (page_now self.old image page) index)) }
-        ensures keeps { Keeps self.old self.new }
-        ensures stands { StandsOn D.Disk self.new disk.new }
-        ensures writes { WritesNothing D.Disk disk.old disk.new }
-        ensures counts { OnOk result (CountsOne self.old self.new steps.old steps.new) }
-        ensures counts_failed { OnErr result (CountsNone self.old self.new steps.old steps.new) }
-        ensures calls { DiskCalls D.Disk disk.old disk.new result }
+        ensures looks { Reads D.Disk self.old self.new disk.old disk.new result }
+        ensures counts { MatchResult result (λ _. CountsOne self.old self.new steps.old steps.new) (λ _. CountsNone self.old self.new steps.old steps.new) }
     {
         match page_word(&mut self.blocks, &self.frames, disk, page, index) {
             Ok(word) => {
@@ -220,16 +193,11 @@ impl Pages {
     ) -> Result<Option<(u64, u64)>, Failed>
         requires stands { StandsOn D.Disk self.old disk.old }
         requires page { page ≢ 0 }
-        requires from_up_to_count { from ≤ count }
-        requires at_most_255_pairs { count ≤ 255 }
+        requires pairs { ArePlaces from count }
         ensures found { IfOk result (λ found. ForSome (D.seen disk.old) (λ image. IsNextPair (λ index. slice_index (page_now self.old image page) index) from count first found)) }
         ensures place { IfOk result (λ found. IfSome found (λ pair. (from ≤ pair.0) × (pair.0 < count))) }
-        ensures keeps { Keeps self.old self.new }
-        ensures stands { StandsOn D.Disk self.new disk.new }
-        ensures writes { WritesNothing D.Disk disk.old disk.new }
-        ensures counts { IfOk result (λ found. CountsSome (words_looked_at from count found) self.old self.new steps.old steps.new) }
-        ensures counts_failed { OnErr result (CountsNone self.old self.new steps.old steps.new) }
-        ensures calls { DiskCalls D.Disk disk.old disk.new result }
+        ensures looks { Reads D.Disk self.old self.new disk.old disk.new result }
+        ensures counts { MatchResult result (λ found. CountsSome (words_looked_at from count found) self.old self.new steps.old steps.new) (λ _. CountsNone self.old self.new steps.old steps.new) }
     {
         let block = match self.frames.bound_frame(page) {
             Some(frame) => frame_block(self.frames.len(), frame),
@@ -261,15 +229,9 @@ impl Pages {
         requires index { index < 512 }
         requires at_most_158_staged { staged_of self.old ≤ 158 }
         ensures sets { OnOk result (ForSome (D.seen disk.old) (λ image. SetsWord self.old self.new image page index value)) }
-        ensures binds { BindsOnly page self.old self.new }
         ensures failed { OnErr result (Keeps self.old self.new) }
-        ensures shape { SameShape self.old self.new }
-        ensures staged { StagesMore 2 self.old self.new }
-        ensures stands { StandsOn D.Disk self.new disk.new }
-        ensures writes { WritesNothing D.Disk disk.old disk.new }
-        ensures counts { OnOk result (CountsOne self.old self.new steps.old steps.new) }
-        ensures counts_failed { OnErr result (CountsNone self.old self.new steps.old steps.new) }
-        ensures calls { DiskCalls D.Disk disk.old disk.new result }
+        ensures serves { ServesPage page D.Disk self.old self.new disk.old disk.new result }
+        ensures counts { MatchResult result (λ _. CountsOne self.old self.new steps.old steps.new) (λ _. CountsNone self.old self.new steps.old steps.new) }
     {
         match store_word(&mut self.blocks, &mut self.frames, disk, page, index, value) {
             Ok(()) => {
@@ -282,33 +244,19 @@ impl Pages {
 
     /// Stages a block between the journal and the frame table.
     pub fn stage(&mut self, block: u64, from: &Block)
-        requires low { globals_block ≤ block }
-        requires high { block < table_block }
+        requires place { IsRowBlock block }
         requires staged_or_fewer_than_160 { (is_staged self.old block ≡ true) ⊎ (staged_of self.old < body_limit) }
-        ensures coming { (image : List (List ℕ)) → coming self.new image ≡ slice_set (coming self.old image) block from.now }
-        ensures table { table_in self.new ≡ table_in self.old }
-        ensures shape { SameShape self.old self.new }
-        ensures staged { StagesMore 1 self.old self.new }
-        ensures here { is_staged self.new block ≡ true }
-        ensures words { words_in self.new ≡ words_in self.old }
-        ensures spelled { (image : List (List ℕ)) → IsSpelledBy self.old image → IsSpelledBy self.new image }
+        ensures { StagesBlock block from.now self.old self.new }
     {
         self.blocks.stage(block, from);
     }
 
     /// Stages a block between the journal and the frame table that begins with these bytes and has zeros after them.
     pub fn stage_start(&mut self, block: u64, start: &[u8])
-        requires low { globals_block ≤ block }
-        requires high { block < table_block }
+        requires place { IsRowBlock block }
         requires staged_or_fewer_than_160 { (is_staged self.old block ≡ true) ⊎ (staged_of self.old < body_limit) }
         requires within { length start.now ≤ block_size }
-        ensures coming { (image : List (List ℕ)) → coming self.new image ≡ slice_set (coming self.old image) block (padded_to block_size start.now) }
-        ensures table { table_in self.new ≡ table_in self.old }
-        ensures shape { SameShape self.old self.new }
-        ensures staged { StagesMore 1 self.old self.new }
-        ensures here { is_staged self.new block ≡ true }
-        ensures words { words_in self.new ≡ words_in self.old }
-        ensures spelled { (image : List (List ℕ)) → IsSpelledBy self.old image → IsSpelledBy self.new image }
+        ensures { StagesBlock block (padded_to block_size start.now) self.old self.new }
     {
         self.blocks.stage_start(block, start);
     }
@@ -316,8 +264,7 @@ impl Pages {
     /// Writes a word at a byte offset, 0 to 4,088, into a block between the journal and the frame table, if it is staged, and says
     /// whether it is.
     pub fn put(&mut self, block: u64, at: usize, word: u64) -> bool
-        requires low { globals_block ≤ block }
-        requires high { block < table_block }
+        requires place { IsRowBlock block }
         requires within { at + 8 ≤ block_size }
         ensures waits { result ≡ is_some (waiting_in self.old block) }
         ensures was { IfSome (waiting_in self.old block) (λ bytes. (image : List (List ℕ)) → IsSpelledBy self.old image → block_at (coming self.old image) block ≡ bytes) }
@@ -330,21 +277,14 @@ impl Pages {
     /// their homes are written first, and one is open then. With nothing staged no call is made, and the answer is Ok. After
     /// [`Failed`], which comes only if a call of the disk failed, the pages are not live: the disk has the old contents or the new.
     pub fn commit<D: Disk>(&mut self, disk: &mut D) -> Result<(), Failed>
-        requires live { is_live self.old ≡ true }
-        requires stands { StandsOn D.Disk self.old disk.old }
+        requires { CanCommit D.Disk self.old disk.old }
         ensures any_moment { ForSome (D.seen disk.old) (λ image. Leaves D.Disk disk.old disk.new (λ c.
             SameContents (total_of self.old) image c ⊎ HasContents (total_of self.old) (coming self.old image) c)) }
-        ensures done { OnOk result (ForSome (D.seen disk.old) (λ image. IsSomeAnd (D.seen disk.new) (HasContents (total_of self.old) (coming self.old image)))) }
-        ensures came_from { OnOk result (ForSome (D.seen disk.new) (λ now. IsSomeAnd (D.seen disk.old) (λ image. HasContents (total_of self.old) (coming self.old image) now))) }
-        ensures stands { OnOk result (StandsOn D.Disk self.new disk.new) }
+        ensures done { OnOk result (Becomes (IsCommitted self.old) (D.seen disk.old) (D.seen disk.new)) }
+        ensures ready { OnOk result (CanCommit D.Disk self.new disk.new) }
         ensures staged { OnOk result (staged_of self.new ≡ 0) }
-        ensures table { table_in self.new ≡ table_in self.old }
-        ensures total { total_of self.new ≡ total_of self.old }
-        ensures frames { frame_count self.new ≡ frame_count self.old }
-        ensures live { OnOk result (is_live self.new ≡ true) }
         ensures dead { OnErr result (is_live self.new ≡ false) }
-        ensures words { words_in self.new ≡ words_in self.old }
-        ensures late { 0 < staged_of self.old → OnOk result (ForSome (D.seen disk.old) (λ image. IsSomeAnd (D.seen disk.new) (journal.IsLate image))) }
+        ensures same { SamePages self.old self.new }
         ensures nothing { staged_of self.old ≡ 0 → (disk.new ≡ disk.old) × IsOk result }
         ensures calls { DiskCalls D.Disk disk.old disk.new result }
     {
@@ -396,16 +336,11 @@ impl Pages {
         requires low { first_frame (frame_count self.old) ≤ block }
         requires place { block < total_of self.old }
         requires waits_not { waiting_in self.old block ≡ None }
-        requires from_up_to_count { from ≤ count }
-        requires at_most_255_pairs { count ≤ 255 }
+        requires pairs { ArePlaces from count }
         ensures found { IfOk result (λ found. ForSome (D.seen disk.old) (λ image. IsNextPair (λ index. slice_index (block_words (block_at (coming self.old image) block)) index) from count first found)) }
         ensures place { IfOk result (λ found. IfSome found (λ pair. (from ≤ pair.0) × (pair.0 < count))) }
-        ensures keeps { Keeps self.old self.new }
-        ensures stands { StandsOn D.Disk self.new disk.new }
-        ensures writes { WritesNothing D.Disk disk.old disk.new }
-        ensures counts { IfOk result (λ found. CountsSome (words_looked_at from count found) self.old self.new steps.old steps.new) }
-        ensures counts_failed { OnErr result (CountsNone self.old self.new steps.old steps.new) }
-        ensures calls { DiskCalls D.Disk disk.old disk.new result }
+        ensures looks { Reads D.Disk self.old self.new disk.old disk.new result }
+        ensures counts { MatchResult result (λ found. CountsSome (words_looked_at from count found) self.old self.new steps.old steps.new) (λ _. CountsNone self.old self.new steps.old steps.new) }
     {
         let mut bytes = [0; BLOCK_SIZE];
         match self.blocks.read(disk, block, &mut bytes) {

@@ -1,7 +1,7 @@
 // A search through the pairs of words of a block.
 ghost use Rattle.std.specs.Prelude.{◌≡◌, ◌+◌, ◌*◌, ◌%◌, ◌^◌, ◌≤◌, ◌<◌, IfSome, slice_index};
 ghost use Rattle.mg_model.specs.Bytes.{block_words, number_at};
-ghost use Rattle.mg_pages.specs.Pairs.{IsNextPair, words_looked_at};
+ghost use Rattle.mg_pages.specs.Pairs.{ArePlaces, IsNextPair, words_looked_at};
 
 use crate::counting::count_word;
 use crate::words::word_at;
@@ -19,8 +19,7 @@ pub(crate) fn next_pair<L: Ledger>(
     words: &mut u64,
     steps: &mut Steps<L>,
 ) -> Option<(u64, u64)>
-    requires from_up_to_count { from ≤ count }
-    requires at_most_255_pairs { count ≤ 255 }
+    requires { ArePlaces from count }
     ensures found { IsNextPair (λ index. slice_index (block_words block.now) index) from count first result }
     ensures place { IfSome result (λ pair. (from ≤ pair.0) × (pair.0 < count)) }
     ensures words { words.new % 2 ^ 64 ≡ (words.old + words_looked_at from count result) % 2 ^ 64 }

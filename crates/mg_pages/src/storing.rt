@@ -1,13 +1,11 @@
 // A store to a word of a page, as blocks that are staged.
 ghost use Rattle.std.specs.Prelude.{◌≡◌, ◌≢◌, ◌⊎◌, ◌+◌, ◌/◌, ◌≤◌, ◌<◌, ◌==◌, OnErr, OnOk, false, length, replicate, slice_set, true};
 ghost use Rattle.std.specs.List.{list_any};
-ghost use Rattle.mg_disk.specs.Stops.{DiskCalls, WritesNothing};
-ghost use Rattle.mg_journal.specs.Staged.{are_once};
 ghost use Rattle.mg_journal.specs.Standing.{Stands, total_of};
 ghost use Rattle.mg_model.specs.Bytes.{block_words};
-ghost use Rattle.mg_model.specs.Layout.{body_limit, first_frame, total_blocks};
-ghost use Rattle.mg_pages.specs.Held.{with_writes};
-ghost use Rattle.mg_pages.specs.Parts.{Begins, KeepsMore, Stores};
+ghost use Rattle.mg_model.specs.Layout.{body_limit};
+ghost use Rattle.mg_pages.specs.Held.{IsSound, with_writes};
+ghost use Rattle.mg_pages.specs.Parts.{Begins, LooksAt, Stores};
 
 use crate::blocks::Blocks;
 use crate::table::{entries_block, frame_block};
@@ -27,19 +25,14 @@ pub(crate) fn store_word<D: Disk>(
     value: u64,
 ) -> Result<(), Failed>
     requires stands { Stands D.Disk blocks.old.store disk.old }
-    requires at_least_16_frames { 16 ≤ length frames.old }
-    requires size { total_of blocks.old.store ≡ total_blocks (length frames.old) }
+    requires sound { IsSound (total_of blocks.old.store) frames.old blocks.old.writes }
     requires page { page ≢ 0 }
     requires frame { (list_any (λ entry. entry == page) frames.old ≡ true) ⊎ (list_any (λ entry. entry == 0) frames.old ≡ true) }
     requires index { index < 512 }
-    requires once { are_once blocks.old.writes ≡ true }
     requires at_most_158_writes { length blocks.old.writes + 2 ≤ body_limit }
     ensures stored { OnOk result (Stores (D.seen disk.old) blocks.old.store blocks.old.kept page index value frames.old frames.new blocks.old.writes blocks.new.writes) }
     ensures failed { OnErr result ((frames.new ≡ frames.old) × (blocks.new.writes ≡ blocks.old.writes)) }
-    ensures keeps { KeepsMore (D.seen disk.old) (first_frame (length frames.old)) blocks.old blocks.new }
-    ensures stands { Stands D.Disk blocks.new.store disk.new }
-    ensures writes { WritesNothing D.Disk disk.old disk.new }
-    ensures calls { DiskCalls D.Disk disk.old disk.new result }
+    ensures looks { LooksAt D.Disk blocks.old blocks.new disk.old disk.new result }
 {
     match frames.bound_frame(page) {
         Some(frame) => blocks.set_word(disk, frame_block(frames.len(), frame), index, value),

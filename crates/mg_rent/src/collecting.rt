@@ -1,11 +1,11 @@
 // The collection of the rent.
 ghost use Rattle.std.specs.Prelude.{◌≡◌, ◌≤◌, ◌+◌, ◌^◌, ◌==◌, ℕ, List, MatchResult, OnErr, OnOk, IfOk, false, length, true};
-ghost use Rattle.mg_bank.specs.Bank.{credits_of, pages_at};
-ghost use Rattle.mg_model.specs.Bank.{all_charged, all_paid, given_to, rate_of};
+ghost use Rattle.mg_bank.specs.Bank.{pages_at};
+ghost use Rattle.mg_model.specs.Bank.{rate_of};
 ghost use Rattle.mg_model.specs.declared.replies.Refusal.TheVariants.{Calendar};
 ghost use Rattle.mg_model.specs.Limits.{debt_limit, period_limit};
 ghost use Rattle.mg_model.specs.State.{Object};
-ghost use Rattle.mg_rent.specs.Charging.{ArePagesOf, OweAtMost};
+ghost use Rattle.mg_rent.specs.Charging.{ArePagesOf, Collects, KeepsCredits, OweAtMost};
 
 use crate::charging::{charge, give};
 use crate::rates::rate;
@@ -22,11 +22,9 @@ pub fn collect(bank: &mut Bank, tariff: &Tariff, used: u64, period: u64) -> Resu
     requires owed { OweAtMost (debt_limit period) bank.old.accounts }
     requires pages { (n : ℕ) → pages_at bank.old.pages n ≤ 65536 }
     ensures refusal { MatchResult result (λ _. (period == period_limit) ≡ false) (λ word. (word ≡ Calendar) × ((period == period_limit) ≡ true)) }
-    ensures accounts { OnOk result ((objects : List Object) → ArePagesOf objects bank.old.pages → bank.new.accounts ≡ given_to (all_charged objects (rate_of tariff.now used) 1 bank.old.accounts) 1 (all_paid objects (rate_of tariff.now used) 1 bank.old.accounts)) }
-    ensures paid { IfOk result (λ paid. (objects : List Object) → ArePagesOf objects bank.old.pages → paid ≡ all_paid objects (rate_of tariff.now used) 1 bank.old.accounts) }
+    ensures collects { IfOk result (λ paid. (objects : List Object) → ArePagesOf objects bank.old.pages → Collects objects (rate_of tariff.now used) bank.old.accounts bank.new.accounts paid) }
     ensures debts { OnOk result (OweAtMost (debt_limit (period + 1)) bank.new.accounts) }
-    ensures sum { credits_of bank.new.accounts ≡ credits_of bank.old.accounts }
-    ensures pages { bank.new.pages ≡ bank.old.pages }
+    ensures keeps { KeepsCredits bank.old bank.new }
     ensures stays { OnErr result (bank.new ≡ bank.old) }
 {
     let (_, paid) = collect_rent(bank, tariff, used, period)?;
@@ -51,12 +49,9 @@ pub fn collect_rent(
     requires pages { (n : ℕ) → pages_at bank.old.pages n ≤ 65536 }
     ensures refusal { MatchResult result (λ _. (period == period_limit) ≡ false) (λ word. (word ≡ Calendar) × ((period == period_limit) ≡ true)) }
     ensures rate { IfOk result (λ told. told.0 ≡ rate_of tariff.now used) }
-    ensures accounts { OnOk result (OweAtMost (2 ^ 60) bank.old.accounts → (objects : List Object) → ArePagesOf objects bank.old.pages → bank.new.accounts ≡ given_to (all_charged objects (rate_of tariff.now used) 1 bank.old.accounts) 1 (all_paid objects (rate_of tariff.now used) 1 bank.old.accounts)) }
-    ensures paid { IfOk result (λ told. OweAtMost (2 ^ 60) bank.old.accounts → (objects : List Object) → ArePagesOf objects bank.old.pages → told.1 ≡ all_paid objects (rate_of tariff.now used) 1 bank.old.accounts) }
+    ensures collects { IfOk result (λ told. OweAtMost (2 ^ 60) bank.old.accounts → (objects : List Object) → ArePagesOf objects bank.old.pages → Collects objects (rate_of tariff.now used) bank.old.accounts bank.new.accounts told.1) }
     ensures debts { OnOk result (OweAtMost (2 ^ 60) bank.old.accounts → OweAtMost (debt_limit period) bank.old.accounts → OweAtMost (debt_limit (period + 1)) bank.new.accounts) }
-    ensures count { length bank.new.accounts ≡ length bank.old.accounts }
-    ensures sum { credits_of bank.new.accounts ≡ credits_of bank.old.accounts }
-    ensures pages { bank.new.pages ≡ bank.old.pages }
+    ensures keeps { KeepsCredits bank.old bank.new }
     ensures stays { OnErr result (bank.new ≡ bank.old) }
 {
     if period == PERIOD_LIMIT {

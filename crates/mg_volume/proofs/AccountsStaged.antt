@@ -18,7 +18,8 @@ use Rattle.mg_rows.specs.Blocks.{account_in}
 use Rattle.mg_volume.proofs.AccountLists.{account_here, accounts_rise}
 use Rattle.mg_volume.proofs.Staged.{counters_stay, objects_behind, objects_stay, threads_stay, block_there, but_one}
 use Rattle.mg_volume.proofs.Stages.{same_changes, shape_then, stages_then}
-use Rattle.mg_volume.specs.Changes.{Changes, StagesBlock}
+use Rattle.mg_pages.specs.Meaning.{StagesBlock}
+use Rattle.mg_volume.specs.Changes.{Changes}
 use Rattle.mg_volume.specs.Held.{VolumeHeld}
 use Rattle.mg_volume.specs.Meaning.{IsSpelledBy, Spelled, now_of, threads_in}
 use Rattle.mg_volume.specs.RowLists.{tell, told}

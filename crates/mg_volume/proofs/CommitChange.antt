@@ -1,11 +1,12 @@
 -- What a commit of the pages does to the volume.
-use Rattle.std.specs.Prelude.{◌≡◌, ◌⊎◌, ◌≤◌, ℕ, true, List, [], ◌∷◌, length, take, IsSomeAnd, Option, Some}
+use Rattle.std.specs.Prelude.{◌≡◌, ◌⊎◌, ◌≤◌, ℕ, true, List, [], ◌∷◌, length, take, MatchResult, OnErr, OnOk, Option, Some, Result, Ok, Err}
 use Rattle.std.specs.Option.{ForSome}
 use Rattle.std.proofs.Common.{refl, sym, ap, subst, ◌∙◌, ⊎_elim, inl, inr, arith}
 use Rattle.std.proofs.lemmas.List.{length-take}
+use Rattle.mg_disk.specs.BecomesLemmas.{becomes-of}
 use Rattle.mg_disk.specs.Disk.{Image, SeenBut}
+use Rattle.mg_disk.specs.Stops.{Becomes}
 use Rattle.mg_disk.specs.declared.disk.Disk.{Ghosts}
-use Rattle.mg_journal.specs.ResultLemmas.{some_of}
 use Rattle.mg_journal.specs.Contents.{InJournal, SameContents}
 use Rattle.mg_model.specs.Layout.{total_blocks}
 use Rattle.mg_model.specs.Objects.{page_of}
@@ -22,7 +23,7 @@ use Rattle.mg_volume.specs.Contents.{AgreeBehind, IsSet, contents_set, pages_wor
 use Rattle.mg_volume.specs.Held.{VolumeHeld}
 use Rattle.mg_volume.specs.StateLemmas.{set_of}
 use Rattle.mg_volume.specs.Meaning.{IsKept, IsSpelledBy, Spelled, StandsOn, is_sound, now_of, threads_in, total_of}
-use Rattle.mg_volume.specs.Opening.{Holds}
+use Rattle.mg_volume.specs.Opening.{IsSaved}
 use Rattle.mg_volume.specs.Sound.{all_spelled, coming_volume}
 
 total_is : (v : VolumeHeld) (image : Image) → Spelled v image → pages.total_of v.pages ≡ total_blocks v.settings.frames
@@ -85,28 +86,30 @@ now_again v p image c s same table =
 -- all of it, after a commit that went well
 module _ {D : Type 0} (facts : Ghosts D) (old new : D) (v : VolumeHeld) (p : Pages) (stands : StandsOn facts v old) (kept : IsKept v) (sound : ForSome (facts.seen old) (λ image. is_sound (now_of v image) ≡ true))
     (standing : pages.StandsOn facts p new) (none : pages.staged_of p ≡ 0) (total : pages.total_of p ≡ pages.total_of v.pages) (table : pages.table_in p ≡ pages.table_in v.pages) (frames : pages.frame_count p ≡ pages.frame_count v.pages) where
-  pub held_now : (image : Image) → facts.seen old ≡ Some image → IsSomeAnd (facts.seen new) (HasContents (pages.total_of v.pages) (pages.coming v.pages image)) → Holds (now_of v image) (with_pages v p) (facts.seen new)
+  pub held_now : (image now : Image) → facts.seen old ≡ Some image → facts.seen new ≡ Some now → pages.IsCommitted v.pages image now → IsSaved v (with_pages v p) image now
   unfolding IsSpelledBy
-  held_now image told has =
-      let at = some_of (HasContents (pages.total_of v.pages) (pages.coming v.pages image)) (facts.seen new) has in
+  held_now image now told told' done =
       let s : Spelled v image = stands.fits image told in
       record {
-        image = at.0;
-        is = at.1;
-        kept = new_volume v image at.0 s kept (sound image told) at.2;
-        now = now_again v p image at.0 s (coming_again v p image at.0 (standing.fits at.0 at.1) none total at.2) table;
+        kept = new_volume v image now s kept (sound image told) done.contents;
+        now_is = now_again v p image now s (coming_again v p image now (standing.fits now told') none total done.contents) table;
       }
 
-  pub stands_now : ForSome (facts.seen new) (λ c. IsSomeAnd (facts.seen old) (λ image. HasContents (pages.total_of v.pages) (pages.coming v.pages image) c)) → StandsOn facts (with_pages v p) new
+  pub stands_now : Becomes (pages.IsCommitted v.pages) (facts.seen old) (facts.seen new) → StandsOn facts (with_pages v p) new
   unfolding IsSpelledBy total_of
-  stands_now came = record { room = standing.room; settled = standing.settled; fits = fits }
+  stands_now done = record { room = standing.room; settled = standing.settled; fits = fits }
     where
       fits : ForSome (facts.seen new) (λ c. IsSpelledBy (with_pages v p) c)
       fits c told =
-          let from = some_of (λ image. HasContents (pages.total_of v.pages) (pages.coming v.pages image) c) (facts.seen old) (came c told) in
+          let from = becomes-of (pages.IsCommitted v.pages) (facts.seen old) (facts.seen new) c done told in
           let s : Spelled v from.0 = stands.fits from.0 from.1 in
-          let same = coming_again v p from.0 c (standing.fits c told) none total from.2 in
+          let same = coming_again v p from.0 c (standing.fits c told) none total from.2.contents in
           let size = total_is v from.0 s in
-          spelled_again v p from.0 c s (standing.fits c told) frames (contents_set v.settings (pages.coming v.pages from.0) c (coming_set v from.0 s) (has-total v from.0 c s from.2)) (now_of v from.0)
-          (new_volume v from.0 c s kept (sound from.0 from.1) from.2)
+          spelled_again v p from.0 c s (standing.fits c told) frames (contents_set v.settings (pages.coming v.pages from.0) c (coming_set v from.0 s) (has-total v from.0 c s from.2.contents)) (now_of v from.0)
+          (new_volume v from.0 c s kept (sound from.0 from.1) from.2.contents)
           (record { each = λ k low high. sym (same.each k low (omega arith)) })
+
+-- what a commit of the pages answers is what one of the volume does
+pub ready_now : {T E : Type 0} (ready done dead : Type 0) (r : Result T E) → OnOk r ready → (ready → done) → OnErr r dead → MatchResult r (λ _. done) (λ _. dead)
+ready_now ready done dead (Ok x) is step not = step is
+ready_now ready done dead (Err e) is step not = not

@@ -1,19 +1,19 @@
 -- A volume is opened from the rows that were read of it.
 use Rattle.std.proofs.lemmas.List.{length-map}
 use Rattle.std.proofs.lemmas.Bool.Decides.{nat_tests}
-use Rattle.std.specs.Prelude.{◌≡◌, ◌≤◌, ◌<◌, ◌+◌, ℕ, ◌&&◌, true, List, [], ◌∷◌, length, map, sum_by, drop, IsSomeAnd, Option, Some, None}
+use Rattle.std.specs.Prelude.{◌≡◌, ◌≤◌, ◌<◌, ◌+◌, ℕ, ◌&&◌, true, List, [], ◌∷◌, length, map, sum_by, drop, Option, Some, None}
 use Rattle.std.specs.List.{list_all, list_any}
 use Rattle.std.specs.Option.{ForSome, option_map_or}
 use Rattle.std.proofs.Common.{refl, sym, ap, subst, ◌∙◌, arith}
 use Rattle.std.proofs.lemmas.Bool.{and_from}
 use Rattle.mg_check.specs.RowsRead.{AreKept, IsReadAs, live_from, objects_of, rows_in, state_in}
 use Rattle.mg_check.specs.declared.volume_rows.VolumeRows.{VolumeRows}
+use Rattle.mg_disk.specs.BecomesLemmas.{becomes-of, becomes-to}
 use Rattle.mg_disk.specs.Disk.{Image}
 use Rattle.mg_disk.specs.Runs.{leaves_wider}
-use Rattle.mg_disk.specs.Stops.{Leaves}
+use Rattle.mg_disk.specs.Stops.{Becomes, Leaves}
 use Rattle.mg_disk.specs.declared.disk.Disk.{Ghosts}
 use Rattle.mg_journal.specs.Contents.{SameContents}
-use Rattle.mg_journal.specs.ResultLemmas.{some_of}
 use Rattle.mg_journal.specs.Standing as journal
 use Rattle.mg_journal.specs.Held.{Store}
 use Rattle.mg_model.specs.declared.accounts.AccRow.{AccRow}
@@ -247,26 +247,26 @@ module _ (rows : VolumeRows) (kept : AreKept rows) (store : Store) (p : Pages) (
     there_now : (image now : Image) → IsReadAs rows image → SameContents total image now → IsThere rows image now
     there_now image now is contents = there rows image now is (let P : ℕ → Type 0 = λ n. SameContents n image now in subst P same contents)
 
-    pub stands_now : ForSome (facts.seen new) (λ now. IsSomeAnd (facts.seen old) (λ image. SameContents total image now)) → StandsOn facts (holding rows p) new
+    pub stands_now : Becomes (SameContents total) (facts.seen old) (facts.seen new) → StandsOn facts (holding rows p) new
     unfolding total_of IsSpelledBy
     stands_now came_from =
         let paged = laws.stands_spelled facts store p new are.store_is standing
         (λ now told.
-        let from = some_of (λ image. SameContents total image now) (facts.seen old) (came_from now told) in
+        let from = becomes-of (SameContents total) (facts.seen old) (facts.seen new) now came_from told in
         let is = read from.0 from.1 in
         (spelled_now from.0 now is (there_now from.0 now is from.2) (standing.fits now told)).fitting) in
         record {
           room = paged.room;
           settled = paged.settled;
           fits = λ now told.
-              let from = some_of (λ image. SameContents total image now) (facts.seen old) (came_from now told) in
+              let from = becomes-of (SameContents total) (facts.seen old) (facts.seen new) now came_from told in
               let is = read from.0 from.1 in
               spells from.0 now is (there_now from.0 now is from.2) (standing.fits now told);
         }
 
-    pub opens_now : ForSome (facts.seen old) (λ image. IsSomeAnd (facts.seen new) (SameContents total image)) → ForSome (facts.seen old) (λ image. Opens (volume image) (holding rows p) (facts.seen new))
+    pub opens_now : Becomes (SameContents total) (facts.seen old) (facts.seen new) → ForSome (facts.seen old) (λ image. Opens (volume image) (holding rows p) (facts.seen new))
     opens_now contents image told =
-        let now = some_of (SameContents total image) (facts.seen new) (contents image told) in
+        let now = becomes-to (SameContents total) (facts.seen old) (facts.seen new) image contents told in
         let is = read image told in
         let at = there_now image now.0 is now.2 in
         record {

@@ -1,7 +1,7 @@
 -- What a call of the pages does to the volume.
 use Rattle.mg_model.specs.Limits.{thread_limit}
 use Rattle.std.proofs.lemmas.Bool.Decides.{nat_tests}
-use Rattle.std.specs.Prelude.{◌≡◌, ◌≢◌, ◌⊎◌, ◌+◌, ◌*◌, ◌%◌, ◌^◌, ◌<◌, ◌==◌, ℕ, Bool, true, false, All, List, [], ◌∷◌, map, slice_index, slice_set, IfOk, OnErr, OnOk, Result, Ok, Err, length, ◌≤◌}
+use Rattle.std.specs.Prelude.{◌≡◌, ◌≢◌, ◌⊎◌, ◌+◌, ◌*◌, ◌%◌, ◌^◌, ◌<◌, ◌==◌, ℕ, Bool, true, false, All, List, [], ◌∷◌, map, slice_index, slice_set, MatchResult, OnErr, OnOk, Result, Ok, Err, length, ◌≤◌}
 use Rattle.std.specs.List.{list_all, list_any}
 use Rattle.std.specs.Option.{ForSome}
 use Rattle.std.proofs.Common.{refl, sym, ap, ◌∙◌, inr, arith}
@@ -86,15 +86,22 @@ counted-one old new steps steps' words ticks = (1, ticks, omega arith)
 counted-none : (old new steps steps' : ℕ) → new ≡ old → steps' ≡ steps → CountsAlike old new steps steps'
 counted-none old new steps steps' words ticks = (0, omega arith, omega arith)
 
-pub counted : {T E : Type 0} (r : Result T E) (p p' : Pages) (steps steps' : ℕ) → OnOk r (pages.CountsOne p p' steps steps') → OnErr r (pages.CountsNone p p' steps steps') → CountsAlike (pages.words_in p) (pages.words_in p') steps steps'
-counted (Ok x) p p' steps steps' one none = counted-one (pages.words_in p) (pages.words_in p') steps steps' one.words one.ticks
-counted (Err e) p p' steps steps' one none = counted-none (pages.words_in p) (pages.words_in p') steps steps' none.words none.ticks
+pub counted : {T E : Type 0} (r : Result T E) (p p' : Pages) (steps steps' : ℕ) → MatchResult r (λ _. pages.CountsOne p p' steps steps') (λ _. pages.CountsNone p p' steps steps') → CountsAlike (pages.words_in p) (pages.words_in p') steps steps'
+counted (Ok x) p p' steps steps' one = counted-one (pages.words_in p) (pages.words_in p') steps steps' one.words one.ticks
+counted (Err e) p p' steps steps' none = counted-none (pages.words_in p) (pages.words_in p') steps steps' none.words none.ticks
+
+pub ticked : {T E : Type 0} (r : Result T E) (p p' : Pages) (steps steps' : ℕ) → MatchResult r (λ _. pages.CountsOne p p' steps steps') (λ _. pages.CountsNone p p' steps steps') → MatchResult r (λ _. steps' ≡ steps + 1) (λ _. steps' ≡ steps)
+ticked (Ok x) p p' steps steps' one = one.ticks
+ticked (Err e) p p' steps steps' none = none.ticks
 
 -- of the words that a search looks at
-pub counted_some : {T E : Type 0} (n : T → ℕ) (r : Result T E) (p p' : Pages) (steps steps' : ℕ) → IfOk r (λ x. pages.CountsSome (n x) p p' steps steps') → OnErr r (pages.CountsNone p p' steps steps')
-    → CountsAlike (pages.words_in p) (pages.words_in p') steps steps'
-counted_some n (Ok x) p p' steps steps' some none = (n x, some.ticks, some.words)
-counted_some n (Err e) p p' steps steps' some none = counted-none (pages.words_in p) (pages.words_in p') steps steps' none.words none.ticks
+pub counted_some : {T E : Type 0} (n : T → ℕ) (r : Result T E) (p p' : Pages) (steps steps' : ℕ) → MatchResult r (λ x. pages.CountsSome (n x) p p' steps steps') (λ _. pages.CountsNone p p' steps steps') → CountsAlike (pages.words_in p) (pages.words_in p') steps steps'
+counted_some n (Ok x) p p' steps steps' some = (n x, some.ticks, some.words)
+counted_some n (Err e) p p' steps steps' none = counted-none (pages.words_in p) (pages.words_in p') steps steps' none.words none.ticks
+
+pub ticked_some : {T E : Type 0} (n : T → ℕ) (r : Result T E) (p p' : Pages) (steps steps' : ℕ) → MatchResult r (λ x. pages.CountsSome (n x) p p' steps steps') (λ _. pages.CountsNone p p' steps steps') → MatchResult r (λ x. steps' ≡ steps + n x) (λ _. steps' ≡ steps)
+ticked_some n (Ok x) p p' steps steps' some = some.ticks
+ticked_some n (Err e) p p' steps steps' none = none.ticks
 
 -- nothing changed but the count
 pub keeps_now : (v : VolumeHeld) (p : Pages) → pages.Keeps v.pages p → Keeps v (with_pages v p)
@@ -129,3 +136,10 @@ pub rows_same : {T E D : Type 0} (r : Result T E) (facts : Ghosts D) (old : D) (
     → ForSome (facts.seen old) (λ image. (k : ℕ) → k < table_block → block_at (pages.coming p image) k ≡ block_at (pages.coming v.pages image) k)
 rows_same (Ok x) facts old v p page index value sets keeps image told = (sets image told).rows
 rows_same (Err e) facts old v p page index value sets keeps image told = λ k low. ap (λ i. block_at i k) (keeps.coming image)
+
+-- the word is the state's, or nothing changed
+pub set_or_same : {T E D : Type 0} (r : Result T E) (facts : Ghosts D) (old : D) (v : VolumeHeld) (p : Pages) (page index value : ℕ) → IsKept v → index < 512 → pages.frame_count p ≡ pages.frame_count v.pages
+    → OnOk r (ForSome (facts.seen old) (λ image. pages.SetsWord v.pages p image page index value)) → OnErr r (pages.Keeps v.pages p)
+    → MatchResult r (λ _. ForSome (facts.seen old) (λ image. now_of (with_pages v p) image ≡ record (now_of v image) { objects = with_word (now_of v image).objects (4096 * page + 8 * index) value })) (λ _. Keeps v (with_pages v p))
+set_or_same (Ok x) facts old v p page index value kept within frames sets keeps = λ image told. word_set v p image page index value kept within frames (sets image told)
+set_or_same (Err e) facts old v p page index value kept within frames sets keeps = keeps_now v p keeps

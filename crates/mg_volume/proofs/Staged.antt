@@ -19,7 +19,8 @@ use Rattle.mg_check.specs.RowsRead.{placed_from}
 use Rattle.mg_model.specs.Abbreviations.{account_row_bytes, object_row_bytes, thread_row_bytes}
 use Rattle.mg_model.specs.Limits.{account_limit, object_limit, thread_limit}
 use Rattle.mg_volume.proofs.Stages.{same_changes}
-use Rattle.mg_volume.specs.Changes.{Changes, StagesBlock}
+use Rattle.mg_pages.specs.Meaning.{StagesBlock}
+use Rattle.mg_volume.specs.Changes.{Changes}
 use Rattle.mg_volume.specs.Contents.{AgreeIn, accounts_within, objects_within, threads_within}
 use Rattle.mg_volume.specs.Held.{VolumeHeld}
 use Rattle.mg_volume.specs.Meaning.{IsSpelledBy, Spelled, now_of, threads_in}

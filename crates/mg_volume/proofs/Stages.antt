@@ -7,7 +7,8 @@ use Rattle.mg_pages.specs.Meaning as pages
 use Rattle.mg_volume.proofs.StillStaged.{objects_wait, still_staged}
 use Rattle.mg_volume.specs.Calls.{Stages}
 use Rattle.mg_pages.specs.declared.pages.Pages.{Pages}
-use Rattle.mg_volume.specs.Changes.{Changes, StagesBlock}
+use Rattle.mg_pages.specs.Meaning.{StagesBlock}
+use Rattle.mg_volume.specs.Changes.{Changes}
 use Rattle.mg_volume.specs.Staging.{ObjectsStillStaged}
 use Rattle.mg_volume.specs.Held.{VolumeHeld}
 use Rattle.mg_volume.specs.Meaning.{IsSpelledBy, SameShape, bare_rows, is_live, now_of, objects_in, settings_in, staged_of, total_of, words_in}

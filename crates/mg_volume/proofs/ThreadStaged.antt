@@ -1,5 +1,6 @@
 -- A thread is staged, and the state has its row.
-use Rattle.mg_volume.specs.Changes.{Changes, StagesBlock}
+use Rattle.mg_pages.specs.Meaning.{StagesBlock}
+use Rattle.mg_volume.specs.Changes.{Changes}
 use Rattle.mg_volume.proofs.Stages.{same_changes}
 use Rattle.mg_volume.proofs.Staged.{accounts_stay, block_there, but_block, but_one, counters_stay, objects_stay, staged_objects}
 use Rattle.std.specs.Prelude.{◌≡◌, ◌+◌, ◌-◌, ◌≤◌, ℕ, List, map, Option, Some}

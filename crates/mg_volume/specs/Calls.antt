@@ -1,5 +1,5 @@
 -- Words for what a call does to a volume, and for what it replies.
-use Rattle.std.specs.Prelude.{◌≡◌, ◌+◌, ◌≤◌, ℕ, true}
+use Rattle.std.specs.Prelude.{◌≡◌, ◌+◌, ◌≤◌, ℕ, true, Option}
 use Rattle.std.specs.Option.{ForSome}
 use Rattle.mg_disk.specs.Disk.{Image}
 use Rattle.mg_disk.specs.Stops.{CountGoes, WritesNothing}
@@ -14,8 +14,8 @@ use Rattle.mg_model.specs.Refused.{Answer, IsRefusal}
 use Rattle.mg_model.specs.State.{ObjectRow, State}
 use Rattle.mg_model.specs.WellFormed.{IsWellFormed}
 use Rattle.mg_volume.specs.Held.{VolumeHeld}
-use Rattle.mg_volume.specs.Meaning.{IsSpelledBy, Keeps, SameShape, StandsOn, is_live, now_of, objects_in, staged_of, words_in}
-use Rattle.mg_volume.specs.Staging.{StillStaged}
+use Rattle.mg_volume.specs.Meaning.{IsSpelledBy, Keeps, SameRows, SameShape, StandsOn, is_live, is_sound, now_of, objects_in, staged_of, words_in}
+use Rattle.mg_volume.specs.Staging.{ObjectsStillStaged, StillStaged}
 
 -- At most `most` blocks more are staged, and none fewer, without the disk: the volume is spelled where it was, and what waited
 -- waits still.
@@ -73,3 +73,9 @@ pub record Serves {D : Type 0} (most : ℕ) (facts : Ghosts D) (old new : Volume
   pub counted : CountsAlike (words_in old) (words_in new) steps steps'
   pub count : CountGoes facts before after
   pub blocks : facts.block_count after ≡ facts.block_count before
+
+-- All that does not lie in pages is as it was, and as sound; the objects' rows that waited wait still.
+pub record KeepsRows (told : Option Image) (old new : VolumeHeld) : Type 0 where
+  pub same : SameRows old new
+  pub sound : ForSome told (λ image. is_sound (now_of new image) ≡ is_sound (now_of old image))
+  pub objects : ObjectsStillStaged old new

@@ -1,5 +1,5 @@
 -- What a volume is, as functions of the value and an image. The layers above see these words by their names.
-use Rattle.std.specs.Prelude.{◌≡◌, ◌+◌, ◌≤◌, ◌<◌, ◌&&◌, nat_le, nat_lt, ℕ, Bool, true, List, [], ◌∷◌, Some, find, length, map, sum_by, All}
+use Rattle.std.specs.Prelude.{◌≡◌, ◌+◌, ◌≤◌, ◌<◌, ◌&&◌, nat_le, nat_lt, ℕ, Bool, true, List, [], ◌∷◌, Some, find, length, map, sum_by, All, IsTrue}
 use Rattle.std.specs.List.{list_all, list_any}
 use Rattle.std.specs.Option.{ForSome}
 use Rattle.mg_check.specs.RowsRead.{placed_from}
@@ -165,3 +165,15 @@ pub record SameParts (old new : VolumeHeld) : Type 0 where
   pub counters : counters_in new ≡ counters_in old
   pub accounts : accounts_in new ≡ accounts_in old
   pub threads : threads_in new ≡ threads_in old
+
+-- so are the rows of the objects, and the volume has its places
+pub record SameRows (old new : VolumeHeld) : Type 0 where
+  pub parts : SameParts old new
+  pub rows : objects_in new ≡ objects_in old
+  pub total : total_of new ≡ total_of old
+
+-- the volume stands on the disk, its rows keep the rules between them, and a commit may be made
+pub record CanCommit {D : Type 0} (facts : Ghosts D) (v : VolumeHeld) (disk : D) : Type 0 where
+  pub live : IsTrue (is_live v)
+  pub stands : StandsOn facts v disk
+  pub sound : ForSome (facts.seen disk) (λ image. is_sound (now_of v image) ≡ true)

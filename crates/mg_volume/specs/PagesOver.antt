@@ -1,11 +1,17 @@
--- Pages that were just opened.
-use Rattle.std.specs.Prelude.{◌≡◌, ◌≤◌, ℕ, List, length, true}
+-- What was just made of the rows of a volume: its pages, and its lists.
+use Rattle.std.specs.Prelude.{◌≡◌, ◌≤◌, ℕ, List, Option, length, true}
+use Rattle.mg_bank.specs.Bank.{BankHeld}
 use Rattle.mg_disk.specs.Disk.{Image}
 use Rattle.mg_disk.specs.declared.disk.Disk.{Ghosts}
 use Rattle.mg_journal.specs.Held.{Store}
 use Rattle.mg_journal.specs.Standing as journal
+use Rattle.mg_model.specs.declared.accounts.AccRow.{AccRow}
+use Rattle.mg_model.specs.State.{ObjectRow, ThreadRow}
+use Rattle.mg_objects.specs.Held.{objects_in}
 use Rattle.mg_pages.specs.declared.pages.Pages.{Pages}
 use Rattle.mg_pages.specs.Meaning as pages
+use Rattle.mg_space.specs.Space.{ArePaid}
+use Rattle.mg_volume.specs.Numbered.{numbered}
 
 -- they have these entries of a frame table, nothing is staged, and their journal, of n blocks, stands on the disk as it is now
 pub record ArePagesOver {D : Type 0} (facts : Ghosts D) (store : Store) (entries : List ℕ) (n : ℕ) (p : Pages) (now : D) : Type 0 where
@@ -17,3 +23,10 @@ pub record ArePagesOver {D : Type 0} (facts : Ghosts D) (store : Store) (entries
   pub staged : pages.staged_of p ≡ 0
   pub coming : (image : Image) → pages.coming p image ≡ pages.replayed (journal.total_of store) image
   pub spelled : (image : Image) → journal.IsFitting store image → journal.total_of store ≤ length image → pages.HasTable entries (pages.replayed (journal.total_of store) image) → pages.IsSpelledBy p image
+
+-- the lists of these tables: their objects, their accounts with the pages that each pays for, and their threads by number
+pub record AreListsOf (table : List (Option ObjectRow)) (rows : List (ℕ × ThreadRow)) (accounts : List AccRow) (objects : List (ℕ × ObjectRow)) (bank : BankHeld) (threads : List (ℕ × ThreadRow)) : Type 0 where
+  pub objects_are : objects ≡ objects_in table
+  pub accounts_are : bank.accounts ≡ accounts
+  pub paid : ArePaid bank.pages objects
+  pub threads_are : threads ≡ numbered rows

@@ -4,7 +4,7 @@ use Rattle.mg_model.specs.Layout.{first_object_block}
 use Rattle.mg_model.specs.State.{ObjectRow}
 use Rattle.mg_pages.specs.declared.pages.Pages.{Pages}
 use Rattle.mg_rows.specs.Blocks.{object_in}
-use Rattle.mg_volume.specs.Changes.{StagesBlock}
+use Rattle.mg_pages.specs.Meaning.{StagesBlock}
 use Rattle.mg_volume.specs.RowLists.{row_at}
 
 -- the block of the row at this place, and nothing else

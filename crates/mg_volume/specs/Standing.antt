@@ -8,7 +8,7 @@ use Rattle.mg_model.specs.Spelling.{globals_bytes, thread_bytes, thread_read}
 use Rattle.mg_model.specs.State.{Counters, ThreadRow}
 use Rattle.mg_pages.specs.declared.pages.Pages.{Pages}
 use Rattle.mg_pages.specs.Meaning as pages
-use Rattle.mg_volume.specs.Changes.{StagesBlock}
+use Rattle.mg_pages.specs.Meaning.{StagesBlock}
 
 -- the row of a thread that moves elsewhere
 abbrev pub stands_at : ℕ → ThrState → List ℕ → ThreadRow → ThreadRow

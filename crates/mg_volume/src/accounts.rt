@@ -2,11 +2,12 @@
 ghost use Rattle.std.specs.Prelude.{List, ◌≡◌, ◌≤◌, ◌<◌, ◌+◌, ◌-◌, ◌*◌, ◌/◌, ◌++◌, ◌∷◌, ◌^◌, ◌==◌, [], ℕ, IfOk, MatchResult, None, OnErr, OnOk, Some, false, length, true};
 ghost use Rattle.mg_bank.specs.Bank.{credits_of};
 ghost use Rattle.mg_bank.specs.Refusals.{opening_refusal, paying_refusal};
-ghost use Rattle.mg_model.specs.Bank.{given_to, rate_now, rent_accounts, rent_paid, taken_from};
+ghost use Rattle.mg_model.specs.Bank.{given_to, rate_now, taken_from};
 ghost use Rattle.mg_model.specs.declared.replies.Refusal.TheVariants.{Calendar};
 ghost use Rattle.mg_model.specs.Limits.{period_limit};
 ghost use Rattle.mg_rent.specs.Charging.{OweAtMost};
 ghost use Rattle.mg_volume.specs.Calls.{Stages};
+ghost use Rattle.mg_volume.specs.Changes.{Changes, CollectsRent};
 ghost use Rattle.mg_volume.specs.Meaning.{accounts_in, counters_in, now_of, objects_in, staged_of};
 ghost use Rattle.mg_volume.specs.Staging.{ObjectsStillStaged};
 
@@ -87,13 +88,9 @@ impl Volume {
     pub fn collect(&mut self) -> Result<u64, Refusal>
         requires at_most_144_staged { staged_of self.old ≤ 144 }
         ensures refusal { MatchResult result (λ _. ((counters_in self.old).period == period_limit) ≡ false) (λ word. (word ≡ Calendar) × (((counters_in self.old).period == period_limit) ≡ true)) }
-        ensures now { OnOk result ((image : List (List ℕ)) → now_of self.new image ≡ record (now_of self.old image) { accounts = accounts_in self.new }) }
-        ensures accounts { OnOk result (OweAtMost (2 ^ 60) (accounts_in self.old) → (image : List (List ℕ)) → accounts_in self.new ≡ rent_accounts (now_of self.old image)) }
-        ensures paid { IfOk result (λ paid. OweAtMost (2 ^ 60) (accounts_in self.old) → (image : List (List ℕ)) → paid ≡ rent_paid (now_of self.old image)) }
+        ensures changes { OnOk result (Changes 16 (λ state. record state { accounts = accounts_in self.new }) (λ rows. rows) self.old self.new) }
+        ensures collects { IfOk result (λ paid. OweAtMost (2 ^ 60) (accounts_in self.old) → (image : List (List ℕ)) → CollectsRent (now_of self.old image) (accounts_in self.new) paid) }
         ensures sum { credits_of (accounts_in self.new) ≡ credits_of (accounts_in self.old) }
-        ensures rows { OnOk result (objects_in self.new ≡ objects_in self.old) }
-        ensures stages { OnOk result (Stages 16 self.old self.new) }
-        ensures objects { OnOk result (ObjectsStillStaged self.old self.new) }
         ensures stays { OnErr result (self.new ≡ self.old) }
     {
         let (_, paid) = self.collect_rent()?;
@@ -111,13 +108,9 @@ impl Volume {
         requires at_most_144_staged { staged_of self.old ≤ 144 }
         ensures refusal { MatchResult result (λ _. ((counters_in self.old).period == period_limit) ≡ false) (λ word. (word ≡ Calendar) × (((counters_in self.old).period == period_limit) ≡ true)) }
         ensures rate { IfOk result (λ told. (image : List (List ℕ)) → told.0 ≡ rate_now (now_of self.old image)) }
-        ensures now { OnOk result ((image : List (List ℕ)) → now_of self.new image ≡ record (now_of self.old image) { accounts = accounts_in self.new }) }
-        ensures accounts { OnOk result (OweAtMost (2 ^ 60) (accounts_in self.old) → (image : List (List ℕ)) → accounts_in self.new ≡ rent_accounts (now_of self.old image)) }
-        ensures paid { IfOk result (λ told. OweAtMost (2 ^ 60) (accounts_in self.old) → (image : List (List ℕ)) → told.1 ≡ rent_paid (now_of self.old image)) }
+        ensures changes { OnOk result (Changes 16 (λ state. record state { accounts = accounts_in self.new }) (λ rows. rows) self.old self.new) }
+        ensures collects { IfOk result (λ told. OweAtMost (2 ^ 60) (accounts_in self.old) → (image : List (List ℕ)) → CollectsRent (now_of self.old image) (accounts_in self.new) told.1) }
         ensures sum { credits_of (accounts_in self.new) ≡ credits_of (accounts_in self.old) }
-        ensures rows { OnOk result (objects_in self.new ≡ objects_in self.old) }
-        ensures stages { OnOk result (Stages 16 self.old self.new) }
-        ensures objects { OnOk result (ObjectsStillStaged self.old self.new) }
         ensures stays { OnErr result (self.new ≡ self.old) }
     {
         // This says that the frames are in their range.

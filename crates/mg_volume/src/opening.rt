@@ -1,9 +1,9 @@
 // Opening a volume whose rows were read: its journal, and then its frame table.
-ghost use Rattle.std.specs.Prelude.{List, ℕ, ◌≡◌, ◌≢◌, ◌≤◌, true, IfOk, IfSome, IsSomeAnd, IsTrue, length, vec_capacity};
+ghost use Rattle.std.specs.Prelude.{◌≡◌, ◌≤◌, true, IfOk, IfSome, length, vec_capacity};
 ghost use Rattle.std.specs.Option.{ForSome};
 ghost use Rattle.mg_bank.specs.Bank.{credits_of};
 ghost use Rattle.mg_check.specs.RowsRead.{AreKept, ArePlaced, IsReadAs};
-ghost use Rattle.mg_disk.specs.Stops.{DiskCallsBy, Leaves, NothingPending};
+ghost use Rattle.mg_disk.specs.Stops.{Becomes, DiskCallsBy, Leaves, NothingPending};
 ghost use Rattle.mg_journal.specs.Contents.{SameContents};
 ghost use Rattle.mg_journal.specs.Looked.{Fits};
 ghost use Rattle.mg_model.specs.Layout.{total_blocks};
@@ -11,12 +11,10 @@ ghost use Rattle.mg_model.specs.Limits.{account_limit, credit_limit, object_limi
 ghost use Rattle.mg_model.specs.Tests.{all_distinct};
 ghost use Rattle.mg_model.specs.Volume.{bound_pages, volume};
 ghost use Rattle.mg_objects.specs.Held.{AreApart, objects_in};
+ghost use Rattle.mg_pages.specs.Held.{HasFrames};
 ghost use Rattle.mg_pages.specs.Meaning.{store_of};
-ghost use Rattle.mg_space.specs.Space.{ArePaid};
-ghost use Rattle.mg_volume.specs.Meaning.{StandsOn, is_live, is_sound, now_of, staged_of};
-ghost use Rattle.mg_volume.specs.Numbered.{numbered};
-ghost use Rattle.mg_volume.specs.Opening.{Opens};
-ghost use Rattle.mg_volume.specs.PagesOver.{ArePagesOver};
+ghost use Rattle.mg_volume.specs.Opening.{IsOpened, JudgesNothing};
+ghost use Rattle.mg_volume.specs.PagesOver.{AreListsOf, ArePagesOver};
 
 use crate::threads::Threads;
 use crate::volume::{PAGE_SETS, Volume};
@@ -53,10 +51,7 @@ fn lists_of(
     requires at_most_1024_accounts { length accounts.items ≤ account_limit }
     requires has_account_capacity { account_limit ≤ vec_capacity accounts }
     requires credits { credits_of accounts.items ≤ credit_limit }
-    ensures objects { IfSome result (λ lists. lists.objects ≡ objects_in table.items) }
-    ensures accounts { IfSome result (λ lists. lists.bank.accounts ≡ accounts.items) }
-    ensures paid { IfSome result (λ lists. ArePaid lists.bank.pages lists.objects) }
-    ensures threads { IfSome result (λ lists. lists.threads ≡ numbered rows.items) }
+    ensures { IfSome result (λ lists. AreListsOf table.items rows.items accounts.items lists.objects lists.bank lists.threads) }
 {
     let threads = match Threads::of(alloc, &rows) {
         Ok(threads) => threads,
@@ -87,19 +82,14 @@ fn open_pages<D: Disk>(
     view: View,
     disk: &mut D,
 ) -> Result<Pages, OpenFault>
-    requires at_least_16_entries { 16 ≤ length entries.items }
-    requires at_most_65536_entries { length entries.items ≤ 65536 }
-    requires total { view.total ≡ total_blocks (length entries.items) }
+    requires frames { HasFrames view.total (length entries.items) }
     requires distinct { all_distinct (bound_pages entries.items) ≡ true }
     requires within_disk { view.total ≤ D.block_count disk.old }
     requires fits { ForSome (D.seen disk.old) (λ image. Fits view image) }
     ensures opened { IfOk result (λ p. ArePagesOver D.Disk (store_of p) entries.items view.total p disk.new) }
-    ensures contents { ForSome (D.seen disk.old) (λ image. IsSomeAnd (D.seen disk.new) (SameContents view.total image)) }
-    ensures came_from { ForSome (D.seen disk.new) (λ now. IsSomeAnd (D.seen disk.old) (λ image. SameContents view.total image now)) }
+    ensures contents { Becomes (SameContents view.total) (D.seen disk.old) (D.seen disk.new) }
     ensures any_moment { NothingPending D.Disk disk.old → ForSome (D.seen disk.old) (λ image. Leaves D.Disk disk.old disk.new (SameContents view.total image)) }
-    ensures no_not { result ≢ Err OpenFault.Not }
-    ensures no_old { result ≢ Err OpenFault.Old }
-    ensures no_damaged { result ≢ Err OpenFault.Damaged }
+    ensures judges_nothing { JudgesNothing result }
     ensures calls { DiskCallsBy D.Disk disk.old disk.new (result ≡ Err OpenFault.Disk) }
 {
     let store = match Store::recover(disk, view) {
@@ -125,15 +115,9 @@ pub(crate) fn open_rows<D: Disk>(
     requires fits { ForSome (D.seen disk.old) (λ image. Fits view image) }
     requires total { view.total ≡ total_blocks rows.params.frames }
     requires within_disk { view.total ≤ D.block_count disk.old }
-    ensures opens { IfOk result (λ v. ForSome (D.seen disk.old) (λ image. Opens (volume image) v (D.seen disk.new))) }
-    ensures stands { IfOk result (λ v. StandsOn D.Disk v disk.new) }
-    ensures sound { IfOk result (λ v. (image : List (List ℕ)) → is_sound (now_of v image) ≡ true) }
-    ensures staged { IfOk result (λ v. staged_of v ≡ 0) }
-    ensures live { IfOk result (λ v. IsTrue (is_live v)) }
+    ensures opened { IfOk result (λ v. IsOpened D.Disk (D.seen disk.old) v disk.new) }
     ensures any_moment { NothingPending D.Disk disk.old → ForSome (D.seen disk.old) (λ image. Leaves D.Disk disk.old disk.new (λ c. volume c ≡ volume image)) }
-    ensures no_not { result ≢ Err OpenFault.Not }
-    ensures no_old { result ≢ Err OpenFault.Old }
-    ensures no_damaged { result ≢ Err OpenFault.Damaged }
+    ensures judges_nothing { JudgesNothing result }
     ensures calls { DiskCallsBy D.Disk disk.old disk.new (result ≡ Err OpenFault.Disk) }
 {
     // This says that the credits are in their range.

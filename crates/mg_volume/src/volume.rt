@@ -1,9 +1,9 @@
 // A volume that is open.
-ghost use Rattle.std.specs.Prelude.{List, ◌≡◌, ◌≤◌, ◌<◌, ◌+◌, ◌-◌, ◌*◌, ◌==◌, ◌||◌, ℕ, true, false, nat_le, IfOk, IfSome, IsTrue, MatchOption, None, Some, filter, find, length, option_map, slice_get, sum_by};
+ghost use Rattle.std.specs.Prelude.{List, ◌≡◌, ◌≤◌, ◌<◌, ◌+◌, ◌-◌, ◌*◌, ◌==◌, ◌||◌, ℕ, true, false, nat_le, IfOk, IfSome, MatchOption, None, Some, filter, find, length, option_map, slice_get, sum_by};
 ghost use Rattle.std.specs.List.{list_all};
 ghost use Rattle.std.specs.Option.{ForSome, option_copied};
 ghost use Rattle.mg_bank.specs.Bank.{pages_at};
-ghost use Rattle.mg_disk.specs.Stops.{DiskCallsBy, Leaves, NothingPending, WritesNothing};
+ghost use Rattle.mg_disk.specs.Stops.{DiskCallsBy, Leaves, NothingPending};
 ghost use Rattle.mg_model.specs.Abbreviations.{free_number};
 ghost use Rattle.mg_model.specs.Access.{covers};
 ghost use Rattle.mg_model.specs.Bank.{account_of};
@@ -13,8 +13,8 @@ ghost use Rattle.mg_model.specs.Ranges.{IsPlace};
 ghost use Rattle.mg_model.specs.State.{Thread};
 ghost use Rattle.mg_model.specs.Turn.{picked};
 ghost use Rattle.mg_model.specs.Volume.{Damaged, NotVolume, OldVolume, volume};
-ghost use Rattle.mg_volume.specs.Meaning.{IsBaseAt, StandsOn, accounts_in, bare_rows, counters_in, is_live, is_sound, now_of, objects_in, settings_in, staged_of, threads_in, words_in};
-ghost use Rattle.mg_volume.specs.Opening.{Opens, WritesOnlyVolumes};
+ghost use Rattle.mg_volume.specs.Meaning.{IsBaseAt, accounts_in, bare_rows, counters_in, is_live, now_of, objects_in, settings_in, staged_of, threads_in, words_in};
+ghost use Rattle.mg_volume.specs.Opening.{IsOpened, Refuses, WritesOnlyVolumes};
 ghost use Rattle.mg_volume.specs.Staging.{lives};
 
 use crate::opening::open_rows;
@@ -77,18 +77,11 @@ impl Volume {
     /// [`OpenFault::Memory`] comes if out of memory. The rows take theirs before the first write. The pages take theirs after what a
     /// stop left of a commit was made good; the volume is then the same as before.
     pub fn open<D: Disk>(alloc: Global, disk: &mut D) -> Result<Volume, OpenFault>
-        ensures opens { IfOk result (λ v. ForSome (D.seen disk.old) (λ image. Opens (volume image) v (D.seen disk.new))) }
-        ensures stands { IfOk result (λ v. StandsOn D.Disk v disk.new) }
-        ensures sound { IfOk result (λ v. (image : List (List ℕ)) → is_sound (now_of v image) ≡ true) }
-        ensures staged { IfOk result (λ v. staged_of v ≡ 0) }
-        ensures live { IfOk result (λ v. IsTrue (is_live v)) }
+        ensures opened { IfOk result (λ v. IsOpened D.Disk (D.seen disk.old) v disk.new) }
         ensures any_moment { NothingPending D.Disk disk.old → ForSome (D.seen disk.old) (λ image. Leaves D.Disk disk.old disk.new (λ c. volume c ≡ volume image)) }
-        ensures not { result ≡ Err OpenFault.Not → ForSome (D.seen disk.old) (λ image. volume image ≡ NotVolume) }
-        ensures old { result ≡ Err OpenFault.Old → ForSome (D.seen disk.old) (λ image. volume image ≡ OldVolume) }
-        ensures damaged { result ≡ Err OpenFault.Damaged → ForSome (D.seen disk.old) (λ image. volume image ≡ Damaged) }
-        ensures untouched_not { result ≡ Err OpenFault.Not → WritesNothing D.Disk disk.old disk.new }
-        ensures untouched_old { result ≡ Err OpenFault.Old → WritesNothing D.Disk disk.old disk.new }
-        ensures untouched_damaged { result ≡ Err OpenFault.Damaged → WritesNothing D.Disk disk.old disk.new }
+        ensures not { result ≡ Err OpenFault.Not → Refuses D.Disk NotVolume disk.old disk.new }
+        ensures old { result ≡ Err OpenFault.Old → Refuses D.Disk OldVolume disk.old disk.new }
+        ensures damaged { result ≡ Err OpenFault.Damaged → Refuses D.Disk Damaged disk.old disk.new }
         ensures untouched { WritesOnlyVolumes D.Disk disk.old disk.new }
         ensures calls { DiskCallsBy D.Disk disk.old disk.new (result ≡ Err OpenFault.Disk) }
     {

@@ -1,12 +1,12 @@
 // The words of a volume.
-ghost use Rattle.std.specs.Prelude.{◌≡◌, ◌≤◌, ◌<◌, ◌+◌, ◌*◌, true, IfOk, IfSome, OnErr, OnOk};
+ghost use Rattle.std.specs.Prelude.{◌≡◌, ◌≤◌, ◌<◌, ◌+◌, ◌*◌, true, IfOk, IfSome, MatchResult, OnErr};
 ghost use Rattle.std.specs.Option.{ForSome};
 ghost use Rattle.mg_disk.specs.Stops.{CountRose};
 ghost use Rattle.mg_model.specs.Limits.{page_size};
 ghost use Rattle.mg_model.specs.Objects.{with_word, word_at};
-ghost use Rattle.mg_pages.specs.Pairs.{IsNextPair, words_looked_at};
-ghost use Rattle.mg_volume.specs.Calls.{Reads, Serves};
-ghost use Rattle.mg_volume.specs.Meaning.{Keeps, SameParts, StandsOn, has_page, is_sound, now_of, objects_in, staged_of, total_of};
+ghost use Rattle.mg_pages.specs.Pairs.{ArePlaces, IsNextPair, words_looked_at};
+ghost use Rattle.mg_volume.specs.Calls.{KeepsRows, Reads, Serves};
+ghost use Rattle.mg_volume.specs.Meaning.{Keeps, StandsOn, has_page, now_of, staged_of};
 ghost use Rattle.mg_volume.specs.Staging.{ObjectsStillStaged};
 
 use crate::volume::Volume;
@@ -32,8 +32,7 @@ impl Volume {
         ensures word { IfOk result (λ word. ForSome (D.seen disk.old) (λ image. word ≡ word_at (now_of self.old image).objects (page_size * page + 8 * index))) }
         ensures reads { Reads D.Disk self.old self.new disk.old disk.new steps.old steps.new }
         ensures objects { ObjectsStillStaged self.old self.new }
-        ensures one { OnOk result (steps.new ≡ steps.old + 1) }
-        ensures none { OnErr result (steps.new ≡ steps.old) }
+        ensures counts { MatchResult result (λ _. steps.new ≡ steps.old + 1) (λ _. steps.new ≡ steps.old) }
         ensures cause { OnErr result (CountRose D.Disk disk.old disk.new) }
     {
         self.pages.page_word(disk, page, index, steps)
@@ -53,14 +52,12 @@ impl Volume {
     ) -> Result<Option<(u64, u64)>, Failed>
         requires stands { StandsOn D.Disk self.old disk.old }
         requires page { has_page self.old page ≡ true }
-        requires from_up_to_count { from ≤ count }
-        requires at_most_255_pairs { count ≤ 255 }
+        requires pairs { ArePlaces from count }
         ensures found { IfOk result (λ found. ForSome (D.seen disk.old) (λ image. IsNextPair (λ index. word_at (now_of self.old image).objects (page_size * page + 8 * index)) from count first found)) }
         ensures place { IfOk result (λ found. IfSome found (λ pair. (from ≤ pair.0) × (pair.0 < count))) }
         ensures reads { Reads D.Disk self.old self.new disk.old disk.new steps.old steps.new }
         ensures objects { ObjectsStillStaged self.old self.new }
-        ensures each { IfOk result (λ found. steps.new ≡ steps.old + words_looked_at from count found) }
-        ensures none { OnErr result (steps.new ≡ steps.old) }
+        ensures counts { MatchResult result (λ found. steps.new ≡ steps.old + words_looked_at from count found) (λ _. steps.new ≡ steps.old) }
         ensures cause { OnErr result (CountRose D.Disk disk.old disk.new) }
     {
         self.pages.next_pair(disk, page, from, count, first, steps)
@@ -80,17 +77,11 @@ impl Volume {
         requires page { has_page self.old page ≡ true }
         requires index { index < 512 }
         requires at_most_158_staged { staged_of self.old ≤ 158 }
-        ensures sets { OnOk result (ForSome (D.seen disk.old) (λ image. now_of self.new image ≡ record (now_of self.old image) { objects = with_word (now_of self.old image).objects (page_size * page + 8 * index) value })) }
-        ensures failed { OnErr result (Keeps self.old self.new) }
-        ensures rows { objects_in self.new ≡ objects_in self.old }
-        ensures sound { ForSome (D.seen disk.old) (λ image. is_sound (now_of self.new image) ≡ is_sound (now_of self.old image)) }
-        ensures total { total_of self.new ≡ total_of self.old }
+        ensures sets { MatchResult result (λ _. ForSome (D.seen disk.old) (λ image. now_of self.new image ≡ record (now_of self.old image) { objects = with_word (now_of self.old image).objects (page_size * page + 8 * index) value })) (λ _. Keeps self.old self.new) }
+        ensures rows { KeepsRows (D.seen disk.old) self.old self.new }
         ensures serves { Serves 2 D.Disk self.old self.new disk.old disk.new steps.old steps.new }
-        ensures objects { ObjectsStillStaged self.old self.new }
-        ensures one { OnOk result (steps.new ≡ steps.old + 1) }
-        ensures none { OnErr result (steps.new ≡ steps.old) }
+        ensures counts { MatchResult result (λ _. steps.new ≡ steps.old + 1) (λ _. steps.new ≡ steps.old) }
         ensures cause { OnErr result (CountRose D.Disk disk.old disk.new) }
-        ensures parts { SameParts self.old self.new }
     {
         self.pages.keep_rules();
         self.pages.set_word(disk, page, index, value, steps)

@@ -21,7 +21,7 @@ begin-requires-clause-period c =
     ⊎_elim (λ (below : c.period-next.result < period_limit). omega arith) (λ above. absurd (other (omega arith))) (cases_lt c.period-next.result period_limit)
 
 pub begin-requires-clause-fewer_than_160_staged : goal.begin-requires-clause-fewer_than_160_staged
-begin-requires-clause-fewer_than_160_staged c = let few = c.requires.at_most_143_staged in let more = c.in-Ok.ensures.stages.staged in omega arith
+begin-requires-clause-fewer_than_160_staged c = let few = c.requires.at_most_143_staged in let more = c.in-Ok.ensures.changes.stages.staged in omega arith
 
 pub returns-in-Ok : goal.returns-in-Ok
 returns-in-Ok c =
@@ -30,10 +30,10 @@ returns-in-Ok c =
     let mid = c.collect_rent.new.self in
     let few = few-owed v image formed in
     let early = ap (λ p. p == period_limit) c.period-next.ensures.period ∙ c.in-Ok.ensures.refusal in
-    let now = rented-now (now_of v image) (now_of mid image) (now_of c.begin.new.volume image) (counters_in v) (counters_in mid) (accounts_in mid) (c.period-next.result + 1) (c.in-Ok.ensures.now image) (c.in-Ok.ensures.accounts few image)
-    (same-counters v mid c.in-Ok.ensures.now) (ap (λ p. p + 1) c.period-next.ensures.period) (c.begin.ensures.now image) in
+    let now = rented-now (now_of v image) (now_of mid image) (now_of c.begin.new.volume image) (counters_in v) (counters_in mid) (accounts_in mid) (c.period-next.result + 1) (c.in-Ok.ensures.changes.now image) (c.in-Ok.ensures.collects few image).accounts_are
+    (same-counters v mid c.in-Ok.ensures.changes.now) (ap (λ p. p + 1) c.period-next.ensures.period) (c.begin.ensures.now image) in
     rent-done (now_of v image) (now_of c.begin.new.volume image) (counters_in v) c.period-next.result c.in-Ok.rate c.in-Ok.paid (sym (now_counters v image)) c.period-next.ensures.period early
-    (c.in-Ok.ensures.rate image) (c.in-Ok.ensures.paid few image) now) (stages_then 16 1 _ _ _ c.in-Ok.ensures.stages c.begin.ensures.stages)
+    (c.in-Ok.ensures.rate image) (c.in-Ok.ensures.collects few image).paid now) (stages_then 16 1 _ _ _ c.in-Ok.ensures.changes.stages c.begin.ensures.stages)
 
 pub returns-in-Err : goal.returns-in-Err
 returns-in-Err c =

@@ -47,7 +47,7 @@ returns-in_ok-word-in-Some-clause-keeps g c image told =
     let (n, rose, words) = c.validate.ensures.finds.reads.counted in
     let reached = rw c.in-Some.is at (c.in_ok-validate.ensures.row image told) in
     fetched-keeps (now_of c.args.volume.now image) c.args.thread c.args.address (λ key. is_kept c.args.cache.now key) c.args.steps.now c.validate.new.steps (λ key. is_kept c.validate.new.cache key) c.word.new.steps reached.row
-    reached.found (c.in_ok-validate.ensures.finds.keeps image told) (omega arith) c.in_ok-word-in-Some.ensures.one
+    reached.found (c.in_ok-validate.ensures.finds.keeps image told) (omega arith) c.in_ok-word-in-Some.ensures.counts
 
 pub returns-in-None-clause-keeps : goal.returns-in-None-clause-keeps
 returns-in-None-clause-keeps g c image told =
@@ -59,11 +59,11 @@ pub returns-in_ok-word-in-Some-clause-limit : goal.returns-in_ok-word-in-Some-cl
 returns-in_ok-word-in-Some-clause-limit g c image told =
     let reached = rw c.in-Some.is at (c.in_ok-validate.ensures.row image told) in
     fetched-limit (now_of c.args.volume.now image) c.args.thread c.args.address (λ key. is_kept c.args.cache.now key) c.args.steps.now c.validate.new.steps c.word.new.steps reached.row reached.found (c.validate.ensures.finds.limit image told)
-    c.in_ok-word-in-Some.ensures.one
+    c.in_ok-word-in-Some.ensures.counts
 
 pub returns-in_err-word-in-Some-clause-limit : goal.returns-in_err-word-in-Some-clause-limit
 returns-in_err-word-in-Some-clause-limit g c image told =
-    let same = c.in_err-word-in-Some.ensures.none in
+    let same = c.in_err-word-in-Some.ensures.counts in
     let few = c.validate.ensures.finds.limit image told in
     unfetched-limit (now_of c.args.volume.now image) c.args.thread c.args.address (λ key. is_kept c.args.cache.now key) c.args.steps.now c.word.new.steps (omega arith)
 

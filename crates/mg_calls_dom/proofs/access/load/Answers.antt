@@ -26,7 +26,7 @@ returns-in_ok-word-in-Ok g c =
     let reached = (rw c.in-Ok.is at c.in_ok-word_base.ensures.row) image told in
     let own : words_of state line ≡ 1 = own-word state c.args.thread c.args.address R reached.row reached.found refusal in
     let (n, rose, words) = c.word_base.ensures.finds.reads.counted in
-    let one = c.in_ok-word-in-Ok.ensures.one in
+    let one = c.in_ok-word-in-Ok.ensures.counts in
     keeps_line state line (λ key. is_kept c.args.cache.now key) (λ key. is_kept c.word_base.new.cache key) c.args.steps.now c.word.new.steps (c.word_base.new.steps - c.args.steps.now) (c.in_ok-word_base.ensures.finds.rules image told) (omega arith) in
     record {
       answers = λ image told.
@@ -63,7 +63,7 @@ returns-in_err-word-in-Ok g c = record {
   backed = λ image told. subst (λ s. AllBacked s c.word_base.new.cache) (sym (c.word.ensures.reads.keeps.now image)) (c.word_base.ensures.finds.backed image told);
   keeps = search rules;
   limit = λ image told.
-      let none = c.in_err-word-in-Ok.ensures.none in
+      let none = c.in_err-word-in-Ok.ensures.counts in
       limit_line (now_of c.args.volume.now image) (record { thread = c.args.thread; call = call.Load c.args.address }) (λ key. is_kept c.args.cache.now key) c.args.steps.now c.word.new.steps (let few = c.word_base.ensures.finds.limit image told in omega arith);
   reads = reads_then g.D.Disk c.args.volume.now c.word_base.new.volume c.word.new.self c.args.disk.now c.word_base.new.disk c.word.new.disk c.args.steps.now c.word_base.new.steps c.word.new.steps c.word_base.ensures.finds.reads c.word.ensures.reads;
   cause = search rules;

@@ -42,7 +42,7 @@ returns-in_ok-set_word-in-Ok g c =
     let own : words_of state line ≡ 1 = own-word state c.args.thread c.args.address W reached.row reached.found refusal in
     let dropped = dropped-at c.args.address c.word_base.new.cache c.drop_written.new.cache c.in-Ok.base reached.row reached.is c.drop_written.ensures in
     let (n, rose, words) = reads.counted in
-    let one = c.in_ok-set_word-in-Ok.ensures.one in
+    let one = c.in_ok-set_word-in-Ok.ensures.counts in
     let rules = c.in_ok-base.ensures.finds.rules image told in
     drops_line state line (λ key. is_kept c.args.cache.now key) (λ key. is_kept c.drop_written.new.cache key) c.args.steps.now c.set_word.new.steps (c.word_base.new.steps - c.args.steps.now)
     (dropped-keys state c.args.thread c.args.address c.args.value reached.row reached.found (now_of c.set_word.new.self image) (word_accesses state c.args.thread c.args.address W) (λ key. is_kept c.args.cache.now key) c.word_base.new.cache c.drop_written.new.cache
@@ -81,10 +81,10 @@ returns-in_err-set_word-in-Ok g c = record {
   refused = search rules;
   failed = search rules;
   slots = search rules;
-  backed = λ image told. subst (λ s. AllBacked s c.word_base.new.cache) (sym (c.in_err-set_word-in-Ok.ensures.failed.now image)) (c.word_base.ensures.finds.backed image told);
+  backed = λ image told. subst (λ s. AllBacked s c.word_base.new.cache) (sym (c.in_err-set_word-in-Ok.ensures.sets.now image)) (c.word_base.ensures.finds.backed image told);
   keeps = search rules;
   limit = λ image told.
-      let none = c.in_err-set_word-in-Ok.ensures.none in
+      let none = c.in_err-set_word-in-Ok.ensures.counts in
       limit_line (now_of c.args.volume.now image) (record { thread = c.args.thread; call = call.Store c.args.address c.args.value }) (λ key. is_kept c.args.cache.now key) c.args.steps.now c.set_word.new.steps (let few = c.word_base.ensures.finds.limit image told in omega arith);
   serves = then_serves g.D.Disk 2 c.args.volume.now c.word_base.new.volume c.set_word.new.self c.args.disk.now c.word_base.new.disk c.set_word.new.disk c.args.steps.now c.word_base.new.steps c.set_word.new.steps c.word_base.ensures.finds.reads c.set_word.ensures.serves;
   cause = search rules;

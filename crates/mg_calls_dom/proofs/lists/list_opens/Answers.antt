@@ -29,7 +29,7 @@ loop-from-preserved g c =
       few =
           let was = c.loop-from.invariant.few in
           let each : c.next_entry.new.steps ≡ c.loop-from.steps + (c.in-Some.j - c.loop-from.from + 2) =
-          subst (λ o. c.next_entry.new.steps ≡ c.loop-from.steps + words_looked_at c.loop-from.from c.entries-count.result o) c.in-Some.is c.in_ok-j.ensures.each in
+          subst (λ o. c.next_entry.new.steps ≡ c.loop-from.steps + words_looked_at c.loop-from.from c.entries-count.result o) c.in-Some.is c.in_ok-j.ensures.counts in
           omega arith;
       rest = λ image told.
           next-miss c.args.sought.now (words_based (now_of c.args.volume.now image).objects c.args.list) c.loop-from.from c.entries-count.result (c.loop-from.invariant.rest image told) (c.in-Some.j, c.in-Some.password) place

@@ -7,7 +7,6 @@ use Rattle.mg_journal.specs.Standing.{total_of}
 use Rattle.mg_model.specs.Bytes.{block_words, number_at}
 use Rattle.mg_model.specs.Layout.{first_frame}
 use Rattle.mg_model.specs.Volume.{page_words}
-use Rattle.mg_pages.proofs.BlocksKept.{keeps-none}
 use Rattle.mg_pages.proofs.Numbers.{block-word}
 use Rattle.mg_pages.proofs.PageWords.{page-in, page-none}
 use Rattle.mg_pages.specs.Kept.{AreKept}
@@ -34,15 +33,8 @@ returns-in-Some-clause-word g c =
     ∙ ap (λ words. slice_index words index) (sym (page-in (coming_of store writes image) (length frames) frames c.args.page c.in-Some.frame (sym c.bound_frame.ensures ∙ c.in-Some.is))))
     c.word.ensures.word
 
-pub returns-in-Some-clause-keeps : goal.returns-in-Some-clause-keeps
-returns-in-Some-clause-keeps g c =
-    c.word.ensures.keeps (first_frame (length c.args.frames.now))
-
 pub returns-in-None-clause-word : goal.returns-in-None-clause-word
 returns-in-None-clause-word g c image told are =
     let frames = c.args.frames.now in
     let i = coming_of c.args.blocks.now.store c.args.blocks.now.writes image in
     sym (ap (λ words. slice_index words c.args.index) (page-none i (length frames) frames c.args.page (sym c.bound_frame.ensures ∙ c.in-None.is)) ∙ get_or-replicate {A = ℕ} 512 c.args.index 0 0 c.requires.index)
-
-pub returns-in-None-clause-keeps : goal.returns-in-None-clause-keeps
-returns-in-None-clause-keeps g c = keeps-none (g.D.Disk.seen c.args.disk.now) (first_frame (length c.args.frames.now)) c.args.blocks.now

@@ -23,9 +23,9 @@ loop-k-preserved g c =
       loaded = λ image told table is has.
           c.in-Ok.ensures.loads image (inv.writes.same ∙ told) table (is ∙ sym inv.long) (has c.loop-k.k within) (inv.loaded image told table is has);
       stands = c.load_block.ensures.stands;
-      writes = nothing_then facts old mid new inv.writes c.load_block.ensures.writes;
-      count = count_then (facts.faults old) (facts.faults mid) (facts.faults new) (facts.is_spent old) (facts.is_spent mid) (facts.is_spent new) inv.count c.load_block.ensures.calls.count;
-      blocks = c.load_block.ensures.calls.blocks ∙ inv.blocks;
+      writes = nothing_then facts old mid new inv.writes c.load_block.ensures.reads.writes;
+      count = count_then (facts.faults old) (facts.faults mid) (facts.faults new) (facts.is_spent old) (facts.is_spent mid) (facts.is_spent new) inv.count c.load_block.ensures.reads.calls.count;
+      blocks = c.load_block.ensures.reads.calls.blocks ∙ inv.blocks;
     }
 
 pub returns-clause-first_entries : goal.returns-clause-first_entries

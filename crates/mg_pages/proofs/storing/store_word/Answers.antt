@@ -1,7 +1,8 @@
-use Rattle.std.proofs.Common.{◌≡◌, ◌==◌, ◌+◌, ◌∙◌, arith, length, ⊎_elim, ap, inl, inr, refl, sym}
+use Rattle.std.proofs.Common.{◌≡◌, ◌==◌, ◌+◌, ◌∙◌, arith, length, ⊎_elim, ap, inl, inr, refl, rules, sym}
 use Rattle.std.proofs.lemmas.Bool.{both_ways}
 use Rattle.std.proofs.lemmas.Result.{on_ok_weaker}
 use Rattle.std.specs.List.{list_any}
+use Rattle.mg_disk.specs.Runs.{nothing_none}
 use Rattle.mg_frames.specs.Places.{nowhere_any}
 use Rattle.mg_model.specs.Layout.{first_frame}
 use Rattle.mg_pages.proofs.BlocksKept.{keeps-writes}
@@ -34,14 +35,13 @@ returns-in-Some-clause-stored g c =
     ))
     c.set_word.ensures.staged
 
-pub returns-in-Some-clause-keeps : goal.returns-in-Some-clause-keeps
-returns-in-Some-clause-keeps g c =
-    c.set_word.ensures.keeps (first_frame (length c.args.frames.now))
-
 pub returns-in-None-clause-stored : goal.returns-in-None-clause-stored
 returns-in-None-clause-stored g c =
     inr (record { unbound = nowhere_any (λ entry. entry == c.args.page) c.args.frames.now (sym c.bound_frame.ensures ∙ c.in-None.is); begins = c.begin.ensures.begins })
 
-pub returns-in-None-clause-keeps : goal.returns-in-None-clause-keeps
-returns-in-None-clause-keeps g c =
-    keeps-writes (g.D.Disk.seen c.args.disk.now) (first_frame (length c.args.frames.now)) c.args.blocks.now c.begin.new.blocks c.begin.ensures.keeps
+pub returns-in-None-clause-looks : goal.returns-in-None-clause-looks
+returns-in-None-clause-looks g c = record {
+  keeps = λ first. keeps-writes (g.D.Disk.seen c.args.disk.now) first c.args.blocks.now c.begin.new.blocks c.begin.ensures.keeps;
+  stands = rw c.begin.ensures.keeps c.requires.stands;
+  reads = record { writes = nothing_none g.D.Disk c.args.disk.now (g.met.D.Disk.now_has_been c.args.disk.now); calls = search rules };
+}

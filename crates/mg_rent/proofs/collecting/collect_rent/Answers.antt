@@ -30,14 +30,14 @@ all c owed =
     let count = c.len-count.ensures.count in
     charged-all (bare c.args.bank.now.pages) c.rate-rate.result c.args.bank.now.accounts c.loop-i.bank.accounts c.loop-i.sum c.loop-i.i (omega arith) (c.loop-i.invariant.charged owed)
 
-pub returns-clause-accounts : goal.returns-clause-accounts
-returns-clause-accounts c owed objects same =
+pub returns-clause-collects : goal.returns-clause-collects
+returns-clause-collects c owed objects same =
+    let of = charged-of objects c.args.bank.now.pages c.rate-rate.result c.args.bank.now.accounts c.loop-i.bank.accounts c.loop-i.sum same (all c owed) in
     rw (← c.rate-rate.ensures.rate)
-    (received objects c.rate-rate.result c.args.bank.now.accounts c.loop-i.bank.accounts c.give.new.bank.accounts c.loop-i.sum (charged-of objects c.args.bank.now.pages c.rate-rate.result c.args.bank.now.accounts c.loop-i.bank.accounts c.loop-i.sum same (all c owed)) c.give.ensures.accounts)
-
-pub returns-clause-paid : goal.returns-clause-paid
-returns-clause-paid c owed objects same =
-    rw (← c.rate-rate.ensures.rate) (charged-of objects c.args.bank.now.pages c.rate-rate.result c.args.bank.now.accounts c.loop-i.bank.accounts c.loop-i.sum same (all c owed)).paid_is
+    (record {
+      accounts = received objects c.rate-rate.result c.args.bank.now.accounts c.loop-i.bank.accounts c.give.new.bank.accounts c.loop-i.sum of c.give.ensures.accounts;
+      paid = of.paid_is;
+    })
 
 pub returns-clause-debts : goal.returns-clause-debts
 returns-clause-debts c few owed = debts-grow c.args.bank.now.pages c.rate-rate.result c.args.period c.args.bank.now.accounts c.loop-i.bank.accounts c.give.new.bank.accounts c.loop-i.sum c.requires.pages c.rate-rate.ensures.at_most_step_limit (all c few) c.give.ensures.accounts owed

@@ -28,7 +28,7 @@ invariant_of-result g c =
     let p = c.in-Ok.pages in
     let l = c.in-Some.lists in
     let held = c.in-Some.ensures in
-    let made = made_is rows p l.objects l.bank.accounts l.threads (held.objects ∙ same_objects rows) held.accounts held.threads in
+    let made = made_is rows p l.objects l.bank.accounts l.threads (held.objects_are ∙ same_objects rows) held.accounts_are held.threads_are in
     let said = c.in-Ok.ensures.opened in
     let P : VolumeHeld → Type 0 = λ v. IsKept v in
     record { kept = subst P (sym made) (held_is rows c.requires.kept p said.table said.frames); paid = held.paid }
@@ -40,7 +40,7 @@ returns-in-Ok g c =
     let p = c.in-Ok.pages in
     let l = c.in-Some.lists in
     let held = c.in-Some.ensures in
-    let made = made_is rows p l.objects l.bank.accounts l.threads (held.objects ∙ same_objects rows) held.accounts held.threads in
+    let made = made_is rows p l.objects l.bank.accounts l.threads (held.objects_are ∙ same_objects rows) held.accounts_are held.threads_are in
     let said = c.in-Ok.ensures.opened in
     let same = c.requires.total in
     let are : ArePages rows (store_of p) p = record { store_is = refl; total = said.total ∙ same; frames = said.frames; table = said.table; coming = said.coming; spelled = said.spelled } in
@@ -49,16 +49,16 @@ returns-in-Ok g c =
     let Stands : VolumeHeld → Type 0 = λ v. StandsOn g.D.Disk v new in
     let Sound : VolumeHeld → Type 0 = λ v. (image : Image) → is_sound (now_of v image) ≡ true in
     record {
-      opens = subst Seen (sym made) (opens_now rows kept (store_of p) p are g.D.Disk c.args.view.total same c.args.disk.now new c.requires.told said.stands c.in-Ok.ensures.contents);
-      stands = subst Stands (sym made) (stands_now rows kept (store_of p) p are g.D.Disk c.args.view.total same c.args.disk.now new c.requires.told said.stands c.in-Ok.ensures.came_from);
-      sound = subst Sound (sym made) (sound_is rows kept p said.table said.frames);
-      staged = ap staged_of made ∙ staged_none rows p said.staged;
-      live = ap is_live made ∙ live_is rows p said.live;
+      opened = record {
+        opens = subst Seen (sym made) (opens_now rows kept (store_of p) p are g.D.Disk c.args.view.total same c.args.disk.now new c.requires.told said.stands c.in-Ok.ensures.contents);
+        stands = subst Stands (sym made) (stands_now rows kept (store_of p) p are g.D.Disk c.args.view.total same c.args.disk.now new c.requires.told said.stands c.in-Ok.ensures.contents);
+        sound = subst Sound (sym made) (sound_is rows kept p said.table said.frames);
+        staged = ap staged_of made ∙ staged_none rows p said.staged;
+        live = ap is_live made ∙ live_is rows p said.live;
+      };
       any_moment = λ pending. leaves_still rows g.D.Disk c.args.view.total same c.args.disk.now new c.requires.told (c.open_pages.ensures.any_moment pending);
-      no_not = search rules;
-      no_old = search rules;
-      no_damaged = search rules;
-      calls = search rules;
+      judges_nothing = search rules;
+      calls = record { count = c.open_pages.ensures.calls.count; blocks = c.open_pages.ensures.calls.blocks; cause = λ failed. absurd cc };
     }
 
 pub returns-in-Err-clause-any_moment : goal.returns-in-Err-clause-any_moment

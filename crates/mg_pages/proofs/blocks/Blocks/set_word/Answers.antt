@@ -43,8 +43,11 @@ returns-in-Ok-clause-staged g c =
           (λ r is. whole.are image told first low are ∙ ap (λ i. block_at i block) (replayed_is (total_of now.store) image r is)));
     }
 
-pub returns-in-Ok-clause-keeps : goal.returns-in-Ok-clause-keeps
-returns-in-Ok-clause-keeps g c first = let k = c.stage_whole.ensures.keeps first in record { store = k.store; kept = k.kept }
-
-pub returns-in-Err-clause-keeps : goal.returns-in-Err-clause-keeps
-returns-in-Err-clause-keeps g c first = let k = c.stage_whole.ensures.keeps first in record { store = k.store; kept = k.kept }
+pub returns-in-Ok-clause-looks : goal.returns-in-Ok-clause-looks
+returns-in-Ok-clause-looks g c =
+    let looks = c.stage_whole.ensures.looks in
+    record {
+      keeps = λ first. let k = looks.keeps first in record { store = k.store; kept = k.kept };
+      stands = looks.stands;
+      reads = c.in-Ok.ensures.looks.reads;
+    }

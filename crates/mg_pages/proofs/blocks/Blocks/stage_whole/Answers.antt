@@ -15,6 +15,3 @@ returns-else-stage-clause-staged g c =
     let none = missing (kept_at c.args.self.now.kept c.args.block) _ _ c.if-stage.ensures.kept c.stage.ensures.staged in
     on_ok_weaker c.stage_read.result
     (λ s. record { bytes = s.bytes; more = s.more ∙ ap (λ ws. staged ws c.args.block s.bytes) none.1; are = λ image told first low are. s.are image told }) c.stage_read.ensures.staged
-
-pub returns-else-stage-clause-keeps : goal.returns-else-stage-clause-keeps
-returns-else-stage-clause-keeps g c first = let k = c.stage_read.ensures.keeps first in record { store = k.store; kept = k.kept }

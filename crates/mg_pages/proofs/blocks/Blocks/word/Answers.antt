@@ -45,10 +45,15 @@ returns-in-None-word-clause-word g c =
     (λ word is image told first low are. is image told ∙ ap (λ bytes. number_at bytes (8 * c.args.index)) (sym (written-none now.writes (replayed (total_of now.store) image) block c.in-None.ensures)))
     c.read_word.ensures.word
 
-pub returns-in-None-word-clause-keeps : goal.returns-in-None-word-clause-keeps
-returns-in-None-word-clause-keeps g c first =
+pub returns-in-None-word-clause-looks : goal.returns-in-None-word-clause-looks
+returns-in-None-word-clause-looks g c =
     let now = c.args.self.now in
     let mid = c.word.new.self in
-    let told = g.D.Disk.seen c.args.disk.now in
-    keeps-then told first now (record now { kept = mid }) c.read_word.new.self
-    (record { store = refl; kept = λ image seen are. kept-same first (replayed now.store.total image) now.kept mid c.word.ensures.same are }) (c.read_word.ensures.keeps first)
+    let looks = c.read_word.ensures.looks in
+    record {
+      keeps = λ first.
+          keeps-then (g.D.Disk.seen c.args.disk.now) first now (record now { kept = mid }) c.read_word.new.self
+          (record { store = refl; kept = λ image seen are. kept-same first (replayed now.store.total image) now.kept mid c.word.ensures.same are }) (looks.keeps first);
+      stands = looks.stands;
+      reads = looks.reads;
+    }

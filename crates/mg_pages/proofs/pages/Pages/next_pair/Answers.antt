@@ -1,10 +1,10 @@
-use Rattle.std.proofs.Common.{◌≡◌, ◌+◌, ◌≤◌, ◌∙◌, ap, arith, length, refl, slice_index, subst, sym}
+use Rattle.std.proofs.Common.{◌≡◌, ◌+◌, ◌≤◌, ◌∙◌, ap, arith, length, refl, rules, slice_index, subst, sym}
 use Rattle.std.proofs.lemmas.Result.{IfOk-weaker}
 use Rattle.std.specs.Option.{ForSome}
 use Rattle.mg_disk.specs.Disk.{block_at}
 use Rattle.mg_model.specs.Bytes.{block_words}
 use Rattle.mg_model.specs.Layout.{first_frame}
-use Rattle.mg_pages.proofs.Counted.{stands-alike}
+use Rattle.mg_pages.proofs.Counted.{keeps-alike, stands-alike}
 use Rattle.mg_pages.proofs.InMemory.{held-coming, page-held, page-zeros}
 use Rattle.mg_pages.specs.Meaning.{coming, page_now}
 use Rattle.mg_pages.specs.Pairs.{IsNextPair}
@@ -15,10 +15,14 @@ returns-in-None-clause-found g c image told =
     subst (λ words. IsNextPair (λ index. slice_index words index) c.args.from c.args.count c.args.first c.next_pair.result)
     (page-zeros c.args.self.now image c.args.page c.zeros-zeros.result.now (sym c.bound_frame.ensures ∙ c.in-None.is) c.zeros-zeros.ensures) c.next_pair.ensures.found
 
-pub returns-in-None-clause-stands : goal.returns-in-None-clause-stands
-returns-in-None-clause-stands g c =
+pub returns-in-None-clause-looks : goal.returns-in-None-clause-looks
+returns-in-None-clause-looks g c =
     let d = c.args.disk.now in
-    stands-alike c.args.self.now _ refl refl refl g.D.Disk d d refl refl c.requires.stands.settled (record { store = refl; kept = λ image told are. are }) c.requires.stands
+    record {
+      keeps = keeps-alike c.args.self.now _ refl refl refl;
+      stands = stands-alike c.args.self.now _ refl refl refl g.D.Disk d d refl refl c.requires.stands.settled (record { store = refl; kept = λ image told are. are }) c.requires.stands;
+      reads = search rules;
+    }
 
 pub returns-in-Some-held-clause-found : goal.returns-in-Some-held-clause-found
 returns-in-Some-held-clause-found g c image told =
@@ -31,10 +35,14 @@ returns-in-Some-held-clause-found g c image told =
     (held-coming p image (c.requires.stands.fits image told) block c.in-Some-held.bytes.now low c.in-Some-held.ensures))
     c.next_pair-in-Some-held.ensures.found
 
-pub returns-in-Some-held-clause-stands : goal.returns-in-Some-held-clause-stands
-returns-in-Some-held-clause-stands g c =
+pub returns-in-Some-held-clause-looks : goal.returns-in-Some-held-clause-looks
+returns-in-Some-held-clause-looks g c =
     let d = c.args.disk.now in
-    stands-alike c.args.self.now _ refl refl refl g.D.Disk d d refl refl c.requires.stands.settled (record { store = refl; kept = λ image told are. are }) c.requires.stands
+    record {
+      keeps = keeps-alike c.args.self.now _ refl refl refl;
+      stands = stands-alike c.args.self.now _ refl refl refl g.D.Disk d d refl refl c.requires.stands.settled (record { store = refl; kept = λ image told are. are }) c.requires.stands;
+      reads = search rules;
+    }
 
 pub returns-in-None-held-clause-found : goal.returns-in-None-held-clause-found
 unfolding coming

@@ -1,7 +1,8 @@
-use Rattle.std.proofs.Common.{arith}
-use Rattle.mg_pages.proofs.Counted.{stands-alike}
-use Rattle.mg_pages.proofs.Opened.{stands-again, stands-store}
-use Rattle.mg_pages.proofs.WordStored.{sound-stored, stored}
+use Rattle.std.proofs.Common.{arith, length}
+use Rattle.mg_model.specs.Layout.{first_frame}
+use Rattle.mg_pages.proofs.Counted.{keeps-alike, reads-alike, served}
+use Rattle.mg_pages.proofs.Opened.{stands-store}
+use Rattle.mg_pages.proofs.WordStored.{serves-stored, sound-stored, stored}
 use Rattle.mg_pages.specs.Meaning.{staged_of}
 use Rattle.mg_pages.proofs.pages.Pages.set_word.Goals as goal
 
@@ -13,27 +14,29 @@ unfolding staged_of
 invariant_of-self g c =
     let p = c.args.self.now in
     let b = c.store_word.new.blocks in
-    record { sound = rw c.store_word.ensures.keeps.store (sound-stored (g.D.Disk.seen c.args.disk.now) p.blocks.store p.blocks.kept c.args.page c.args.index c.args.value p.frames c.store_word.new.frames p.blocks.writes b.writes c.requires.page (omega arith) c.in-Ok.ensures.stored p.sound) }
+    record { sound = rw (c.store_word.ensures.looks.keeps 0).store (sound-stored (g.D.Disk.seen c.args.disk.now) p.blocks.store p.blocks.kept c.args.page c.args.index c.args.value p.frames c.store_word.new.frames p.blocks.writes b.writes c.requires.page (omega arith) c.in-Ok.ensures.stored p.sound) }
+
+pub invariant_of-self-in-Err : goal.invariant_of-self-in-Err
+invariant_of-self-in-Err g c = let failed = c.in-Err.ensures.failed in record { sound = rw ((c.store_word.ensures.looks.keeps 0).store, failed.0, failed.1) c.args.self.now.sound }
 
 pub returns-in-Ok-clause-sets : goal.returns-in-Ok-clause-sets
 returns-in-Ok-clause-sets g c image told =
-    (stored (g.D.Disk.seen c.args.disk.now) c.args.self.now _ c.args.page c.args.index c.args.value c.requires.page c.store_word.ensures.keeps c.in-Ok.ensures.stored).sets image told (c.requires.stands.fits image told)
+    let p = c.args.self.now in
+    (stored (g.D.Disk.seen c.args.disk.now) p _ c.args.page c.args.index c.args.value c.requires.page (c.store_word.ensures.looks.keeps (first_frame (length p.frames))) c.in-Ok.ensures.stored).sets image told (c.requires.stands.fits image told)
 
-pub returns-in-Ok-clause-binds : goal.returns-in-Ok-clause-binds
-returns-in-Ok-clause-binds g c =
-    (stored (g.D.Disk.seen c.args.disk.now) c.args.self.now _ c.args.page c.args.index c.args.value c.requires.page c.store_word.ensures.keeps c.in-Ok.ensures.stored).binds
+pub returns-in-Ok-clause-serves : goal.returns-in-Ok-clause-serves
+returns-in-Ok-clause-serves g c =
+    let p = c.args.self.now in
+    serves-stored g.D.Disk c.args.disk.now c.store_word.new.disk c.store_word.result _ p _ c.args.page c.args.index c.args.value c.requires.page c.in-Ok.ensures.stored c.store_word.ensures.looks tt c.requires.stands
 
-pub returns-in-Ok-clause-staged : goal.returns-in-Ok-clause-staged
-returns-in-Ok-clause-staged g c =
-    (stored (g.D.Disk.seen c.args.disk.now) c.args.self.now _ c.args.page c.args.index c.args.value c.requires.page c.store_word.ensures.keeps c.in-Ok.ensures.stored).staged
+pub returns-in-Err-clause-failed : goal.returns-in-Err-clause-failed
+returns-in-Err-clause-failed g c = let failed = c.in-Err.ensures.failed in keeps-alike c.args.self.now _ (c.store_word.ensures.looks.keeps 0).store failed.1 failed.0
 
-pub returns-in-Ok-clause-stands : goal.returns-in-Ok-clause-stands
-returns-in-Ok-clause-stands g c =
+pub returns-in-Err-clause-serves : goal.returns-in-Err-clause-serves
+returns-in-Err-clause-serves g c =
+    let p = c.args.self.now in
     let e = c.store_word.ensures in
-    stands-again g.D.Disk c.args.self.now _ c.args.disk.now c.store_word.new.disk c.requires.stands e.writes.same e.calls.blocks e.stands.settled e.keeps.store
-    (stored (g.D.Disk.seen c.args.disk.now) c.args.self.now _ c.args.page c.args.index c.args.value c.requires.page e.keeps c.in-Ok.ensures.stored).spelled
-
-pub returns-in-Err-clause-stands : goal.returns-in-Err-clause-stands
-returns-in-Err-clause-stands g c =
-    let e = c.store_word.ensures in
-    stands-alike c.args.self.now _ e.keeps.store c.in-Err.ensures.failed.1 c.in-Err.ensures.failed.0 g.D.Disk c.args.disk.now c.store_word.new.disk e.writes.same e.calls.blocks e.stands.settled e.keeps c.requires.stands
+    let d = c.store_word.new.disk in
+    let failed = c.in-Err.ensures.failed in
+    served c.args.page g.D.Disk p _ c.args.disk.now d _
+    (reads-alike p _ (e.looks.keeps 0).store failed.1 failed.0 g.D.Disk c.args.disk.now d c.store_word.result _ e.looks c.in-Err.ensures.looks.reads.calls.cause c.requires.stands)

@@ -1,8 +1,10 @@
-use Rattle.std.proofs.Common.{◌≡◌, ◌∙◌, ap, arith}
+use Rattle.std.proofs.Common.{◌≡◌, ◌∙◌, List, ap, arith}
 use Rattle.std.specs.Prelude.{nat_lt}
 use Rattle.mg_disk.specs.Disk.{Image}
 use Rattle.mg_model.specs.Bank.{rate_now, rate_of}
 use Rattle.mg_model.specs.Settings.{Settings}
+use Rattle.mg_model.specs.State.{Object}
+use Rattle.mg_space.specs.Space.{AreRowsOf}
 use Rattle.mg_volume.proofs.AccountLists.{all_within}
 use Rattle.mg_volume.proofs.AccountsStaged.{accounts_changes, with_accounts}
 use Rattle.mg_volume.proofs.Collected.{few-pages, pages-are, rate_is, rent_is, rented}
@@ -22,14 +24,10 @@ changes c =
     let blocks = c.block_count-blocks.result in
     let rows = c.collect_rent.new.bank.accounts in
     let was = c.self.invariant.kept.few_accounts in
-    let same = c.in_ok-told.ensures.count in
+    let same = c.in_ok-told.ensures.keeps.count in
     let count = c.len.ensures.count in
     let all = c.block_count-blocks.ensures.all in
     accounts_changes v c.stage_first.new.pages 16 (λ k. nat_lt k blocks) rows (rw c.rows.ensures at c.stage_first.ensures) (all_within blocks v.accounts rows same (omega arith)) (omega arith)
-
-pub returns-clause-now : goal.returns-clause-now
-unfolding accounts_in
-returns-clause-now c = rw (← c.self.view_is) (λ image. (changes c).now image)
 
 -- the rate is that of the state
 rate : (c : goal.After-stage_first) (image : Image) → rate_of c.tariff-tariff.result c.used-used.result ≡ rate_now (now_of c.args.self.now image)
@@ -38,22 +36,20 @@ rate c image = ap (λ t. rate_of t c.used-used.result) (c.tariff-tariff.ensures 
 pub returns-clause-rate : goal.returns-clause-rate
 returns-clause-rate c image = c.in_ok-told.ensures.rate ∙ rate c image
 
-pub returns-clause-accounts : goal.returns-clause-accounts
+pub returns-clause-collects : goal.returns-clause-collects
 unfolding accounts_in
-returns-clause-accounts c =
+returns-clause-collects c =
     let rated = rw (← c.self.view_is) at (rate c) in
     rw (← c.self.view_is)
-    (λ few image. rented (the_view c.self.inside) c.collect_rent.new.bank.accounts (rate_of c.tariff-tariff.result c.used-used.result) image (rated image) (λ objects same. c.in_ok-told.ensures.accounts few objects (pages-are objects c.self.inside.objects c.self.inside.bank.pages same c.self.invariant.paid)))
+    (λ few image.
+    let v = the_view c.self.inside in
+    let collected = λ (objects : List Object) (same : AreRowsOf objects v.objects). c.in_ok-told.ensures.collects few objects (pages-are objects v.objects c.self.inside.bank.pages same c.self.invariant.paid) in
+    let per = rate_of c.tariff-tariff.result c.used-used.result in
+    record {
+      accounts_are = rented v c.collect_rent.new.bank.accounts per image (rated image) (λ objects same. (collected objects same).accounts);
+      paid = rent_is v c.in_ok-told.told.1 per image (rated image) (λ objects same. (collected objects same).paid);
+    })
 
-pub returns-clause-paid : goal.returns-clause-paid
+pub returns-clause-changes : goal.returns-clause-changes
 unfolding accounts_in
-returns-clause-paid c =
-    let rated = rw (← c.self.view_is) at (rate c) in
-    rw (← c.self.view_is)
-    (λ few image. rent_is (the_view c.self.inside) c.in_ok-told.told.1 (rate_of c.tariff-tariff.result c.used-used.result) image (rated image) (λ objects same. c.in_ok-told.ensures.paid few objects (pages-are objects c.self.inside.objects c.self.inside.bank.pages same c.self.invariant.paid)))
-
-pub returns-clause-stages : goal.returns-clause-stages
-returns-clause-stages c = rw (← c.self.view_is) (changes c).stages
-
-pub returns-clause-objects : goal.returns-clause-objects
-returns-clause-objects c = rw (← c.self.view_is) (changes c).objects
+returns-clause-changes c = rw (← c.self.view_is) (changes c)

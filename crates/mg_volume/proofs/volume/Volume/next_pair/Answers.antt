@@ -4,7 +4,7 @@ use Rattle.mg_model.specs.Objects.{word_at}
 use Rattle.mg_pages.specs.Meaning as pages
 use Rattle.mg_pages.specs.PairLemmas.{same_pairs}
 use Rattle.mg_pages.specs.Pairs.{words_looked_at}
-use Rattle.mg_volume.proofs.PagesChange.{counted_some, keeps_now, same_objects, some_page, word_now}
+use Rattle.mg_volume.proofs.PagesChange.{counted_some, keeps_now, same_objects, some_page, ticked_some, word_now}
 use Rattle.mg_volume.proofs.StillStaged.{objects_wait, still_staged}
 use Rattle.mg_volume.proofs.StandingPages.{pages_stand, stands_same, with_pages}
 use Rattle.mg_volume.specs.Meaning.{now_of, words_in}
@@ -23,21 +23,24 @@ returns-clause-found g c =
     let v = the_view c.self.inside in
     rw (← c.self.view_is)
     (same_pairs c.next_pair.result (g.D.Disk.seen c.args.disk.now) (λ image index. slice_index (pages.page_now c.self.inside.pages image c.args.page) index) (λ image index. word_at (now_of v image).objects (4096 * c.args.page + 8 * index))
-    c.args.from c.args.count c.args.first c.requires.at_most_255_pairs (λ image told index below. word_now v image c.args.page index c.self.invariant.kept (rw (← c.self.view_is) at c.requires.page) below)
+    c.args.from c.args.count c.args.first c.requires.pairs.at_most_255 (λ image told index below. word_now v image c.args.page index c.self.invariant.kept (rw (← c.self.view_is) at c.requires.page) below)
     c.next_pair.ensures.place c.next_pair.ensures.found)
 
 pub returns-clause-reads : goal.returns-clause-reads
 unfolding words_in
 returns-clause-reads g c =
     let v = the_view c.self.inside in
-    let said = c.next_pair.ensures in
+    let said = c.next_pair.ensures.looks in
     rw (← c.self.view_is)
     (reads_of g.D.Disk v (with_pages v c.next_pair.new.self) c.args.disk.now c.next_pair.new.disk c.args.steps.now c.next_pair.new.steps (keeps_now v c.next_pair.new.self said.keeps) (same_objects v c.next_pair.new.self)
     (still_staged v (with_pages v c.next_pair.new.self) (λ block waits. said.keeps.each block ∙ waits))
-    (stands_same g.D.Disk v c.args.disk.now (rw (← c.self.view_is) at c.requires.stands) c.next_pair.new.self c.next_pair.new.disk said.stands said.writes.same said.keeps.shape.frames (λ image told k low. ap (λ i. block_at i k) (said.keeps.coming image)))
-    said.writes (counted_some (words_looked_at c.args.from c.args.count) c.next_pair.result c.self.inside.pages c.next_pair.new.self c.args.steps.now c.next_pair.new.steps said.counts said.counts_failed) said.calls.count said.calls.blocks)
+    (stands_same g.D.Disk v c.args.disk.now (rw (← c.self.view_is) at c.requires.stands) c.next_pair.new.self c.next_pair.new.disk said.stands said.reads.writes.same said.keeps.shape.frames (λ image told k low. ap (λ i. block_at i k) (said.keeps.coming image)))
+    said.reads.writes (counted_some (words_looked_at c.args.from c.args.count) c.next_pair.result c.self.inside.pages c.next_pair.new.self c.args.steps.now c.next_pair.new.steps c.next_pair.ensures.counts) said.reads.calls.count said.reads.calls.blocks)
 
 pub returns-clause-objects : goal.returns-clause-objects
 returns-clause-objects g c =
     let v = the_view c.self.inside in
-    rw (← c.self.view_is) (objects_wait v (with_pages v c.next_pair.new.self) refl (λ block waits. c.next_pair.ensures.keeps.each block ∙ waits))
+    rw (← c.self.view_is) (objects_wait v (with_pages v c.next_pair.new.self) refl (λ block waits. c.next_pair.ensures.looks.keeps.each block ∙ waits))
+
+pub returns-clause-counts : goal.returns-clause-counts
+returns-clause-counts g c = ticked_some (words_looked_at c.args.from c.args.count) c.next_pair.result c.self.inside.pages c.next_pair.new.self c.args.steps.now c.next_pair.new.steps c.next_pair.ensures.counts

@@ -1,9 +1,8 @@
 use Rattle.std.proofs.Common.{◌∙◌, ap, inl, inr, refl, ⊎_elim}
-use Rattle.std.proofs.lemmas.Result.{on_ok_weaker}
-use Rattle.mg_volume.proofs.PagesChange.{counted, frame_free, held_again, rows_same, same_sound, some_page, word_set}
+use Rattle.mg_volume.proofs.PagesChange.{counted, frame_free, held_again, rows_same, same_sound, set_or_same, some_page, ticked}
 use Rattle.mg_volume.proofs.StillStaged.{objects_wait, still_staged}
 use Rattle.mg_volume.proofs.StandingPages.{pages_stand, stands_same, with_pages}
-use Rattle.mg_volume.specs.Meaning.{has_page, is_live, staged_of, words_in}
+use Rattle.mg_volume.specs.Meaning.{accounts_in, counters_in, has_page, is_live, objects_in, settings_in, staged_of, threads_in, total_of, words_in}
 use Rattle.mg_volume.specs.contracts.volume.Volume.{the_view}
 use Rattle.mg_volume.proofs.volume.Volume.set_word.Goals as goal
 
@@ -21,42 +20,49 @@ invariant_of-self g c = record {
   kept =
       let v = the_view c.self.inside in
       let has = rw (← c.self.view_is) at c.requires.page in
-      held_again v v.counters v.threads c.set_word.new.self c.self.invariant.kept c.self.invariant.kept.few_threads c.set_word.ensures.shape.frames
-      (λ x other is. ⊎_elim (λ this. inl (ap (λ page. has_page v page) this ∙ has)) (λ before. inr before) (c.set_word.ensures.binds x is));
+      held_again v v.counters v.threads c.set_word.new.self c.self.invariant.kept c.self.invariant.kept.few_threads c.set_word.ensures.serves.shape.frames
+      (λ x other is. ⊎_elim (λ this. inl (ap (λ page. has_page v page) this ∙ has)) (λ before. inr before) (c.set_word.ensures.serves.binds x is));
   paid = c.self.invariant.paid;
 }
 
 pub returns-clause-sets : goal.returns-clause-sets
 returns-clause-sets g c =
     let v = the_view c.self.inside in
+    let said = c.set_word.ensures in
     rw (← c.self.view_is)
-    (on_ok_weaker c.set_word.result
-    (λ sets image told. word_set v c.set_word.new.self image c.args.page c.args.index c.args.value c.self.invariant.kept c.requires.index c.set_word.ensures.shape.frames (sets image told))
-    c.set_word.ensures.sets)
+    (set_or_same c.set_word.result g.D.Disk c.args.disk.now v c.set_word.new.self c.args.page c.args.index c.args.value c.self.invariant.kept c.requires.index said.serves.shape.frames said.sets said.failed)
 
-pub returns-clause-sound : goal.returns-clause-sound
-returns-clause-sound g c image told = rw (← c.self.view_is) (same_sound (the_view c.self.inside) c.set_word.new.self image image)
+pub returns-clause-counts : goal.returns-clause-counts
+returns-clause-counts g c = ticked c.set_word.result c.self.inside.pages c.set_word.new.self c.args.steps.now c.set_word.new.steps c.set_word.ensures.counts
+
+pub returns-clause-rows : goal.returns-clause-rows
+unfolding settings_in counters_in objects_in accounts_in threads_in total_of
+returns-clause-rows g c =
+    let v = the_view c.self.inside in
+    let said = c.set_word.ensures.serves in
+    rw (← c.self.view_is)
+    (record {
+      same = record { parts = record { settings = refl; counters = refl; accounts = refl; threads = refl }; rows = refl; total = said.shape.total };
+      sound = λ image told. same_sound v c.set_word.new.self image image;
+      objects = objects_wait v (with_pages v c.set_word.new.self) refl said.staged.still;
+    })
 
 pub returns-clause-serves : goal.returns-clause-serves
 unfolding is_live staged_of words_in
 returns-clause-serves g c =
     let v = the_view c.self.inside in
-    let said = c.set_word.ensures in
+    let all = c.set_word.ensures in
+    let said = all.serves in
     rw (← c.self.view_is)
     (record {
-      stands = stands_same g.D.Disk v c.args.disk.now (rw (← c.self.view_is) at c.requires.stands) c.set_word.new.self c.set_word.new.disk said.stands said.writes.same said.shape.frames
-          (rows_same c.set_word.result g.D.Disk c.args.disk.now v c.set_word.new.self c.args.page c.args.index c.args.value said.sets said.failed);
-      writes = said.writes;
+      stands = stands_same g.D.Disk v c.args.disk.now (rw (← c.self.view_is) at c.requires.stands) c.set_word.new.self c.set_word.new.disk said.stands said.reads.writes.same said.shape.frames
+          (rows_same c.set_word.result g.D.Disk c.args.disk.now v c.set_word.new.self c.args.page c.args.index c.args.value all.sets all.failed);
+      writes = said.reads.writes;
       live = said.shape.live;
       least = said.staged.least;
       staged = said.staged.staged;
       still = still_staged v (with_pages v c.set_word.new.self) said.staged.still;
-      counted = counted c.set_word.result c.self.inside.pages c.set_word.new.self c.args.steps.now c.set_word.new.steps said.counts said.counts_failed;
-      count = said.calls.count;
-      blocks = said.calls.blocks;
+      counted = counted c.set_word.result c.self.inside.pages c.set_word.new.self c.args.steps.now c.set_word.new.steps all.counts;
+      count = said.reads.calls.count;
+      blocks = said.reads.calls.blocks;
     })
-
-pub returns-clause-objects : goal.returns-clause-objects
-returns-clause-objects g c =
-    let v = the_view c.self.inside in
-    rw (← c.self.view_is) (objects_wait v (with_pages v c.set_word.new.self) refl c.set_word.ensures.staged.still)

@@ -5,7 +5,7 @@ use Rattle.mg_disk.specs.Disk.{block_at}
 use Rattle.mg_model.specs.Objects.{word_at}
 use Rattle.mg_pages.specs.Meaning as pages
 use Rattle.std.specs.Prelude.{slice_index, ◌+◌, ◌*◌}
-use Rattle.mg_volume.proofs.PagesChange.{counted, keeps_now, same_objects, some_page, word_now}
+use Rattle.mg_volume.proofs.PagesChange.{counted, keeps_now, same_objects, some_page, ticked, word_now}
 use Rattle.mg_volume.proofs.StillStaged.{objects_wait, still_staged}
 use Rattle.mg_volume.proofs.StandingPages.{pages_stand, stands_same, with_pages}
 use Rattle.mg_volume.specs.Meaning.{now_of, words_in}
@@ -33,14 +33,17 @@ pub returns-clause-reads : goal.returns-clause-reads
 unfolding words_in
 returns-clause-reads g c =
     let v = the_view c.self.inside in
-    let said = c.page_word.ensures in
+    let said = c.page_word.ensures.looks in
     rw (← c.self.view_is)
     (reads_of g.D.Disk v (with_pages v c.page_word.new.self) c.args.disk.now c.page_word.new.disk c.args.steps.now c.page_word.new.steps (keeps_now v c.page_word.new.self said.keeps) (same_objects v c.page_word.new.self)
     (still_staged v (with_pages v c.page_word.new.self) (λ block waits. said.keeps.each block ∙ waits))
-    (stands_same g.D.Disk v c.args.disk.now (rw (← c.self.view_is) at c.requires.stands) c.page_word.new.self c.page_word.new.disk said.stands said.writes.same said.keeps.shape.frames (λ image told k low. ap (λ i. block_at i k) (said.keeps.coming image)))
-    said.writes (counted c.page_word.result c.self.inside.pages c.page_word.new.self c.args.steps.now c.page_word.new.steps said.counts said.counts_failed) said.calls.count said.calls.blocks)
+    (stands_same g.D.Disk v c.args.disk.now (rw (← c.self.view_is) at c.requires.stands) c.page_word.new.self c.page_word.new.disk said.stands said.reads.writes.same said.keeps.shape.frames (λ image told k low. ap (λ i. block_at i k) (said.keeps.coming image)))
+    said.reads.writes (counted c.page_word.result c.self.inside.pages c.page_word.new.self c.args.steps.now c.page_word.new.steps c.page_word.ensures.counts) said.reads.calls.count said.reads.calls.blocks)
 
 pub returns-clause-objects : goal.returns-clause-objects
 returns-clause-objects g c =
     let v = the_view c.self.inside in
-    rw (← c.self.view_is) (objects_wait v (with_pages v c.page_word.new.self) refl (λ block waits. c.page_word.ensures.keeps.each block ∙ waits))
+    rw (← c.self.view_is) (objects_wait v (with_pages v c.page_word.new.self) refl (λ block waits. c.page_word.ensures.looks.keeps.each block ∙ waits))
+
+pub returns-clause-counts : goal.returns-clause-counts
+returns-clause-counts g c = ticked c.page_word.result c.self.inside.pages c.page_word.new.self c.args.steps.now c.page_word.new.steps c.page_word.ensures.counts
