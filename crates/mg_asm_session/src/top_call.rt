@@ -4,9 +4,8 @@ ghost use Rattle.std.specs.Io.KnownBytes.{Appends};
 ghost use Rattle.mg_asm.specs.declared.faults.AsmFault.TheVariants as fault;
 ghost use Rattle.mg_asm_session.specs.Commands.{IsStored, command_of};
 ghost use Rattle.mg_io.specs.Arguments.{arguments};
-ghost use Rattle.mg_asm_session.specs.Headline.{Keeps, PutsFault, PutsLines, PutsPart, became, text_limit};
+ghost use Rattle.mg_asm_session.specs.Headline.{Keeps, became};
 ghost use Rattle.mg_filter.specs.Usages.{UsageKeeps};
-ghost use Rattle.mg_filter.specs.Whole.{OfWhole, TakesAtMost, TakesMore};
 ghost use Rattle.mg_io.specs.Known.{AppendsPrefix};
 ghost use Rattle.mg_asm.specs.FaultText.{fault_line};
 ghost use Rattle.mg_faults.specs.Faults.{Rose};
@@ -62,15 +61,7 @@ fn carry_out<S: Source, O: Sink, E: Sink>(
     err: &mut E,
 ) -> Status
     requires { IsStored command }
-    ensures done { result ≡ Status.Done → OfWhole (S.left source.old) (S.left source.new) (λ text. PutsLines (became command text) (O.taken out.old) (O.taken out.new)) × (err.new ≡ err.old) }
-    ensures fault { result ≡ Status.Fault → OfWhole (S.left source.old) (S.left source.new) (λ text. PutsFault (became command text) (E.taken err.old) (E.taken err.new)) × (out.new ≡ out.old) }
-    ensures sink { result ≡ Status.Sink → OfWhole (S.left source.old) (S.left source.new) (λ text. PutsPart (became command text) (O.taken out.old) (O.taken out.new) (E.taken err.old) (E.taken err.new)) }
-    ensures sink_failed { result ≡ Status.Sink → Rose (O.faults out.old) (O.faults out.new) (O.is_spent out.new) ⊎ Rose (E.faults err.old) (E.faults err.new) (E.is_spent err.new) }
-    ensures nothing { (result ≡ Status.Memory) ⊎ ((result ≡ Status.Source) ⊎ (result ≡ Status.TooLong)) → (out.new ≡ out.old) × (err.new ≡ err.old) }
-    ensures source_failed { result ≡ Status.Source → Rose (S.faults source.old) (S.faults source.new) (S.is_spent source.new) }
-    ensures too_long { result ≡ Status.TooLong → TakesMore text_limit (S.left source.old) (S.left source.new) }
-    ensures within { result ≢ Status.TooLong → TakesAtMost text_limit (S.left source.old) (S.left source.new) }
-    ensures spelled { result ≢ Status.Usage }
+    ensures { Keeps S.Source O.Sink E.Sink command result source.old source.new out.old out.new err.old err.new }
 {
     let text = match read_whole(alloc, TEXT_LIMIT, source) {
         Ok(text) => text,

@@ -5,10 +5,9 @@ ghost use Rattle.mg_document.specs.FaultText.{fault_line};
 ghost use Rattle.mg_document.specs.declared.faults.ReplyFault.TheVariants as fault;
 ghost use Rattle.mg_io.specs.Known.{AppendsPrefix};
 ghost use Rattle.mg_filter.specs.Usages.{UsageKeeps};
-ghost use Rattle.mg_filter.specs.Whole.{TakesAtMost, TakesMore};
 ghost use Rattle.mg_document_session.specs.Commands.{HasPlace, command_of};
 ghost use Rattle.mg_io.specs.Arguments.{arguments};
-ghost use Rattle.mg_document_session.specs.Headline.{BringsBack, Keeps, LeavesSource, OfInput, PutsFault, PutsPart, PutsText, became, limit_of};
+ghost use Rattle.mg_document_session.specs.Headline.{BringsBack, Keeps};
 ghost use Rattle.mg_faults.specs.Faults.{Rose};
 
 use crate::laws::documents_come_back;
@@ -64,16 +63,7 @@ fn carry_out<S: Source, O: Sink, E: Sink>(
     err: &mut E,
 ) -> Status
     requires { HasPlace command }
-    ensures done { result ≡ Status.Done → OfInput command (S.left source.old) (S.left source.new) (λ input. PutsText command input (became command input) (O.taken out.old) (O.taken out.new)) × (err.new ≡ err.old) }
-    ensures fault { result ≡ Status.Fault → OfInput command (S.left source.old) (S.left source.new) (λ input. PutsFault (became command input) (E.taken err.old) (E.taken err.new)) × (out.new ≡ out.old) }
-    ensures sink { result ≡ Status.Sink → OfInput command (S.left source.old) (S.left source.new) (λ input. PutsPart (became command input) (O.taken out.old) (O.taken out.new) (E.taken err.old) (E.taken err.new)) }
-    ensures sink_failed { result ≡ Status.Sink → Rose (O.faults out.old) (O.faults out.new) (O.is_spent out.new) ⊎ Rose (E.faults err.old) (E.faults err.new) (E.is_spent err.new) }
-    ensures nothing { (result ≡ Status.Memory) ⊎ ((result ≡ Status.Source) ⊎ (result ≡ Status.TooLong)) → (out.new ≡ out.old) × (err.new ≡ err.old) }
-    ensures source_failed { result ≡ Status.Source → Rose (S.faults source.old) (S.faults source.new) (S.is_spent source.new) }
-    ensures too_long { result ≡ Status.TooLong → TakesMore (limit_of command) (S.left source.old) (S.left source.new) }
-    ensures within { result ≢ Status.TooLong → TakesAtMost (limit_of command) (S.left source.old) (S.left source.new) }
-    ensures alone { LeavesSource command source.old source.new }
-    ensures spelled { result ≢ Status.Usage }
+    ensures { Keeps S.Source O.Sink E.Sink command result source.old source.new out.old out.new err.old err.new }
 {
     let input = match take_input(alloc, command, source) {
         Ok(input) => input,

@@ -1,9 +1,10 @@
 -- How a kernel stands on a disk, from what is known of its volume.
-use Rattle.std.specs.Prelude.{◌≡◌, true, List, Option, Some, None, Result, Ok, Err, IfOk, IsSome, OnErr}
+use Rattle.std.specs.Prelude.{◌≡◌, true, List, Option, Result, Ok, Err, IfOk, OnErr}
 use Rattle.std.specs.Option.{ForSome}
-use Rattle.std.proofs.Common.{refl, sym, ap, subst, ◌∙◌}
+use Rattle.std.proofs.Common.{sym, ap, subst, ◌∙◌}
+use Rattle.mg_disk.specs.BecomesLemmas.{becomes-of}
 use Rattle.mg_disk.specs.Disk.{AreBytes, Image}
-use Rattle.mg_disk.specs.Stops.{WritesNothing}
+use Rattle.mg_disk.specs.Stops.{Becomes, WritesNothing}
 use Rattle.mg_disk.specs.declared.disk.Disk.{Ghosts}
 use Rattle.mg_kernel.specs.Meaning.{IsSpelledBy, StandsOn, now_of, seats_in, total_of}
 use Rattle.mg_kernel.specs.declared.kernel.Kernel.{Kernel}
@@ -16,7 +17,7 @@ use Rattle.mg_model.specs.WellFormed.{IsInRange, IsWellFormed, KeepsWellFormed}
 use Rattle.mg_volume.specs.Calls.{IsSoundOn}
 use Rattle.mg_volume.specs.Held.{VolumeHeld}
 use Rattle.mg_volume.specs.Meaning as held
-use Rattle.mg_volume.specs.Opening.{Holds}
+use Rattle.mg_volume.specs.Opening.{IsSaved}
 use Rattle.mg_vcache.specs.Seats.{AllBacked}
 
 -- what `Volume::is_formed` says
@@ -46,17 +47,11 @@ module _ {D : Type 0} (facts : Ghosts D) where
   backed-of k disk is = is.backed
 
   -- and stays so if the state stays, though it is told of another image
-  pub backed-kept : (old new : VolumeHeld) (seats : List (Option Seat)) (before after : D) → ForSome (facts.seen before) (λ image. AllBacked (held.now_of old image) seats)
-      → ForSome (facts.seen before) (λ image. Holds (held.now_of old image) new (facts.seen after)) → ForSome (facts.seen after) (λ _. IsSome (facts.seen before)) → ForSome (facts.seen after) (λ image. AllBacked (held.now_of new image) seats)
-  backed-kept old new seats before after backed done told = λ image now. by_before (facts.seen before) refl image now (told image now)
-    where
-      by_before : (o : Option Image) → facts.seen before ≡ o → (image : Image) → facts.seen after ≡ Some image → IsSome o → AllBacked (held.now_of new image) seats
-      by_before (Some first) is image now some =
-          let holds = done first is in
-          let both : Some holds.image ≡ Some image = sym holds.is ∙ now in
-          let same : holds.image ≡ image = cc in
-          subst (λ i. AllBacked (held.now_of new i) seats) same (subst (λ s. AllBacked s seats) (sym holds.now) (backed first is))
-      by_before None is image now some = cc
+  pub backed-kept : (old new : VolumeHeld) (seats : List (Option Seat)) (before after : D) → ForSome (facts.seen before) (λ image. AllBacked (held.now_of old image) seats) → Becomes (IsSaved old new) (facts.seen before) (facts.seen after)
+      → ForSome (facts.seen after) (λ image. AllBacked (held.now_of new image) seats)
+  backed-kept old new seats before after backed done image told =
+      let from = becomes-of (IsSaved old new) (facts.seen before) (facts.seen after) image done told in
+      subst (λ s. AllBacked s seats) (sym from.2.now_is) (backed from.0 from.1)
 
   -- what the volume's calls require
   pub sound-of : (k : Kernel) (disk : D) → StandsOn facts k disk → IsSoundOn facts k.volume disk

@@ -1,5 +1,6 @@
 pub mod Meaning
 pub mod Opening
+pub mod Serving
 pub mod Calls
 pub mod Unasked
 pub mod Stepping

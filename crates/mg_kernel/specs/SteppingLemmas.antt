@@ -11,10 +11,11 @@ use Rattle.mg_model.specs.declared.replies.Reply.{Reply}
 use Rattle.mg_model.specs.Keys.{Key}
 use Rattle.mg_model.specs.Kept.{KeepsLine, KeepsWarm, line_limit}
 use Rattle.mg_model.specs.Print.{reply_line, text}
+use Rattle.mg_model.specs.Refused.{Answer}
 use Rattle.mg_model.specs.State.{State}
 use Rattle.mg_model.specs.Step.{after, step}
 use Rattle.mg_model.specs.Warmth.{Event, cost, events, line_cost}
-use Rattle.mg_serve.specs.Machines.{Commits, Says}
+use Rattle.mg_serve.specs.Machines.{AnswersLine, Commits}
 use Rattle.mg_kernel.specs.Stepping.{IsSpent, IsStepped}
 
 -- what the laws say of a line more
@@ -45,15 +46,13 @@ spent-line laws s now ls line kept first n n' warm is spent few =
 pub warm-same : (past : List Event) (k k' : Kernel) → seats_in k' ≡ seats_in k → KeepsWarm past (λ key. keeps_key k key) → KeepsWarm past (λ key. keeps_key k' key)
 warm-same past k k' same warm = record { each = λ key is. same_keys k k' same key ∙ warm.each key is }
 
--- what is said from a line on, and what is kept
-pub says_line : (s now : State) (line : Line) (reply : Reply) → reply ≡ (step s line).1 → now ≡ (step s line).0 → Says (text s) (text now) line reply
-says_line s now line reply is state = record {
-  each = λ ls. ap (λ v. reply_line v ++ text (step s line).0 ls) (sym is) ∙ ap (λ v. reply_line reply ++ text v ls) (sym state);
+-- what is said and kept from a line on
+pub answers_line : (s now : State) (line : Line) (reply : Reply) → step s line ≡ (now, reply) → AnswersLine (text s) (after s) (text now) (after now) line reply
+answers_line s now line reply is = record {
+  says = λ ls. ap (λ (v : Answer). reply_line v.1 ++ text v.0 ls) is;
   none = refl;
+  keeps = λ ls. ap (λ (v : Answer). after v.0 ls) is;
 }
-
-pub keeps_line : (s now : State) (line : Line) → now ≡ (step s line).0 → (ls : List Line) → after s (line ∷ ls) ≡ after now ls
-keeps_line s now line state ls = ap (λ v. after v ls) (sym state)
 
 -- a kernel steps a line more, or fails in it
 pub stepped_line : GoesOn → (k k' : Kernel) (image : Image) (line : Line) (n' n'' : ℕ) → KeepsLine (now_of k image) line (λ key. keeps_key k key) (λ key. keeps_key k' key) n' n''

@@ -1,19 +1,16 @@
 // The kernel.
-ghost use Rattle.std.specs.Prelude.{List, ◌≡◌, ◌≤◌, ◌<◌, ◌+◌, ◌-◌, ◌⊎◌, ℕ, true, false, IfErr, IfOk, IsOk, IsTrue, MatchOption, None, OnErr, OnOk, is_some, option_map, replicate, if◌then◌else◌};
+ghost use Rattle.std.specs.Prelude.{◌≡◌, ◌≤◌, ◌+◌, IfErr, IfOk, IsOk, IsTrue, None, OnOk, is_ok, is_some, option_map, replicate, if◌then◌else◌};
 ghost use Rattle.std.specs.Option.{ForSome};
 ghost use Rattle.mg_disk.specs.Disk.{Image};
-ghost use Rattle.mg_disk.specs.Stops.{DiskCalls, DiskCallsBy, Leaves, NothingPending, WritesNothing};
-ghost use Rattle.mg_kernel.specs.Meaning.{StandsOn, is_live, keeps_key, knows, now_of, seats_in, staged_in, staged_of, words_in};
-ghost use Rattle.mg_kernel.specs.Opening.{Holds, Opens};
+ghost use Rattle.mg_disk.specs.Stops.{DiskCalls, DiskCallsBy, Leaves, NothingPending};
+ghost use Rattle.mg_kernel.specs.Meaning.{StandsOn, is_live, now_of, seats_in, staged_of, words_in};
+ghost use Rattle.mg_kernel.specs.Opening.{Opens, Refuses, Saves, Starts};
+ghost use Rattle.mg_kernel.specs.Serving.{ProbeCosts, Serves, Stays, StepAnswers, StepCosts};
 ghost use Rattle.mg_model.specs.Access.{allowed, at, based_at};
-ghost use Rattle.mg_model.specs.Kept.{KeepsLine, Validates, access_limit, line_limit};
 ghost use Rattle.mg_model.specs.Limits.{seat_count};
-ghost use Rattle.mg_model.specs.Refused.{IsRefusal};
-ghost use Rattle.mg_model.specs.Step.{step};
 ghost use Rattle.mg_model.specs.Threads.{is_thread};
-ghost use Rattle.mg_model.specs.Volume.{Damaged, Is, NotVolume, OldVolume, volume};
-ghost use Rattle.mg_model.specs.Counts.{CountsAlike};
-ghost use Rattle.mg_model.specs.FewSlots.{HasFewSlots};
+ghost use Rattle.mg_model.specs.Volume.{Damaged, NotVolume, OldVolume, volume};
+ghost use Rattle.mg_serve.specs.Machines.{Rests};
 ghost use Rattle.mg_volume.specs.Opening.{WritesOnlyVolumes};
 
 use crate::answering::answer;
@@ -46,18 +43,12 @@ impl Kernel {
     /// [`OpenFault::Memory`] comes if out of memory: as in [`Volume::open`], or for the validation cache, once the volume is open.
     pub fn open<D: Disk>(alloc: Global, disk: &mut D) -> Result<Kernel, OpenFault>
         ensures opens { IfOk result (λ k. ForSome (D.seen disk.old) (λ image. Opens (volume image) k (D.seen disk.new))) }
-        ensures stands { IfOk result (λ k. StandsOn D.Disk k disk.new) }
-        ensures staged { IfOk result (λ k. staged_of k ≡ 0) }
-        ensures none { IfOk result (λ k. seats_in k ≡ replicate seat_count None) }
-        ensures live { IfOk result (λ k. IsTrue (is_live k)) }
+        ensures starts { IfOk result (λ k. Starts D.Disk k disk.new) }
         ensures any_moment { NothingPending D.Disk disk.old
             → ForSome (D.seen disk.old) (λ image. Leaves D.Disk disk.old disk.new (λ c. volume c ≡ volume image)) }
-        ensures not { result ≡ Err OpenFault.Not → ForSome (D.seen disk.old) (λ image. volume image ≡ NotVolume) }
-        ensures old { result ≡ Err OpenFault.Old → ForSome (D.seen disk.old) (λ image. volume image ≡ OldVolume) }
-        ensures damaged { result ≡ Err OpenFault.Damaged → ForSome (D.seen disk.old) (λ image. volume image ≡ Damaged) }
-        ensures untouched_not { result ≡ Err OpenFault.Not → WritesNothing D.Disk disk.old disk.new }
-        ensures untouched_old { result ≡ Err OpenFault.Old → WritesNothing D.Disk disk.old disk.new }
-        ensures untouched_damaged { result ≡ Err OpenFault.Damaged → WritesNothing D.Disk disk.old disk.new }
+        ensures not { result ≡ Err OpenFault.Not → Refuses D.Disk NotVolume disk.old disk.new }
+        ensures old { result ≡ Err OpenFault.Old → Refuses D.Disk OldVolume disk.old disk.new }
+        ensures damaged { result ≡ Err OpenFault.Damaged → Refuses D.Disk Damaged disk.old disk.new }
         ensures untouched { WritesOnlyVolumes D.Disk disk.old disk.new }
         ensures calls { DiskCallsBy D.Disk disk.old disk.new (result ≡ Err OpenFault.Disk) }
     {
@@ -86,19 +77,10 @@ impl Kernel {
         requires live { IsTrue (is_live self.old) }
         requires at_most_28_staged { staged_of self.old ≤ 28 }
         requires stands { StandsOn D.Disk self.old disk.old }
-        ensures replies { IfOk result (λ reply. ForSome (D.seen disk.old) (λ image. reply ≡ (step (now_of self.old image) line.now).1)) }
-        ensures state { OnOk result (ForSome (D.seen disk.old) (λ image. now_of self.new image ≡ (step (now_of self.old image) line.now).0)) }
-        ensures failed { OnErr result (ForSome (D.seen disk.old) (λ image. now_of self.new image ≡ now_of self.old image)) }
-        ensures failed_staged { OnErr result (staged_in self.new ≡ staged_in self.old) }
-        ensures refused { IfOk result (λ reply. IsRefusal reply → staged_in self.new ≡ staged_in self.old) }
-        ensures slots { IfOk result HasFewSlots }
-        ensures stands { StandsOn D.Disk self.new disk.new }
-        ensures writes { WritesNothing D.Disk disk.old disk.new }
-        ensures live { is_live self.new ≡ is_live self.old }
+        ensures answers { StepAnswers D.Disk line.now result self.old self.new disk.old }
+        ensures serves { Serves D.Disk self.old self.new disk.old disk.new steps.old steps.new }
         ensures staged { staged_of self.new ≤ staged_of self.old + 132 }
-        ensures counted { CountsAlike (words_in self.old) (words_in self.new) steps.old steps.new }
-        ensures keeps { OnOk result (ForSome (D.seen disk.old) (λ image. KeepsLine (now_of self.old image) line.now (λ key. keeps_key self.old key) (λ key. keeps_key self.new key) steps.old steps.new)) }
-        ensures limit { ForSome (D.seen disk.old) (λ image. steps.new ≤ steps.old + line_limit (λ key. keeps_key self.old key) (now_of self.old image) line.now) }
+        ensures costs { StepCosts D.Disk line.now result self.old self.new disk.old steps.old steps.new }
         ensures calls { DiskCalls D.Disk disk.old disk.new result }
     {
         keeps_ranges(*line);
@@ -123,17 +105,9 @@ impl Kernel {
         requires at_most_30_staged { staged_of self.old ≤ 30 }
         requires stands { StandsOn D.Disk self.old disk.old }
         ensures base { IfOk result (λ base. ForSome (D.seen disk.old) (λ image. base ≡ (if allowed (now_of self.old image) thread address right then option_map (λ object. object.row.base) (at (now_of self.old image).objects address) else None))) }
-        ensures same { ForSome (D.seen disk.old) (λ image. now_of self.new image ≡ now_of self.old image) }
-        ensures stands { StandsOn D.Disk self.new disk.new }
-        ensures writes { WritesNothing D.Disk disk.old disk.new }
-        ensures live { is_live self.new ≡ is_live self.old }
-        ensures staged { staged_in self.new ≡ staged_in self.old }
-        ensures counted { CountsAlike (words_in self.old) (words_in self.new) steps.old steps.new }
-        ensures keeps { OnOk result (ForSome (D.seen disk.old) (λ image. Validates (now_of self.old image) (record { thread = thread; address = address; right = right }) (λ key. keeps_key self.old key) (λ key. keeps_key self.new key) (steps.new - steps.old))) }
-        ensures limit { ForSome (D.seen disk.old) (λ image. steps.new ≤ steps.old + access_limit (λ key. keeps_key self.old key) (now_of self.old image) (record { thread = thread; address = address; right = right })) }
-        ensures known { knows self.old thread address right ≡ true → (disk.new ≡ disk.old) × (steps.new ≡ steps.old) }
-        ensures none { IfOk result (λ base. base ≡ None → seats_in self.new ≡ seats_in self.old) }
-        ensures failed { OnErr result (seats_in self.new ≡ seats_in self.old) }
+        ensures stays { Stays D.Disk self.old self.new disk.old }
+        ensures serves { Serves D.Disk self.old self.new disk.old disk.new steps.old steps.new }
+        ensures costs { ProbeCosts D.Disk (record { thread = thread; address = address; right = right }) result self.old self.new disk.old disk.new steps.old steps.new }
         ensures calls { DiskCalls D.Disk disk.old disk.new result }
     {
         validate(
@@ -153,12 +127,9 @@ impl Kernel {
     pub fn commit<D: Disk>(&mut self, disk: &mut D) -> Result<(), Failed>
         requires live { IsTrue (is_live self.old) }
         requires stands { StandsOn D.Disk self.old disk.old }
-        ensures any_moment { ForSome (D.seen disk.old) (λ image. Leaves D.Disk disk.old disk.new (λ c. (volume c ≡ volume image) ⊎ (volume c ≡ Is (now_of self.old image)))) }
-        ensures done { OnOk result (ForSome (D.seen disk.old) (λ image. Holds (now_of self.old image) self.new (D.seen disk.new))) }
-        ensures stands { OnOk result (StandsOn D.Disk self.new disk.new) }
-        ensures staged { OnOk result (staged_of self.new ≡ 0) }
-        ensures live { OnOk result (IsTrue (is_live self.new)) }
-        ensures dead { OnErr result (is_live self.new ≡ false) }
+        ensures saves { Saves D.Disk result self.old self.new disk.old disk.new }
+        ensures rests { OnOk result (Rests D.Disk (StandsOn D.Disk self.new disk.new) (staged_of self.new) disk.new) }
+        ensures live { is_live self.new ≡ is_ok result }
         ensures words { words_in self.new ≡ words_in self.old }
         ensures seats { seats_in self.new ≡ seats_in self.old }
         ensures calls { DiskCalls D.Disk disk.old disk.new result }

@@ -6,8 +6,9 @@
 //!
 //! It is a machine whose lines a session serves (`mg_serve::Machine`): it says `text` and keeps `after` of its state.
 //!
-//! `specs/Meaning.antt` has the words of the contracts, `specs/Opening.antt` what an opening and a commit give, `specs/Calls.antt`
-//! what a call of a thread keeps and counts, be it made by a line or by a script, `specs/Stepping.antt` what is said of lines.
+//! `specs/Meaning.antt` has the words of the contracts, `specs/Opening.antt` what an opening and a commit give, `specs/Serving.antt`
+//! what a line and a probe give, keep and cost, `specs/Calls.antt` what a call of a thread keeps and counts, be it made by a line or by
+//! a script, `specs/Stepping.antt` what is said of lines.
 #![tactic(auto)]
 
 mod answering;

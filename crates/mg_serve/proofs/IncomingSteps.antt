@@ -1,10 +1,10 @@
 -- How bytes that come one after another add up.
-use Rattle.std.specs.Prelude.{ℕ, ◌+◌, ◌%◌, ◌^◌, ◌≡◌, false, List, [], ◌∷◌, ◌++◌, Some, None, Result, Ok, Err}
+use Rattle.std.specs.Prelude.{ℕ, ◌+◌, ◌%◌, ◌^◌, ◌≡◌, false, List, [], ◌∷◌, ◌++◌, Some, None, Result, Ok, Err, OnOk}
 use Rattle.std.specs.List.{list_any}
 use Rattle.std.proofs.Common.{refl, sym, ap, ◌∙◌, append_assoc, append-nil, arith, subst}
 use Rattle.mg_disk.specs.Stops.{CountGoes}
 use Rattle.mg_disk.specs.declared.disk.Disk.{Ghosts}
-use Rattle.mg_faults.specs.Faults.{CountGoesOn, count_then, then_rose}
+use Rattle.mg_faults.specs.Faults.{CountGoesOn, count_none, count_then, then_rose}
 use Rattle.mg_io.specs.declared.traits.Sink as sinks
 use Rattle.mg_model.specs.declared.calls.Line.{Line}
 use Rattle.mg_serve.proofs.Cutting.{lines-last}
@@ -15,8 +15,9 @@ use Rattle.mg_serve.specs.declared.ended.Ended.{Ended}
 use Rattle.mg_serve.specs.declared.ended.Ended.TheVariants as ended
 use Rattle.mg_serve.specs.declared.machine.Machine as machines
 use Rattle.mg_serve.specs.Incoming.{Breaks, Goes}
-use Rattle.mg_serve.specs.Serving.{Keeps}
+use Rattle.mg_serve.specs.Serving.{IsServing, Keeps}
 use Rattle.mg_serve.specs.Machines.{Closes, Entry, FailsToClose, Halts, Point, Runs}
+use Rattle.mg_serve.specs.Waiting.{Waiting, no_replies}
 
 -- two counts that rise by as much
 pub alike_none : (words steps : ℕ) → CountsAlike words words steps steps
@@ -106,18 +107,49 @@ module _ {M D : Type 0} (Session : Entry M D → List Line → Point M D → Typ
   pub Halts-note : (e : Ended) (p : Point M D) (part : List ℕ) (q : Point M D) → list_any is_newline part ≡ false → line_of part ≡ None → FailsToClose Session Broken e p q → Halts Session Broken e p (lines part) q
   Halts-note e p part q whole none h = grind (arith, lines-last, append-nil)
 
--- what a call keeps after others that kept their counts
-pub keeps_then : {M D K T : Type 0} (is : machines.Ghosts M) (facts : Ghosts D) (to : sinks.Ghosts K) (m0 m1 m2 : M) (d0 d1 d2 : D) (k0 k1 k2 : K) (n0 n1 n2 : ℕ) (result : Result T Ended)
-    → CountsAlike (is.words_in m0) (is.words_in m1) n0 n1 → facts.block_count d1 ≡ facts.block_count d0 → CountGoes facts d0 d1 → CountGoesOn (to.faults k0) (to.faults k1) (to.is_spent k0) (to.is_spent k1)
-    → Keeps is facts to m1 d1 k1 n1 result m2 d2 k2 n2 → Keeps is facts to m0 d0 k0 n0 result m2 d2 k2 n2
-keeps_then is facts to m0 m1 m2 d0 d1 d2 k0 k1 k2 n0 n1 n2 result counted blocks disk_count sink_count keeps = record {
+-- what calls one after another kept of the counts
+pub record CountsOn {M D K : Type 0} (is : machines.Ghosts M) (facts : Ghosts D) (to : sinks.Ghosts K) (m : M) (disk : D) (sink : K) (steps : ℕ) (m' : M) (disk' : D) (sink' : K) (steps' : ℕ) : Type 0 where
+  pub counted : CountsAlike (is.words_in m) (is.words_in m') steps steps'
+  pub blocks : facts.block_count disk' ≡ facts.block_count disk
+  pub disk_count : CountGoes facts disk disk'
+  pub sink_count : CountGoesOn (to.faults sink) (to.faults sink') (to.is_spent sink) (to.is_spent sink')
+
+pub counts_none : {M D K : Type 0} (is : machines.Ghosts M) (facts : Ghosts D) (to : sinks.Ghosts K) (m : M) (d : D) (k : K) (n : ℕ) → CountsOn is facts to m d k n m d k n
+counts_none is facts to m d k n = record { counted = alike_none (is.words_in m) n; blocks = refl; disk_count = count_none _ _; sink_count = count_none _ _ }
+
+pub counts_then : {M D K T : Type 0} {is : machines.Ghosts M} {facts : Ghosts D} {to : sinks.Ghosts K} {m0 m1 m2 : M} {d0 d1 d2 : D} {k0 k1 k2 : K} {n0 n1 n2 : ℕ} {result : Result T Ended}
+    → CountsOn is facts to m0 d0 k0 n0 m1 d1 k1 n1 → Keeps is facts to m1 d1 k1 n1 result m2 d2 k2 n2 → CountsOn is facts to m0 d0 k0 n0 m2 d2 k2 n2
+counts_then counts keeps = record {
+  counted = alike_then _ _ _ _ _ _ counts.counted keeps.counted;
+  blocks = keeps.calls.blocks ∙ counts.blocks;
+  disk_count = count_then _ _ _ _ _ _ counts.disk_count keeps.calls.count;
+  sink_count = count_then _ _ _ _ _ _ counts.sink_count keeps.sink_count;
+}
+
+-- what a call keeps after them
+pub keeps_then : {M D K T : Type 0} {is : machines.Ghosts M} {facts : Ghosts D} {to : sinks.Ghosts K} {m0 m1 m2 : M} {d0 d1 d2 : D} {k0 k1 k2 : K} {n0 n1 n2 : ℕ} {result : Result T Ended}
+    → CountsOn is facts to m0 d0 k0 n0 m1 d1 k1 n1 → Keeps is facts to m1 d1 k1 n1 result m2 d2 k2 n2 → Keeps is facts to m0 d0 k0 n0 result m2 d2 k2 n2
+keeps_then counts keeps =
+    let now = counts_then counts keeps in record {
+      live = keeps.live;
+      stands = keeps.stands;
+      counted = now.counted;
+      calls = record { count = now.disk_count; blocks = now.blocks; cause = λ h. then_rose _ _ _ _ _ _ counts.disk_count (keeps.calls.cause h) };
+      sink_count = now.sink_count;
+      sink_cause = λ h. then_rose _ _ _ _ _ _ counts.sink_count (keeps.sink_cause h);
+    }
+
+-- lines are served on after a batch was closed
+pub serving_on : {M D K T : Type 0} {is : machines.Ghosts M} {facts : Ghosts D} {to : sinks.Ghosts K} {first m m' : M} {d0 d d' : D} {k k' : K} {n n' batch : ℕ} {o0 : Waiting} (o' : Waiting) (result : Result T Ended)
+    → IsServing is facts batch first d0 o0 → Keeps is facts to m d k n result m' d' k' n' → OnOk result (is.staged_of m' ≡ 0) → OnOk result (o' ≡ no_replies) → OnOk result (IsServing is facts batch m' d' o')
+serving_on o' (Ok x) was keeps none empty = record {
   live = keeps.live;
   stands = keeps.stands;
-  counted = alike_then (is.words_in m0) (is.words_in m1) (is.words_in m2) n0 n1 n2 counted keeps.counted;
-  calls = grind arith;
-  sink_count = count_then _ _ _ _ _ _ sink_count keeps.sink_count;
-  sink_cause = λ h. then_rose _ _ _ _ _ _ sink_count (keeps.sink_cause h);
+  staged = omega (arith, none);
+  open_batch = let room = was.open_batch in omega (arith, ap (λ (v : Waiting). v.count) empty);
+  small = was.small;
 }
+serving_on o' (Err e) was keeps none empty = tt
 
 -- what a call kept is kept if the input ends the session after it
 pub on_end : {M D K T U : Type 0} {is : machines.Ghosts M} {facts : Ghosts D} {to : sinks.Ghosts K} {m m' : M} {d d' : D} {k k' : K} {n n' : ℕ} {x : T} → Keeps is facts to m d k n (Ok x) m' d' k' n' → Keeps {T = U} is facts to m d k n (Err ended.TooLong) m' d' k' n'

@@ -19,7 +19,7 @@ use Rattle.mg_serve.proofs.Answered.{answered-append, reply_answers}
 use Rattle.mg_serve.specs.declared.ended.Ended.{Ended}
 use Rattle.mg_serve.specs.declared.ended.Ended.TheVariants as ended
 use Rattle.mg_serve.specs.declared.machine.Machine as machines
-use Rattle.mg_serve.specs.Machines.{Commits, Entry, Point, Says}
+use Rattle.mg_serve.specs.Machines.{AnswersLine, Commits, Entry, Point}
 use Rattle.mg_serve.specs.Serving.{Broken, Held, IsAfter, IsBetween, PutsWhole, Session, Stands}
 use Rattle.mg_serve.specs.Parts.{IsPrefix}
 use Rattle.mg_serve.specs.Waiting.{Waiting, no_replies}
@@ -87,13 +87,12 @@ module _ {M D : Type 0} (is : machines.Ghosts M) (facts : Ghosts D) where
   -- a line is stepped, and its reply waits
   pub Session-line : (entry : Entry M D) (ls : List Line) (m m' : M) (d d' : D) (o o' : Waiting) (t : Option (List ℕ)) (n n' : ℕ) (line : Line) (reply : Reply)
       → Session is facts entry ls (record { machine = m; disk = d; owed = o; taken = t; steps = n })
-      → ForSome (facts.seen d) (λ image. Says (is.said m image) (is.said m' image) line reply)
-      → ForSome (facts.seen d) (λ image. (more : List Line) → is.kept m image (line ∷ more) ≡ is.kept m' image more)
+      → ForSome (facts.seen d) (λ image. AnswersLine (is.said m image) (is.kept m image) (is.said m' image) (is.kept m' image) line reply)
       → ForSome (facts.seen d) (λ image. (first : M) (start : Image) (before : List Line) (n0 : ℕ) → is.kept first start before ≡ is.kept m image [] → is.Stepped first start before n0 n m
       → is.Stepped first start (before ++ line ∷ []) n0 n' m')
       → WritesNothing facts d d' → o' ≡ record { text = o.text ++ reply_line reply; count = o.count + 1 }
       → Session is facts entry (ls ++ line ∷ []) (record { machine = m'; disk = d'; owed = o'; taken = t; steps = n' })
-  Session-line entry ls m m' d d' o o' t n n' line reply a says keeps stepped writes added = record {
+  Session-line entry ls m m' d d' o o' t n n' line reply a answers stepped writes added = record {
     done = a.done;
     waiting = a.waiting ++ line ∷ [];
     put = a.put;
@@ -104,9 +103,9 @@ module _ {M D : Type 0} (is : machines.Ghosts M) (facts : Ghosts D) where
     count = grind (arith, length-append);
     told = λ first told.
         let st : Stands is facts entry first a.done a.waiting a.put (record { machine = m; disk = d; owed = o; taken = t; steps = n }) = a.told first told in
-        let s : Says (is.said m st.image) (is.said m' st.image) line reply = says st.image st.seen in
+        let s : AnswersLine (is.said m st.image) (is.kept m st.image) (is.said m' st.image) (is.kept m' st.image) line reply = answers st.image st.seen in
         let on : (more : List Line) → is.said entry.machine first ((a.done ++ (a.waiting ++ line ∷ [])) ++ more) ≡ (a.put ++ o'.text) ++ is.said m' st.image more = λ more.
-        ap (λ v. is.said entry.machine first v) (line_then a.done a.waiting line more) ∙ st.says (line ∷ more) ∙ ap (λ v. (a.put ++ o.text) ++ v) (s.each more)
+        ap (λ v. is.said entry.machine first v) (line_then a.done a.waiting line more) ∙ st.says (line ∷ more) ∙ ap (λ v. (a.put ++ o.text) ++ v) (s.says more)
         ∙ sym (append_assoc (a.put ++ o.text) (reply_line reply) (is.said m' st.image more))
         ∙ ap (λ v. v ++ is.said m' st.image more) (append_assoc a.put o.text (reply_line reply))
         ∙ ap (λ (v : Waiting). (a.put ++ v.text) ++ is.said m' st.image more) (sym added) in record {
@@ -114,7 +113,7 @@ module _ {M D : Type 0} (is : machines.Ghosts M) (facts : Ghosts D) where
           seen = writes.same ∙ st.seen;
           spelled = st.spelled;
           says = on;
-          keeps = λ more. ap (λ v. is.kept entry.machine first v) (line_then a.done a.waiting line more) ∙ st.keeps (line ∷ more) ∙ keeps st.image st.seen more;
+          keeps = λ more. ap (λ v. is.kept entry.machine first v) (line_then a.done a.waiting line more) ∙ st.keeps (line ∷ more) ∙ s.keeps more;
           replies = st.replies;
           owed = sym (append-nil (a.put ++ o'.text)) ∙ ap (λ v. (a.put ++ o'.text) ++ v) (sym s.none) ∙ sym (on []) ∙ ap (λ v. is.said entry.machine first v) (append-nil (a.done ++ (a.waiting ++ line ∷ [])));
           leaves = leaves_quiet facts entry.disk d d' (IsPrefix (is.kept entry.machine first) (a.done ++ (a.waiting ++ line ∷ [])))

@@ -21,11 +21,30 @@ use Rattle.mg_serve.specs.declared.status.Status.{Status}
 use Rattle.mg_serve.specs.declared.status.Status.TheVariants as status
 use Rattle.mg_serve.specs.Machines.{Entry, Point}
 use Rattle.mg_serve.specs.Parts.{IsPrefix, SpellsAfter}
+use Rattle.mg_serve.specs.Waiting.{Waiting}
 use Rattle.mg_serve.specs.Sessions.{Answers, DiskRose, DiskUse, Ends, EndsSession, Holds, HoldsExactly, IsCut, IsDoneOrMemory, IsWithin, OfInput, SinkRose, SinkUse, SourceRose, SourceUse, UnlessDisk, taken_of}
+
+-- A machine may serve lines in batches of `batch` replies: it is live and stands on the disk, nothing is staged, and a batch has 1 to
+-- 64 replies.
+pub record MayServe {M D : Type 0} (is : machines.Ghosts M) (facts : disks.Ghosts D) (batch : ℕ) (m : M) (disk : D) : Type 0 where
+  pub live : IsTrue (is.is_live m)
+  pub stands : is.StandsOn D facts m disk
+  pub none_staged : is.staged_of m ≡ 0
+  pub at_least_1 : 1 ≤ batch
+  pub small : batch ≤ 64
+
+-- It serves them: it is live and stands on the disk, so few blocks are staged that a line more has room, and so has its reply.
+pub record IsServing {M D : Type 0} (is : machines.Ghosts M) (facts : disks.Ghosts D) (batch : ℕ) (m : M) (disk : D) (owed : Waiting) : Type 0 where
+  pub live : IsTrue (is.is_live m)
+  pub stands : is.StandsOn D facts m disk
+  pub staged : is.staged_of m ≤ 28
+  pub open_batch : owed.count < batch
+  pub small : batch ≤ 64
 
 -- What each call within a session keeps, however it ends: unless the disk failed the machine is live and stands on the disk;
 -- the two counts of words rise by as much; and the disk and the sink failed only if their counts rose.
-pub record Keeps {M D K T : Type 0} (is : machines.Ghosts M) (facts : disks.Ghosts D) (to : sinks.Ghosts K) (m : M) (disk : D) (sink : K) (steps : ℕ) (result : Result T Ended) (m' : M) (disk' : D) (sink' : K) (steps' : ℕ) : Type 0 where
+pub record Keeps {M D K T : Type 0} (is : machines.Ghosts M) (facts : disks.Ghosts D) (to : sinks.Ghosts K)
+    (m : M) (disk : D) (sink : K) (steps : ℕ) (result : Result T Ended) (m' : M) (disk' : D) (sink' : K) (steps' : ℕ) : Type 0 where
   pub live : UnlessDisk result (IsTrue (is.is_live m'))
   pub stands : UnlessDisk result (is.StandsOn D facts m' disk')
   pub counted : CountsAlike (is.words_in m) (is.words_in m') steps steps'

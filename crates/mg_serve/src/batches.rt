@@ -1,8 +1,8 @@
 // Lines are stepped in batches: a batch is committed, and then its replies are sent.
-ghost use Rattle.std.specs.Prelude.{ℕ, ◌≡◌, ◌<◌, ◌≤◌, [], ◌∷◌, Err, IfErr, IsTrue, OnOk};
+ghost use Rattle.std.specs.Prelude.{ℕ, ◌≡◌, ◌≤◌, [], ◌∷◌, IfErr, IsTrue, OnOk};
 ghost use Rattle.mg_disk.specs.Stops.{NothingPending};
 ghost use Rattle.mg_serve.specs.Machines.{Closes, FailsToClose, Halts, IsInside, Runs};
-ghost use Rattle.mg_serve.specs.Serving.{Broken, Keeps, Session};
+ghost use Rattle.mg_serve.specs.Serving.{Broken, IsServing, Keeps, Session};
 ghost use Rattle.mg_serve.specs.Waiting.{no_replies};
 
 use crate::buffers::Buffers;
@@ -63,11 +63,7 @@ pub(crate) fn take_line<M: Machine, D: Disk, K: Sink, L: Ledger>(
     batch: u64,
     steps: &mut Steps<L>,
 ) -> Result<(), Ended>
-    requires live { IsTrue (M.is_live machine.old) }
-    requires stands { M.StandsOn D D.Disk machine.old disk.old }
-    requires staged { M.staged_of machine.old ≤ 28 }
-    requires open_batch { owed.old.count < batch }
-    requires small { batch ≤ 64 }
+    requires serving { IsServing M.Machine D.Disk batch machine.old disk.old owed.old }
     ensures steps { OnOk result (Runs (Session M.Machine D.Disk)
         (record { machine = machine.old; disk = disk.old; owed = owed.old; taken = K.taken sink.old; steps = steps.old }) (line.now ∷ [])
         (record { machine = machine.new; disk = disk.new; owed = owed.new; taken = K.taken sink.new; steps = steps.new })) }
@@ -75,8 +71,7 @@ pub(crate) fn take_line<M: Machine, D: Disk, K: Sink, L: Ledger>(
         (record { machine = machine.old; disk = disk.old; owed = owed.old; taken = K.taken sink.old; steps = steps.old }) (line.now ∷ [])
         (record { machine = machine.new; disk = disk.new; owed = owed.new; taken = K.taken sink.new; steps = steps.new })) }
     ensures keeps { Keeps M.Machine D.Disk K.Sink machine.old disk.old sink.old steps.old result machine.new disk.new sink.new steps.new }
-    ensures staged { OnOk result (M.staged_of machine.new ≤ 28) }
-    ensures open_batch { OnOk result (owed.new.count < batch) }
+    ensures serving { OnOk result (IsServing M.Machine D.Disk batch machine.new disk.new owed.new) }
     ensures only { IfErr result IsInside }
 {
     let reply = match machine.step(disk, line, steps) {

@@ -1,12 +1,12 @@
 // Bytes come, and the lines that they end are stepped.
-ghost use Rattle.std.specs.Prelude.{◌≡◌, ◌<◌, ◌≤◌, [], ◌∷◌, ◌++◌, false, length, not, Err, IfErr, IfNone, IfSome, IsTrue, OnOk};
+ghost use Rattle.std.specs.Prelude.{◌≡◌, ◌≤◌, [], ◌∷◌, ◌++◌, false, length, not, IfErr, IfNone, IfSome, OnOk};
 ghost use Rattle.std.specs.List.{list_any, prefix_len};
 ghost use Rattle.mg_disk.specs.Stops.{NothingPending};
 ghost use Rattle.mg_model.specs.Lines.{lines};
 ghost use Rattle.mg_model.specs.Words.{is_newline};
 ghost use Rattle.mg_serve.specs.Incoming.{Breaks, Goes};
 ghost use Rattle.mg_serve.specs.Machines.{Halts, IsInside, Runs};
-ghost use Rattle.mg_serve.specs.Serving.{Broken, Keeps, Session};
+ghost use Rattle.mg_serve.specs.Serving.{Broken, IsServing, Keeps, Session};
 ghost use Rattle.mg_serve.specs.Waiting.{no_replies};
 
 use crate::batches::{close, take_line};
@@ -31,11 +31,7 @@ fn take_ended<M: Machine, D: Disk, K: Sink, L: Ledger>(
     batch: u64,
     steps: &mut Steps<L>,
 ) -> Result<(), Ended>
-    requires live { IsTrue (M.is_live machine.old) }
-    requires stands { M.StandsOn D D.Disk machine.old disk.old }
-    requires staged { M.staged_of machine.old ≤ 28 }
-    requires open_batch { owed.old.count < batch }
-    requires small { batch ≤ 64 }
+    requires serving { IsServing M.Machine D.Disk batch machine.old disk.old owed.old }
     requires no_newline { list_any is_newline rest.now ≡ false }
     ensures goes { OnOk result (Goes (Session M.Machine D.Disk)
         (record { machine = machine.old; disk = disk.old; owed = owed.old; taken = K.taken sink.old; steps = steps.old }) part.old (rest.now ++ 10 ∷ [])
@@ -45,8 +41,7 @@ fn take_ended<M: Machine, D: Disk, K: Sink, L: Ledger>(
         (record { machine = machine.new; disk = disk.new; owed = owed.new; taken = K.taken sink.new; steps = steps.new })) }
     ensures whole { list_any is_newline part.new ≡ false }
     ensures keeps { Keeps M.Machine D.Disk K.Sink machine.old disk.old sink.old steps.old result machine.new disk.new sink.new steps.new }
-    ensures staged { OnOk result (M.staged_of machine.new ≤ 28) }
-    ensures open_batch { OnOk result (owed.new.count < batch) }
+    ensures serving { OnOk result (IsServing M.Machine D.Disk batch machine.new disk.new owed.new) }
     ensures only { IfErr result IsInside }
 {
     match part.finish_with(rest) {
@@ -66,11 +61,7 @@ pub(crate) fn take_bytes<M: Machine, D: Disk, K: Sink, L: Ledger>(
     batch: u64,
     steps: &mut Steps<L>,
 ) -> Result<(), Ended>
-    requires live { IsTrue (M.is_live machine.old) }
-    requires stands { M.StandsOn D D.Disk machine.old disk.old }
-    requires staged { M.staged_of machine.old ≤ 28 }
-    requires open_batch { owed.old.count < batch }
-    requires small { batch ≤ 64 }
+    requires serving { IsServing M.Machine D.Disk batch machine.old disk.old owed.old }
     requires whole { list_any is_newline part.old ≡ false }
     ensures goes { OnOk result (Goes (Session M.Machine D.Disk)
         (record { machine = machine.old; disk = disk.old; owed = owed.old; taken = K.taken sink.old; steps = steps.old }) part.old bytes.now
@@ -80,8 +71,7 @@ pub(crate) fn take_bytes<M: Machine, D: Disk, K: Sink, L: Ledger>(
         (record { machine = machine.new; disk = disk.new; owed = owed.new; taken = K.taken sink.new; steps = steps.new })) }
     ensures whole { OnOk result (list_any is_newline part.new ≡ false) }
     ensures keeps { Keeps M.Machine D.Disk K.Sink machine.old disk.old sink.old steps.old result machine.new disk.new sink.new steps.new }
-    ensures staged { OnOk result (M.staged_of machine.new ≤ 28) }
-    ensures open_batch { OnOk result (owed.new.count < batch) }
+    ensures serving { OnOk result (IsServing M.Machine D.Disk batch machine.new disk.new owed.new) }
     ensures only { IfErr result IsInside }
 {
     let mut rest = bytes;
@@ -136,11 +126,7 @@ pub(crate) fn finish<M: Machine, D: Disk, K: Sink, L: Ledger>(
     batch: u64,
     steps: &mut Steps<L>,
 ) -> Result<(), Ended>
-    requires live { IsTrue (M.is_live machine.old) }
-    requires stands { M.StandsOn D D.Disk machine.old disk.old }
-    requires staged { M.staged_of machine.old ≤ 28 }
-    requires open_batch { owed.old.count < batch }
-    requires small { batch ≤ 64 }
+    requires serving { IsServing M.Machine D.Disk batch machine.old disk.old owed.old }
     ensures steps { OnOk result (Runs (Session M.Machine D.Disk)
         (record { machine = machine.old; disk = disk.old; owed = owed.old; taken = K.taken sink.old; steps = steps.old }) (lines part.old)
         (record { machine = machine.new; disk = disk.new; owed = owed.new; taken = K.taken sink.new; steps = steps.new })) }

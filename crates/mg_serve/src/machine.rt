@@ -1,15 +1,14 @@
 // The trait that the loop over the input is proved against.
-ghost use Rattle.std.specs.Prelude.{ℕ, ◌≡◌, ◌≤◌, ◌⊎◌, Bool, List, [], ◌∷◌, ◌++◌, IfOk, IsTrue, OnErr, OnOk, false};
+ghost use Rattle.std.specs.Prelude.{ℕ, ◌≡◌, ◌≤◌, ◌⊎◌, Bool, List, [], ◌∷◌, ◌++◌, IfOk, IsTrue, MatchResult, OnOk, is_ok};
 ghost use Rattle.std.specs.Option.{ForSome};
 ghost use Rattle.mg_disk.specs.Disk.{Image};
-ghost use Rattle.mg_disk.specs.Stops.{DiskCalls, Leaves, NothingPending, WritesNothing};
+ghost use Rattle.mg_disk.specs.Stops.{DiskCalls, Leaves, NothingPending};
 ghost use Rattle.mg_disk.specs.declared.disk.Disk.{Ghosts};
-ghost use Rattle.mg_model.specs.Counts.{CountsAlike};
 ghost use Rattle.mg_model.specs.FewSlots.{HasFewSlots};
 ghost use Rattle.mg_model.specs.State.{State};
 ghost use Rattle.mg_model.specs.Volume.{Is, volume};
 ghost use Rattle.mg_model.specs.declared.calls.Line.{Line};
-ghost use Rattle.mg_serve.specs.Machines.{Commits, Says};
+ghost use Rattle.mg_serve.specs.Machines.{AnswersLine, Commits, Rests, ServesOn};
 
 use mg_disk::Disk;
 use mg_faults::Failed;
@@ -72,18 +71,15 @@ pub trait Machine {
         requires live { IsTrue (is_live self.old) }
         requires stands { StandsOn D D.Disk self.old disk.old }
         requires staged { staged_of self.old ≤ 28 }
-        ensures says { IfOk result (λ reply. ForSome (D.seen disk.old) (λ image. Says (said self.old image) (said self.new image) line.now reply)) }
-        ensures keeps { OnOk result (ForSome (D.seen disk.old) (λ image. (ls : List Line) → kept self.old image (line.now ∷ ls) ≡ kept self.new image ls)) }
-        ensures stepped { OnOk result (ForSome (D.seen disk.old) (λ image. (first : Self) (start : Image) (ls : List Line) (n : ℕ) → kept first start ls ≡ kept self.old image []
-            → Stepped first start ls n steps.old self.old → Stepped first start (ls ++ line.now ∷ []) n steps.new self.new)) }
-        ensures stopped { OnErr result (ForSome (D.seen disk.old) (λ image. (first : Self) (start : Image) (ls : List Line) (n : ℕ) → kept first start ls ≡ kept self.old image []
-            → Stepped first start ls n steps.old self.old → StoppedIn first start (ls ++ line.now ∷ []) n steps.new self.new)) }
+        ensures answers { IfOk result (λ reply. ForSome (D.seen disk.old) (λ image.
+            AnswersLine (said self.old image) (kept self.old image) (said self.new image) (kept self.new image) line.now reply)) }
+        ensures traces { ForSome (D.seen disk.old) (λ image. (first : Self) (start : Image) (ls : List Line) (n : ℕ)
+            → kept first start ls ≡ kept self.old image [] → Stepped first start ls n steps.old self.old
+            → MatchResult result (λ _. Stepped first start (ls ++ line.now ∷ []) n steps.new self.new)
+            (λ _. StoppedIn first start (ls ++ line.now ∷ []) n steps.new self.new)) }
         ensures slots { IfOk result HasFewSlots }
-        ensures stands { StandsOn D D.Disk self.new disk.new }
-        ensures settled { NothingPending D.Disk disk.new }
-        ensures writes { WritesNothing D.Disk disk.old disk.new }
-        ensures live { is_live self.new ≡ is_live self.old }
-        ensures counted { CountsAlike (words_in self.old) (words_in self.new) steps.old steps.new }
+        ensures serves { ServesOn D.Disk (StandsOn D D.Disk self.new disk.new) (is_live self.old) (is_live self.new)
+            (words_in self.old) (words_in self.new) disk.old disk.new steps.old steps.new }
         ensures calls { DiskCalls D.Disk disk.old disk.new result };
 
     /// What is staged is committed.
@@ -95,14 +91,14 @@ pub trait Machine {
     fn commit<D: Disk>(&mut self, disk: &mut D) -> Result<(), Failed>
         requires live { IsTrue (is_live self.old) }
         requires stands { StandsOn D D.Disk self.old disk.old }
-        ensures any_moment { ForSome (D.seen disk.old) (λ image. Leaves D.Disk disk.old disk.new (λ c. (volume c ≡ volume image) ⊎ (volume c ≡ Is (kept self.old image [])))) }
-        ensures done { OnOk result (ForSome (D.seen disk.old) (λ image. Commits (said self.old image) (kept self.old image) (said self.new) (kept self.new) (D.seen disk.new))) }
-        ensures stepped { (first : Self) (start : Image) (ls : List Line) (n steps : ℕ) → Stepped first start ls n steps self.old → Stepped first start ls n steps self.new }
-        ensures stands { OnOk result (StandsOn D D.Disk self.new disk.new) }
-        ensures settled { OnOk result (NothingPending D.Disk disk.new) }
-        ensures staged { OnOk result (staged_of self.new ≡ 0) }
-        ensures live { OnOk result (IsTrue (is_live self.new)) }
-        ensures dead { OnErr result (is_live self.new ≡ false) }
+        ensures any_moment { ForSome (D.seen disk.old) (λ image. Leaves D.Disk disk.old disk.new (λ c.
+            (volume c ≡ volume image) ⊎ (volume c ≡ Is (kept self.old image [])))) }
+        ensures done { OnOk result (ForSome (D.seen disk.old) (λ image.
+            Commits (said self.old image) (kept self.old image) (said self.new) (kept self.new) (D.seen disk.new))) }
+        ensures stepped { (first : Self) (start : Image) (ls : List Line) (n steps : ℕ)
+            → Stepped first start ls n steps self.old → Stepped first start ls n steps self.new }
+        ensures rests { OnOk result (Rests D.Disk (StandsOn D D.Disk self.new disk.new) (staged_of self.new) disk.new) }
+        ensures live { is_live self.new ≡ is_ok result }
         ensures words { words_in self.new ≡ words_in self.old }
         ensures calls { DiskCalls D.Disk disk.old disk.new result };
 }

@@ -1,8 +1,8 @@
 // The loop over the pieces of the input, for any machine.
-ghost use Rattle.std.specs.Prelude.{◌≡◌, ◌+◌, ◌≤◌, Err, IfErr, IsTrue, OnOk};
+ghost use Rattle.std.specs.Prelude.{◌≡◌, ◌+◌, Err, IfErr, OnOk};
 ghost use Rattle.mg_disk.specs.Stops.{NothingPending};
 ghost use Rattle.mg_faults.specs.Faults.{CountGoesOn, Rose};
-ghost use Rattle.mg_serve.specs.Serving.{Broken, Keeps, Session};
+ghost use Rattle.mg_serve.specs.Serving.{Broken, Keeps, MayServe, Session};
 ghost use Rattle.mg_serve.specs.Readings.{Finishes, Stops};
 
 use crate::buffers::Buffers;
@@ -33,11 +33,7 @@ pub(crate) fn serve_lines<M: Machine, D: Disk, S: Source, K: Sink, L: Ledger>(
     limit: u64,
     steps: &mut Steps<L>,
 ) -> Result<(), Ended>
-    requires live { IsTrue (M.is_live machine.old) }
-    requires stands { M.StandsOn D D.Disk machine.old disk.old }
-    requires staged { M.staged_of machine.old ≡ 0 }
-    requires batch_at_least_1 { 1 ≤ batch }
-    requires small { batch ≤ 64 }
+    requires ready { MayServe M.Machine D.Disk batch machine.old disk.old }
     ensures finishes { OnOk result (Finishes (Session M.Machine D.Disk) (record { machine = machine.old; disk = disk.old; taken = K.taken sink.old; steps = steps.old }) (S.left source.old) limit
         (record { machine = machine.new; disk = disk.new; owed = owed.new; taken = K.taken sink.new; steps = steps.new }) (S.left source.new)) }
     ensures stops { IfErr result (λ e. Stops (Broken M.Machine D.Disk batch) e (record { machine = machine.old; disk = disk.old; taken = K.taken sink.old; steps = steps.old }) (S.left source.old)

@@ -1,12 +1,11 @@
 // A whole session: the source is read to its end, and its lines are stepped and answered in batches.
-ghost use Rattle.std.specs.Prelude.{◌≡◌, ◌≤◌, Err, IsOk, IsTrue, OnOk};
+ghost use Rattle.std.specs.Prelude.{◌≡◌, Err, IsOk, IsTrue, OnOk};
 ghost use Rattle.std.specs.Option.{ForSome};
-ghost use Rattle.mg_disk.specs.Stops.{CountGoes, CountRose, DiskCallsBy};
+ghost use Rattle.mg_disk.specs.Stops.{CountGoes, CountRose};
 ghost use Rattle.mg_faults.specs.Faults.{CountGoesOn, Rose};
-ghost use Rattle.mg_model.specs.Counts.{CountsAlike};
-ghost use Rattle.mg_serve.specs.Serving.{Serves};
+ghost use Rattle.mg_serve.specs.Serving.{Keeps, MayServe, Serves};
 ghost use Rattle.mg_serve.specs.Parts.{KeepsExactly};
-ghost use Rattle.mg_serve.specs.Sessions.{IsWithin, UnlessDisk, disk_use, input_limit, sink_use, source_use, status_of};
+ghost use Rattle.mg_serve.specs.Sessions.{IsWithin, disk_use, input_limit, sink_use, source_use, status_of};
 
 use crate::buffers::Buffers;
 use crate::ended::Ended;
@@ -45,16 +44,11 @@ pub fn serve<M: Machine, D: Disk, S: Source, K: Sink, L: Ledger>(
     limit: u64,
     steps: &mut Steps<L>,
 ) -> Result<(), Ended>
-    requires live { IsTrue (M.is_live machine.old) }
-    requires stands { M.StandsOn D D.Disk machine.old disk.old }
-    requires staged { M.staged_of machine.old ≡ 0 }
-    requires batch_at_least_1 { 1 ≤ batch }
-    requires small { batch ≤ 64 }
+    requires ready { MayServe M.Machine D.Disk batch machine.old disk.old }
 
     // What the sink took, what a stop leaves, and how the session ends.
     ensures serves { Serves M.Machine batch limit (status_of result) machine.old machine.new (disk_use D.Disk disk.old disk.new)
         (source_use S.Source source.old source.new) (sink_use K.Sink sink.old sink.new) steps.old steps.new }
-    ensures disk { DiskCallsBy D.Disk disk.old disk.new (result ≡ Err Ended.Disk) }
 
     // If no call failed and the input is not too long, all is done.
     ensures complete { (CountRose D.Disk disk.old disk.new → ⊥)
@@ -62,18 +56,15 @@ pub fn serve<M: Machine, D: Disk, S: Source, K: Sink, L: Ledger>(
         → (Rose (K.faults sink.old) (K.faults sink.new) (K.is_spent sink.new) → ⊥)
         → IsWithin limit (S.left source.old) (IsOk result) }
 
-    // Unless the disk failed the machine is live and stands on the disk, and after a good end it may serve again. If the
-    // disk failed and the machine is live, no commit failed, and the answered lines are held and no others.
-    ensures live { UnlessDisk result (IsTrue (M.is_live machine.new)) }
-    ensures stands { UnlessDisk result (M.StandsOn D D.Disk machine.new disk.new) }
+    // Unless the disk failed the machine is live and stands on the disk, and after a good end it may serve again. The two counts
+    // of words rise by as much, and no count of faults falls.
+    ensures keeps { Keeps M.Machine D.Disk K.Sink machine.old disk.old sink.old steps.old result machine.new disk.new sink.new steps.new }
     ensures staged { OnOk result (M.staged_of machine.new ≡ 0) }
+    ensures source_count { CountGoesOn (S.faults source.old) (S.faults source.new) (S.is_spent source.old) (S.is_spent source.new) }
+
+    // If the disk failed and the machine is live, no commit failed, and the answered lines are held and no others.
     ensures held_disk { result ≡ Err Ended.Disk → IsTrue (M.is_live machine.new) → ForSome (D.seen disk.old) (λ image.
         KeepsExactly (D.left_since disk.new (D.moment disk.new)) (M.kept machine.old image) (S.left source.old) (K.taken sink.old) (K.taken sink.new)) }
-
-    // The two counts of words rise by as much, and no count falls.
-    ensures counted { CountsAlike (M.words_in machine.old) (M.words_in machine.new) steps.old steps.new }
-    ensures source_count { CountGoesOn (S.faults source.old) (S.faults source.new) (S.is_spent source.old) (S.is_spent source.new) }
-    ensures sink_count { CountGoesOn (K.faults sink.old) (K.faults sink.new) (K.is_spent sink.old) (K.is_spent sink.new) }
 {
     serve_lines(machine, disk, source, sink, owed, batch, limit, steps)
 }
@@ -89,11 +80,7 @@ pub fn run<M: Machine, D: Disk, S: Source, K: Sink, L: Ledger>(
     sink: &mut K,
     steps: &mut Steps<L>,
 ) -> Status
-    requires live { IsTrue (M.is_live machine.old) }
-    requires stands { M.StandsOn D D.Disk machine.old disk.old }
-    requires staged { M.staged_of machine.old ≡ 0 }
-    requires batch_at_least_1 { 1 ≤ batch }
-    requires small { batch ≤ 64 }
+    requires ready { MayServe M.Machine D.Disk batch machine.old disk.old }
     ensures serves { Serves M.Machine batch input_limit result machine.old machine.new (disk_use D.Disk disk.old disk.new)
         (source_use S.Source source.old source.new) (sink_use K.Sink sink.old sink.new) steps.old steps.new }
     ensures memory { result ≡ Status.Memory → machine.new ≡ machine.old }

@@ -7,14 +7,16 @@ use Rattle.mg_disk.specs.Runs.{nothing_then}
 use Rattle.mg_disk.specs.declared.disk.Disk.{Ghosts}
 use Rattle.mg_kernel.specs.declared.kernel.Kernel.{Kernel}
 use Rattle.mg_kernel.specs.Meaning.{now_of, words_in}
+use Rattle.mg_kernel.specs.Serving.{Serves}
 use Rattle.mg_model.specs.declared.calls.Line.{Line}
 use Rattle.mg_model.specs.declared.replies.Reply.{Reply}
 use Rattle.mg_model.specs.Counts.{CountsAlike}
+use Rattle.mg_model.specs.Refused.{Answer}
 use Rattle.mg_model.specs.State.{State}
 use Rattle.mg_model.specs.Step.{step}
 use Rattle.mg_window.specs.Attached.{Attached}
 use Rattle.mg_window_session.specs.Machine.{Equipped, plain_step, staying}
-use Rattle.mg_window_session.specs.Stepping.{IsAnswered, Looks, Serves, bases_of, dropped}
+use Rattle.mg_window_session.specs.Stepping.{IsAnswered, Looks, bases_of, dropped}
 use Rattle.mg_window_session.proofs.LeavingDevices.{dropped_stay}
 
 alike_then : (w0 w1 w2 s0 s1 s2 : ℕ) → CountsAlike w0 w1 s0 s1 → CountsAlike w1 w2 s1 s2 → CountsAlike w0 w2 s0 s2
@@ -36,14 +38,15 @@ module _ {D : Type 0} (facts : Ghosts D) where
 
   -- a step of the kernel, and then the devices that leave are dropped
   pub plain_answered : (line : Line) (k k' : Kernel) (windows windows' : Attached) (d : D) (reply : Reply)
-      → ForSome (facts.seen d) (λ image. reply ≡ (step (now_of k image) line).1) → ForSome (facts.seen d) (λ image. now_of k' image ≡ (step (now_of k image) line).0)
+      → ForSome (facts.seen d) (λ image. step (now_of k image) line ≡ (now_of k' image, reply))
       → ForSome (facts.seen d) (λ image. windows' ≡ dropped (now_of k' image) (bases_of (now_of k image) windows) windows)
       → IsAnswered facts (λ m. plain_step m line) k k' windows windows' d reply
-  plain_answered line k k' windows windows' d reply replies state drops = record {
+  plain_answered line k k' windows windows' d reply answers drops = record {
     told = λ image is.
+        let state : now_of k' image ≡ (step (now_of k image) line).0 = ap (λ (v : Answer). v.0) (sym (answers image is)) in
         let stay : windows' ≡ staying (now_of k image) (step (now_of k image) line).0 windows =
-        drops image is ∙ dropped_stay (now_of k image) (now_of k' image) windows ∙ ap (λ s. staying (now_of k image) s windows) (state image is) in
-        ap (λ s. (equipped windows' s, reply)) (state image is)
+        drops image is ∙ dropped_stay (now_of k image) (now_of k' image) windows ∙ ap (λ s. staying (now_of k image) s windows) state in
+        ap (λ s. (equipped windows' s, reply)) state
         ∙ ap (λ w. (equipped w (step (now_of k image) line).0, reply)) stay
-        ∙ ap (λ r. (equipped (staying (now_of k image) (step (now_of k image) line).0 windows) (step (now_of k image) line).0, r)) (replies image is);
+        ∙ ap (λ r. (equipped (staying (now_of k image) (step (now_of k image) line).0 windows) (step (now_of k image) line).0, r)) (ap (λ (v : Answer). v.1) (sym (answers image is)));
   }

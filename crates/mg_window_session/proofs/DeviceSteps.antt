@@ -17,7 +17,7 @@ use Rattle.mg_model.specs.State.{State}
 use Rattle.mg_serve.specs.declared.machine.Machine as machines
 use Rattle.mg_serve.specs.declared.status.Status.{Status}
 use Rattle.mg_serve.specs.declared.status.Status.TheVariants as status
-use Rattle.mg_serve.specs.Machines.{Commits, Says}
+use Rattle.mg_serve.specs.Machines.{AnswersLine, Commits}
 use Rattle.mg_serve.specs.Serving.{IsTraced, Traces}
 use Rattle.mg_volume_session.specs.Unopened.{EndsUnopenedBy, TellsNothing}
 use Rattle.mg_window.specs.Attached.{Attached}
@@ -28,15 +28,13 @@ use Rattle.mg_window_session.specs.Machine.{Equipped, device_after, device_state
 use Rattle.mg_window_session.specs.DeviceKernels.{IsStepped, IsStopped, machine_of, windows_in}
 use Rattle.mg_window_session.proofs.Lines.{after-append}
 
--- what is said from a line on, and what is kept
-pub says_line : (m m' : Equipped) (line : Line) (reply : Reply) → (m', reply) ≡ device_step m line → Says (device_text m) (device_text m') line reply
-says_line m m' line reply told = record {
-  each = λ ls. ap (λ (v : Equipped × Reply). reply_line v.1 ++ device_text v.0 ls) (sym told);
+-- what is said and kept from a line on
+pub answers_line : (m m' : Equipped) (line : Line) (reply : Reply) → (m', reply) ≡ device_step m line → AnswersLine (device_text m) (device_state m) (device_text m') (device_state m') line reply
+answers_line m m' line reply told = record {
+  says = λ ls. ap (λ (v : Equipped × Reply). reply_line v.1 ++ device_text v.0 ls) (sym told);
   none = refl;
+  keeps = λ ls. ap (λ (v : Equipped × Reply). device_state v.0 ls) (sym told);
 }
-
-pub keeps_line : (m m' : Equipped) (line : Line) (reply : Reply) → (m', reply) ≡ device_step m line → (ls : List Line) → device_state m (line ∷ ls) ≡ device_state m' ls
-keeps_line m m' line reply told ls = ap (λ (v : Equipped × Reply). device_state v.0 ls) (sym told)
 
 -- a line more was stepped, or failed
 module _ {W : Type 0} (held : W → Held) where

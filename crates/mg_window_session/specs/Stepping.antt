@@ -2,13 +2,12 @@
 use Rattle.std.specs.Prelude.{ℕ, ◌≡◌, List, [], ◌∷◌, Bool, filter, if◌then◌else◌, is_some, map}
 use Rattle.std.specs.Option.{ForSome}
 use Rattle.mg_disk.specs.Disk.{Image}
-use Rattle.mg_disk.specs.Stops.{WritesNothing}
 use Rattle.mg_disk.specs.declared.disk.Disk.{Ghosts}
 use Rattle.mg_kernel.specs.declared.kernel.Kernel.{Kernel}
-use Rattle.mg_kernel.specs.Meaning.{StandsOn, is_live, now_of, staged_of, words_in}
+use Rattle.mg_kernel.specs.Meaning.{now_of, staged_of}
+use Rattle.mg_kernel.specs.Serving.{Serves}
 use Rattle.mg_model.specs.declared.replies.Reply.{Reply}
 use Rattle.mg_model.specs.Access.{based_at}
-use Rattle.mg_model.specs.Counts.{CountsAlike}
 use Rattle.mg_model.specs.State.{State}
 use Rattle.mg_window.specs.Attached.{Attached, without}
 use Rattle.mg_window.specs.Devices.{Held}
@@ -35,14 +34,7 @@ machine k windows image = record { state = now_of k image; windows = windows }
 pub record IsAnswered {D : Type 0} (facts : Ghosts D) (does : Equipped → Outcome) (k k' : Kernel) (windows windows' : Attached) (disk : D) (answer : Reply) : Type 0 where
   pub told : ForSome (facts.seen disk) (λ image. (machine k' windows' image, answer) ≡ does (machine k windows image))
 
--- whatever comes of it: nothing was written, and the kernel serves on
-pub record Serves {D : Type 0} (facts : Ghosts D) (k k' : Kernel) (disk disk' : D) (steps steps' : ℕ) : Type 0 where
-  pub stands : StandsOn facts k' disk'
-  pub writes : WritesNothing facts disk disk'
-  pub live : is_live k' ≡ is_live k
-  pub counted : CountsAlike (words_in k) (words_in k') steps steps'
-
--- the same of a call that leaves the state as it is
+-- whatever comes of a call that leaves the state as it is
 pub record Looks {D : Type 0} (facts : Ghosts D) (k k' : Kernel) (disk disk' : D) (steps steps' : ℕ) : Type 0 where
   pub same : ForSome (facts.seen disk) (λ image. now_of k' image ≡ now_of k image)
   pub staged : staged_of k' ≡ staged_of k

@@ -4,11 +4,12 @@ ghost use Rattle.std.specs.Option.{ForSome};
 ghost use Rattle.mg_disk.specs.Disk.{Image};
 ghost use Rattle.mg_disk.specs.Stops.{DiskCalls};
 ghost use Rattle.mg_kernel.specs.Meaning.{StandsOn, is_live, now_of, staged_of};
+ghost use Rattle.mg_kernel.specs.Serving.{Serves};
 ghost use Rattle.mg_model.specs.FewSlots.{HasFewSlots};
 ghost use Rattle.mg_model.specs.declared.rights.Right.TheVariants.{R, W};
 ghost use Rattle.mg_window.specs.Attached.{seen};
 ghost use Rattle.mg_window_session.specs.Machine.{device_step, load_step, plain_step, reached, store_step, stored_at, window_of};
-ghost use Rattle.mg_window_session.specs.Stepping.{IsAnswered, Looks, Serves, bases_of, dropped, machine};
+ghost use Rattle.mg_window_session.specs.Stepping.{IsAnswered, Looks, bases_of, dropped, machine};
 
 use arrayvec::ArrayVec;
 use mg_disk::Disk;

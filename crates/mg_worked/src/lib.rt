@@ -38,7 +38,6 @@ pub fn sessions_on_access()
     ensures domain_locks_itself_out { IsAnswered (fresh small) domain_locks_itself_out }
     ensures alignment_first { IsAnswered (fresh small) alignment_first }
     ensures revocation_acts_at_once { IsAnswered (fresh small) revocation_acts_at_once }
-    ensures slot_needs_its_right { IsAnswered (fresh small) slot_needs_its_right }
     ensures new_object_reads_zeros { IsAnswered (fresh small) new_object_reads_zeros }
     ensures lowest_pages_are_taken { IsAnswered (fresh small) lowest_pages_are_taken }
 {}
@@ -47,6 +46,7 @@ pub fn sessions_on_access()
 pub fn sessions_on_rights()
     ensures each_right_is_needed { IsAnswered (fresh small) each_right_is_needed }
     ensures each_right_alone { IsAnswered (fresh small) each_right_alone }
+    ensures slot_needs_its_right { IsAnswered (fresh small) slot_needs_its_right }
     ensures rights_by_their_bits { IsAnswered (fresh small) rights_by_their_bits }
     ensures edges_of_an_object { IsAnswered (fresh small) edges_of_an_object }
     ensures all_frames_are_taken { IsAnswered (fresh small) all_frames_are_taken }
@@ -107,13 +107,17 @@ pub fn sessions_at_the_edges()
     ensures what_is_denied { IsAnswered (fresh small) what_is_denied }
     ensures who_pays { IsAnswered (fresh small) who_pays }
     ensures steps_of_the_tariff { IsAnswered (fresh small) steps_of_the_tariff }
+    ensures ended_in_its_turn { IsAnswered (fresh small) ended_in_its_turn }
+{}
+
+/// What runs out: periods, passwords, objects, pages and births.
+pub fn sessions_on_what_runs_out()
     ensures last_until { IsAnswered (counted 2 16777214) last_until }
+    ensures without_until { IsAnswered (counted 2 16777214) without_until }
     ensures no_more_passwords { IsAnswered (counted 4294967296 0) no_more_passwords }
     ensures no_more_objects { IsAnswered (with_objects 4096) no_more_objects }
     ensures too_many_pages { IsAnswered (with_objects 4095) too_many_pages }
     ensures no_more_births { IsAnswered (with_births 4294967294) no_more_births }
-    ensures without_until { IsAnswered (counted 2 16777214) without_until }
-    ensures ended_in_its_turn { IsAnswered (fresh small) ended_in_its_turn }
 {}
 
 /// Documents, code and accounts of a user.
@@ -152,18 +156,22 @@ pub fn sessions_and_what_disturbs()
     ensures one_key_twice { IsPaid (behind making_script) one_key_twice 16356 }
 {}
 
-/// Which rights a line tests, and which words it counts.
+/// Which rights a call tests, and which words it counts.
 pub fn sessions_and_what_they_ask_for()
     ensures calls_on_an_object { IsPaid (behind linked) calls_on_an_object 24528 }
     ensures delete_then { IsPaid (behind linked) delete_then 20444 }
     ensures thread_then { IsPaid (behind linked) thread_then 20444 }
     ensures pwadd_then { IsPaid (behind linked) pwadd_then 16356 }
     ensures ext_then { IsPaid (behind linked) ext_then 16356 }
+    ensures six_rights_in_turn { IsPaid (behind owner_alone) six_rights_in_turn 53145 }
+    ensures sixth_right_is_kept { IsPaid (behind owner_alone) sixth_right_is_kept 49057 }
+{}
+
+/// The same of a turn.
+pub fn sessions_and_what_turns_ask_for()
     ensures turns_that_enter { IsPaid (behind entering_script) turns_that_enter 20448 }
     ensures turns_that_fault { IsPaid (behind faulting_scripts) turns_that_fault 28624 }
     ensures turns_that_store { IsPaid (behind storing_script) turns_that_store 8183 }
     ensures turns_that_call { IsPaid (behind script_of_calls) turns_that_call 20449 }
-    ensures six_rights_in_turn { IsPaid (behind owner_alone) six_rights_in_turn 53145 }
-    ensures sixth_right_is_kept { IsPaid (behind owner_alone) sixth_right_is_kept 49057 }
     ensures one_seat_in_a_turn { IsPaid far_object one_seat_in_a_turn 20446 }
 {}

@@ -9,22 +9,6 @@ pub returns-clause-calls_on_an_object : goal.returns-clause-calls_on_an_object
 unfolding block_word double_rounds quarter_round column_round diagonal_round u32_at hex_text digits
 returns-clause-calls_on_an_object c = record { answered = refl; paid = refl }
 
-pub returns-clause-turns_that_enter : goal.returns-clause-turns_that_enter
-unfolding block_word double_rounds quarter_round column_round diagonal_round u32_at hex_text digits
-returns-clause-turns_that_enter c = record { answered = refl; paid = refl }
-
-pub returns-clause-turns_that_fault : goal.returns-clause-turns_that_fault
-unfolding block_word double_rounds quarter_round column_round diagonal_round u32_at hex_text digits
-returns-clause-turns_that_fault c = record { answered = refl; paid = refl }
-
-pub returns-clause-turns_that_store : goal.returns-clause-turns_that_store
-unfolding block_word double_rounds quarter_round column_round diagonal_round u32_at hex_text digits
-returns-clause-turns_that_store c = record { answered = refl; paid = refl }
-
-pub returns-clause-turns_that_call : goal.returns-clause-turns_that_call
-unfolding block_word double_rounds quarter_round column_round diagonal_round u32_at hex_text digits
-returns-clause-turns_that_call c = record { answered = refl; paid = refl }
-
 pub returns-clause-six_rights_in_turn : goal.returns-clause-six_rights_in_turn
 unfolding block_word double_rounds quarter_round column_round diagonal_round u32_at hex_text digits
 returns-clause-six_rights_in_turn c = record { answered = refl; paid = refl }
@@ -32,10 +16,6 @@ returns-clause-six_rights_in_turn c = record { answered = refl; paid = refl }
 pub returns-clause-sixth_right_is_kept : goal.returns-clause-sixth_right_is_kept
 unfolding block_word double_rounds quarter_round column_round diagonal_round u32_at hex_text digits
 returns-clause-sixth_right_is_kept c = record { answered = refl; paid = refl }
-
-pub returns-clause-one_seat_in_a_turn : goal.returns-clause-one_seat_in_a_turn
-unfolding block_word double_rounds quarter_round column_round diagonal_round u32_at hex_text digits
-returns-clause-one_seat_in_a_turn c = record { answered = refl; paid = refl }
 
 pub returns-clause-delete_then : goal.returns-clause-delete_then
 unfolding block_word double_rounds quarter_round column_round diagonal_round u32_at hex_text digits

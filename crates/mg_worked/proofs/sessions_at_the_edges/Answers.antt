@@ -25,30 +25,6 @@ pub returns-clause-steps_of_the_tariff : goal.returns-clause-steps_of_the_tariff
 unfolding block_word double_rounds quarter_round column_round diagonal_round u32_at hex_text digits
 returns-clause-steps_of_the_tariff c = refl
 
-pub returns-clause-last_until : goal.returns-clause-last_until
-unfolding block_word double_rounds quarter_round column_round diagonal_round u32_at hex_text digits
-returns-clause-last_until c = refl
-
-pub returns-clause-no_more_passwords : goal.returns-clause-no_more_passwords
-unfolding block_word double_rounds quarter_round column_round diagonal_round u32_at hex_text digits
-returns-clause-no_more_passwords c = refl
-
-pub returns-clause-no_more_objects : goal.returns-clause-no_more_objects
-unfolding block_word double_rounds quarter_round column_round diagonal_round u32_at hex_text digits
-returns-clause-no_more_objects c = refl
-
-pub returns-clause-too_many_pages : goal.returns-clause-too_many_pages
-unfolding block_word double_rounds quarter_round column_round diagonal_round u32_at hex_text digits
-returns-clause-too_many_pages c = refl
-
-pub returns-clause-no_more_births : goal.returns-clause-no_more_births
-unfolding block_word double_rounds quarter_round column_round diagonal_round u32_at hex_text digits
-returns-clause-no_more_births c = refl
-
-pub returns-clause-without_until : goal.returns-clause-without_until
-unfolding block_word double_rounds quarter_round column_round diagonal_round u32_at hex_text digits
-returns-clause-without_until c = refl
-
 pub returns-clause-ended_in_its_turn : goal.returns-clause-ended_in_its_turn
 unfolding block_word double_rounds quarter_round column_round diagonal_round u32_at hex_text digits
 returns-clause-ended_in_its_turn c = refl

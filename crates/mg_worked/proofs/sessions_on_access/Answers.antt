@@ -33,10 +33,6 @@ pub returns-clause-revocation_acts_at_once : goal.returns-clause-revocation_acts
 unfolding block_word double_rounds quarter_round column_round diagonal_round u32_at hex_text digits
 returns-clause-revocation_acts_at_once c = refl
 
-pub returns-clause-slot_needs_its_right : goal.returns-clause-slot_needs_its_right
-unfolding block_word double_rounds quarter_round column_round diagonal_round u32_at hex_text digits
-returns-clause-slot_needs_its_right c = refl
-
 pub returns-clause-new_object_reads_zeros : goal.returns-clause-new_object_reads_zeros
 unfolding block_word double_rounds quarter_round column_round diagonal_round u32_at hex_text digits
 returns-clause-new_object_reads_zeros c = refl

@@ -24,3 +24,7 @@ returns-clause-edges_of_an_object c = refl
 pub returns-clause-all_frames_are_taken : goal.returns-clause-all_frames_are_taken
 unfolding block_word double_rounds quarter_round column_round diagonal_round u32_at hex_text digits
 returns-clause-all_frames_are_taken c = refl
+
+pub returns-clause-slot_needs_its_right : goal.returns-clause-slot_needs_its_right
+unfolding block_word double_rounds quarter_round column_round diagonal_round u32_at hex_text digits
+returns-clause-slot_needs_its_right c = refl

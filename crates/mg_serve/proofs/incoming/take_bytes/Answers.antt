@@ -1,7 +1,6 @@
 use Rattle.std.proofs.Common.{◌∷◌, ◌++◌, [], List, ℕ, refl, sym, ap, ◌∙◌, append_assoc}
-use Rattle.mg_faults.specs.Faults.{count_none, count_then}
 use Rattle.mg_serve.specs.Serving.{Broken, Session}
-use Rattle.mg_serve.proofs.IncomingSteps.{Breaks-next, Goes-all, Goes-none, Goes-then, alike_none, alike_then, keeps_then}
+use Rattle.mg_serve.proofs.IncomingSteps.{Breaks-next, Goes-all, Goes-none, Goes-then, counts_none, counts_then, keeps_then}
 use Rattle.mg_serve.proofs.incoming.take_bytes.Goals as goal
 
 pub loop-part-init : goal.loop-part-init
@@ -10,14 +9,8 @@ loop-part-init g c = record {
   split = refl;
   goes = Goes-none (Session g.M.Machine g.D.Disk) (record { machine = c.args.machine.now; disk = c.args.disk.now; owed = c.args.owed.now; taken = g.K.Sink.taken c.args.sink.now; steps = c.args.steps.now }) c.args.part.now;
   whole = c.requires.whole;
-  live = c.requires.live;
-  stands = c.requires.stands;
-  staged = c.requires.staged;
-  open_batch = c.requires.open_batch;
-  counted = alike_none (g.M.Machine.words_in c.args.machine.now) c.args.steps.now;
-  blocks = refl;
-  disk_count = count_none _ _;
-  sink_count = count_none _ _;
+  serving = c.requires.serving;
+  counts = counts_none g.M.Machine g.D.Disk g.K.Sink c.args.machine.now c.args.disk.now c.args.sink.now c.args.steps.now;
 }
 
 pub loop-part-preserved : goal.loop-part-preserved
@@ -29,14 +22,8 @@ loop-part-preserved g c =
       split = append_assoc done ended c.in-Some.more.now ∙ ap (λ v. done ++ v) (sym c.in-Some.ensures.split) ∙ c.loop-part.invariant.split;
       goes = Goes-then (Session g.M.Machine g.D.Disk) (record { machine = c.args.machine.now; disk = c.args.disk.now; owed = c.args.owed.now; taken = g.K.Sink.taken c.args.sink.now; steps = c.args.steps.now }) c.args.part.now done (record { machine = c.loop-part.machine; disk = c.loop-part.disk; owed = c.loop-part.owed; taken = g.K.Sink.taken c.loop-part.sink; steps = c.loop-part.steps }) c.loop-part.part ended (record { machine = c.take_ended.new.machine; disk = c.take_ended.new.disk; owed = c.take_ended.new.owed; taken = g.K.Sink.taken c.take_ended.new.sink; steps = c.take_ended.new.steps }) c.take_ended.new.part c.loop-part.invariant.goes c.in-Ok.ensures.goes;
       whole = c.in-Ok.ensures.whole;
-      live = c.in-Ok.ensures.keeps.live;
-      stands = c.in-Ok.ensures.keeps.stands;
-      staged = c.in-Ok.ensures.staged;
-      open_batch = c.in-Ok.ensures.open_batch;
-      counted = alike_then (g.M.Machine.words_in c.args.machine.now) (g.M.Machine.words_in c.loop-part.machine) (g.M.Machine.words_in c.take_ended.new.machine) c.args.steps.now c.loop-part.steps c.take_ended.new.steps c.loop-part.invariant.counted c.in-Ok.ensures.keeps.counted;
-      blocks = c.in-Ok.ensures.keeps.calls.blocks ∙ c.loop-part.invariant.blocks;
-      disk_count = count_then _ _ _ _ _ _ c.loop-part.invariant.disk_count c.in-Ok.ensures.keeps.calls.count;
-      sink_count = count_then _ _ _ _ _ _ c.loop-part.invariant.sink_count c.in-Ok.ensures.keeps.sink_count;
+      serving = c.in-Ok.ensures.serving;
+      counts = counts_then c.loop-part.invariant.counts c.in-Ok.ensures.keeps;
     }
 
 pub returns-in-None-clause-goes : goal.returns-in-None-clause-goes
@@ -47,6 +34,4 @@ returns-in-Err-clause-breaks g c =
     Breaks-next (Session g.M.Machine g.D.Disk) (Broken g.M.Machine g.D.Disk c.args.batch) c.in-Err.ended (record { machine = c.args.machine.now; disk = c.args.disk.now; owed = c.args.owed.now; taken = g.K.Sink.taken c.args.sink.now; steps = c.args.steps.now }) c.args.part.now c.args.bytes.now c.loop-part.invariant.done c.loop-part.rest.now (c.in-Some.line.now ++ 10 ∷ []) c.in-Some.more.now (record { machine = c.loop-part.machine; disk = c.loop-part.disk; owed = c.loop-part.owed; taken = g.K.Sink.taken c.loop-part.sink; steps = c.loop-part.steps }) c.loop-part.part (record { machine = c.take_ended.new.machine; disk = c.take_ended.new.disk; owed = c.take_ended.new.owed; taken = g.K.Sink.taken c.take_ended.new.sink; steps = c.take_ended.new.steps }) c.loop-part.invariant.split c.in-Some.ensures.split c.loop-part.invariant.goes c.in-Err.ensures.breaks
 
 pub returns-in-Err-clause-keeps : goal.returns-in-Err-clause-keeps
-returns-in-Err-clause-keeps g c =
-    keeps_then g.M.Machine g.D.Disk g.K.Sink c.args.machine.now c.loop-part.machine c.take_ended.new.machine c.args.disk.now c.loop-part.disk c.take_ended.new.disk c.args.sink.now c.loop-part.sink c.take_ended.new.sink c.args.steps.now c.loop-part.steps c.take_ended.new.steps _
-    c.loop-part.invariant.counted c.loop-part.invariant.blocks c.loop-part.invariant.disk_count c.loop-part.invariant.sink_count c.in-Err.ensures.keeps
+returns-in-Err-clause-keeps g c = keeps_then c.loop-part.invariant.counts c.in-Err.ensures.keeps

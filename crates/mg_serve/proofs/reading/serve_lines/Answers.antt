@@ -1,11 +1,11 @@
-use Rattle.std.proofs.Common.{◌≡◌, ◌+◌, ◌-◌, ap, arith, refl, subst, take, ℕ, ◌∙◌}
+use Rattle.std.proofs.Common.{◌≡◌, ◌+◌, ◌-◌, ap, arith, subst, take, ℕ}
 use Rattle.mg_faults.specs.Faults.{count_none, count_then}
 use Rattle.mg_model.specs.Lines.{lines}
 use Rattle.mg_serve.specs.Incoming.{Goes}
 use Rattle.mg_serve.specs.Readings.{Stops}
 use Rattle.mg_serve.specs.Machines.{Halts, IsInside}
 use Rattle.mg_serve.specs.Waiting.{Waiting}
-use Rattle.mg_serve.proofs.IncomingSteps.{alike_none, alike_then, keeps_then, on_end}
+use Rattle.mg_serve.proofs.IncomingSteps.{counts_none, counts_then, keeps_then, on_end}
 use Rattle.mg_serve.proofs.ReadingSteps.{Finishes-last, Reading-more, Reading-none, Stops-bytes, Stops-last, Stops-source, Stops-too_long}
 use Rattle.mg_serve.proofs.Results.{if_err_both, on_ok_both}
 use Rattle.mg_serve.specs.Serving.{Broken, Session}
@@ -15,25 +15,25 @@ use Rattle.mg_serve.proofs.reading.serve_lines.Goals as goal
 pub pieces-init : goal.pieces-init
 pieces-init g c = record {
   reading = Reading-none (Session g.M.Machine g.D.Disk) (record { machine = c.args.machine.now; disk = c.args.disk.now; taken = g.K.Sink.taken c.args.sink.now; steps = c.args.steps.now }) (g.S.Source.left c.args.source.now) (record { machine = c.args.machine.now; disk = c.args.disk.now; owed = c.clear.new.self; taken = g.K.Sink.taken c.args.sink.now; steps = c.args.steps.now }) c.new-part.result c.new-part.ensures
-      (Session-begins g.M.Machine g.D.Disk c.args.machine.now c.args.disk.now (g.K.Sink.taken c.args.sink.now) c.args.steps.now c.clear.new.self c.keep_rules.ensures.settled (g.met.D.Disk.now_has_been c.args.disk.now) (c.keep_rules.ensures.spelled c.requires.staged) c.keep_rules.ensures.none c.keep_rules.ensures.begins c.clear.ensures);
+      (Session-begins g.M.Machine g.D.Disk c.args.machine.now c.args.disk.now (g.K.Sink.taken c.args.sink.now) c.args.steps.now c.clear.new.self c.keep_rules.ensures.settled (g.met.D.Disk.now_has_been c.args.disk.now) (c.keep_rules.ensures.spelled c.requires.ready.none_staged) c.keep_rules.ensures.none c.keep_rules.ensures.begins c.clear.ensures);
   within = omega arith;
   size = omega arith;
-  live = c.requires.live;
-  stands = c.requires.stands;
-  staged = omega (arith, c.requires.staged);
-  open_batch = let some = c.requires.batch_at_least_1 in omega (arith, ap (λ (v : Waiting). v.count) c.clear.ensures);
-  counted = alike_none (g.M.Machine.words_in c.args.machine.now) c.args.steps.now;
-  blocks = refl;
-  disk_count = count_none _ _;
+  serving = record {
+    live = c.requires.ready.live;
+    stands = c.requires.ready.stands;
+    staged = omega (arith, c.requires.ready.none_staged);
+    open_batch = let some = c.requires.ready.at_least_1 in omega (arith, ap (λ (v : Waiting). v.count) c.clear.ensures);
+    small = c.requires.ready.small;
+  };
+  counts = counts_none g.M.Machine g.D.Disk g.K.Sink c.args.machine.now c.args.disk.now c.args.sink.now c.args.steps.now;
   source_count = count_none _ _;
-  sink_count = count_none _ _;
 }
 
 pub returns-in-Err-clause-stops : goal.returns-in-Err-clause-stops
 returns-in-Err-clause-stops g c =
     Stops-source (Session g.M.Machine g.D.Disk) (Broken g.M.Machine g.D.Disk c.args.batch) (record { machine = c.args.machine.now; disk = c.args.disk.now; taken = g.K.Sink.taken c.args.sink.now; steps = c.args.steps.now }) (g.S.Source.left c.args.source.now) (g.S.Source.left c.pieces.source) (g.S.Source.left c.take.new.self) c.pieces.total c.args.limit c.args.batch (c.args.limit + 4096) (record { machine = c.pieces.machine; disk = c.pieces.disk; owed = c.pieces.owed; taken = g.K.Sink.taken c.pieces.sink; steps = c.pieces.steps }) c.pieces.part
     c.pieces.invariant.reading c.pieces.invariant.within (omega arith) c.in-Err.ensures.bytes
-    (λ ls a. Broken-source g.M.Machine g.D.Disk c.args.batch (record { machine = c.args.machine.now; disk = c.args.disk.now; taken = g.K.Sink.taken c.args.sink.now; steps = c.args.steps.now }) ls (record { machine = c.pieces.machine; disk = c.pieces.disk; owed = c.pieces.owed; taken = g.K.Sink.taken c.pieces.sink; steps = c.pieces.steps }) c.keep_rules-in-Err.ensures.settled c.pieces.invariant.open_batch a)
+    (λ ls a. Broken-source g.M.Machine g.D.Disk c.args.batch (record { machine = c.args.machine.now; disk = c.args.disk.now; taken = g.K.Sink.taken c.args.sink.now; steps = c.args.steps.now }) ls (record { machine = c.pieces.machine; disk = c.pieces.disk; owed = c.pieces.owed; taken = g.K.Sink.taken c.pieces.sink; steps = c.pieces.steps }) c.keep_rules-in-Err.ensures.settled c.pieces.invariant.serving.open_batch a)
 
 pub returns-then-count-eq0-clause-finishes : goal.returns-then-count-eq0-clause-finishes
 returns-then-count-eq0-clause-finishes g c =
@@ -67,7 +67,7 @@ returns-then-count-room-clause-stops g c =
     c.pieces.invariant.reading c.pieces.invariant.within (omega arith) c.in-Ok.ensures.bytes.0 c.in-Ok.ensures.bound.0 c.if-count-room.true
     (subst (λ (v : ℕ). Goes (Session g.M.Machine g.D.Disk) (record { machine = c.pieces.machine; disk = c.pieces.disk; owed = c.pieces.owed; taken = g.K.Sink.taken c.pieces.sink; steps = c.pieces.steps }) c.pieces.part (take v c.take.new.into) (record { machine = c.take_bytes.new.machine; disk = c.take_bytes.new.disk; owed = c.take_bytes.new.owed; taken = g.K.Sink.taken c.take_bytes.new.sink; steps = c.take_bytes.new.steps }) c.take_bytes.new.part) at_limit c.in-Ok-take_bytes.ensures.goes)
     c.in-Ok-take_bytes.ensures.whole
-    (λ ls a. Broken-too_long g.M.Machine g.D.Disk c.args.batch (record { machine = c.args.machine.now; disk = c.args.disk.now; taken = g.K.Sink.taken c.args.sink.now; steps = c.args.steps.now }) ls (record { machine = c.take_bytes.new.machine; disk = c.take_bytes.new.disk; owed = c.take_bytes.new.owed; taken = g.K.Sink.taken c.take_bytes.new.sink; steps = c.take_bytes.new.steps }) c.keep_rules-then-count-room.ensures.settled c.in-Ok-take_bytes.ensures.open_batch a)
+    (λ ls a. Broken-too_long g.M.Machine g.D.Disk c.args.batch (record { machine = c.args.machine.now; disk = c.args.disk.now; taken = g.K.Sink.taken c.args.sink.now; steps = c.args.steps.now }) ls (record { machine = c.take_bytes.new.machine; disk = c.take_bytes.new.disk; owed = c.take_bytes.new.owed; taken = g.K.Sink.taken c.take_bytes.new.sink; steps = c.take_bytes.new.steps }) c.keep_rules-then-count-room.ensures.settled c.in-Ok-take_bytes.ensures.serving.open_batch a)
 
 pub pieces-preserved : goal.pieces-preserved
 pieces-preserved g c =
@@ -79,28 +79,16 @@ pieces-preserved g c =
           c.in-Ok-take_bytes.ensures.whole;
       within = omega arith;
       size = omega arith;
-      live = c.in-Ok-take_bytes.ensures.keeps.live;
-      stands = c.in-Ok-take_bytes.ensures.keeps.stands;
-      staged = c.in-Ok-take_bytes.ensures.staged;
-      open_batch = c.in-Ok-take_bytes.ensures.open_batch;
-      counted = alike_then (g.M.Machine.words_in c.args.machine.now) (g.M.Machine.words_in c.pieces.machine) (g.M.Machine.words_in c.take_bytes.new.machine) c.args.steps.now c.pieces.steps c.take_bytes.new.steps c.pieces.invariant.counted c.in-Ok-take_bytes.ensures.keeps.counted;
-      blocks = c.in-Ok-take_bytes.ensures.keeps.calls.blocks ∙ c.pieces.invariant.blocks;
-      disk_count = count_then _ _ _ _ _ _ c.pieces.invariant.disk_count c.in-Ok-take_bytes.ensures.keeps.calls.count;
+      serving = c.in-Ok-take_bytes.ensures.serving;
+      counts = counts_then c.pieces.invariant.counts c.in-Ok-take_bytes.ensures.keeps;
       source_count = count_then _ _ _ _ _ _ c.pieces.invariant.source_count c.in-Ok.ensures.cause.goes_on;
-      sink_count = count_then _ _ _ _ _ _ c.pieces.invariant.sink_count c.in-Ok-take_bytes.ensures.keeps.sink_count;
     }
 
 pub returns-then-count-eq0-clause-keeps : goal.returns-then-count-eq0-clause-keeps
-returns-then-count-eq0-clause-keeps g c =
-    keeps_then g.M.Machine g.D.Disk g.K.Sink c.args.machine.now c.pieces.machine c.finish.new.machine c.args.disk.now c.pieces.disk c.finish.new.disk c.args.sink.now c.pieces.sink c.finish.new.sink c.args.steps.now c.pieces.steps c.finish.new.steps _
-    c.pieces.invariant.counted c.pieces.invariant.blocks c.pieces.invariant.disk_count c.pieces.invariant.sink_count c.finish.ensures.keeps
+returns-then-count-eq0-clause-keeps g c = keeps_then c.pieces.invariant.counts c.finish.ensures.keeps
 
 pub returns-in-Err-take_bytes-clause-keeps : goal.returns-in-Err-take_bytes-clause-keeps
-returns-in-Err-take_bytes-clause-keeps g c =
-    keeps_then g.M.Machine g.D.Disk g.K.Sink c.args.machine.now c.pieces.machine c.take_bytes.new.machine c.args.disk.now c.pieces.disk c.take_bytes.new.disk c.args.sink.now c.pieces.sink c.take_bytes.new.sink c.args.steps.now c.pieces.steps c.take_bytes.new.steps _
-    c.pieces.invariant.counted c.pieces.invariant.blocks c.pieces.invariant.disk_count c.pieces.invariant.sink_count c.in-Err-take_bytes.ensures.keeps
+returns-in-Err-take_bytes-clause-keeps g c = keeps_then c.pieces.invariant.counts c.in-Err-take_bytes.ensures.keeps
 
 pub returns-then-count-room-clause-keeps : goal.returns-then-count-room-clause-keeps
-returns-then-count-room-clause-keeps g c =
-    keeps_then g.M.Machine g.D.Disk g.K.Sink c.args.machine.now c.pieces.machine c.take_bytes.new.machine c.args.disk.now c.pieces.disk c.take_bytes.new.disk c.args.sink.now c.pieces.sink c.take_bytes.new.sink c.args.steps.now c.pieces.steps c.take_bytes.new.steps _
-    c.pieces.invariant.counted c.pieces.invariant.blocks c.pieces.invariant.disk_count c.pieces.invariant.sink_count (on_end c.in-Ok-take_bytes.ensures.keeps)
+returns-then-count-room-clause-keeps g c = keeps_then c.pieces.invariant.counts (on_end c.in-Ok-take_bytes.ensures.keeps)

@@ -28,11 +28,11 @@ returns-in-Ok-clause-keeps g c = record {
 pub returns-in-Err-clause-keeps : goal.returns-in-Err-clause-keeps
 returns-in-Err-clause-keeps g c = record {
   lines = lines_unopened g.D.Disk g.S.Source g.K.Sink (λ s. device_text (equipped (seen g.T.Device.held c.args.windows) s)) (λ s. device_state (equipped (seen g.T.Device.held c.args.windows) s)) 1 c.in-Err.fault c.put_fault.result c.args.disk.now c.open.new.disk c.args.source.now c.args.sink.now c.put_fault.new.sink c.args.steps.now
-      (fault_tells c.in-Err.fault (g.D.Disk.seen c.args.disk.now) c.in-Err.ensures.not c.in-Err.ensures.old c.in-Err.ensures.damaged) c.put_fault.ensures.ends
-      (untouched c.in-Err.fault (WritesNothing g.D.Disk c.args.disk.now c.open.new.disk) c.in-Err.ensures.untouched_not c.in-Err.ensures.untouched_old c.in-Err.ensures.untouched_damaged)
+      (fault_tells c.in-Err.fault (g.D.Disk.seen c.args.disk.now) (λ h. (c.in-Err.ensures.not h).is) (λ h. (c.in-Err.ensures.old h).is) (λ h. (c.in-Err.ensures.damaged h).is)) c.put_fault.ensures.ends
+      (untouched c.in-Err.fault (WritesNothing g.D.Disk c.args.disk.now c.open.new.disk) (λ h. (c.in-Err.ensures.not h).untouched) (λ h. (c.in-Err.ensures.old h).untouched) (λ h. (c.in-Err.ensures.damaged h).untouched))
       c.in-Err.ensures.untouched c.put_fault.ensures.quiet c.put_fault.ensures.put c.put_fault.ensures.prefix c.put_fault.ensures.sink c.in-Err.ensures.calls.cause c.in-Err.ensures.any_moment (λ s. refl) (λ s. refl);
   devices = unopened c.in-Err.fault (g.D.Disk.seen c.args.disk.now) (λ s. LeavesDevices (equipped (seen g.T.Device.held c.args.windows) s) c.put_fault.result (seen g.T.Device.held c.args.windows) (g.S.Source.left c.args.source.now) (g.K.Sink.taken c.args.sink.now) (g.K.Sink.taken c.put_fault.new.sink))
-      (fault_tells c.in-Err.fault (g.D.Disk.seen c.args.disk.now) c.in-Err.ensures.not c.in-Err.ensures.old c.in-Err.ensures.damaged)
+      (fault_tells c.in-Err.fault (g.D.Disk.seen c.args.disk.now) (λ h. (c.in-Err.ensures.not h).is) (λ h. (c.in-Err.ensures.old h).is) (λ h. (c.in-Err.ensures.damaged h).is))
       (λ quiet image told s spelled. fault_devices (equipped (seen g.T.Device.held c.args.windows) s) c.in-Err.fault c.put_fault.result (g.S.Source.left c.args.source.now) (g.K.Sink.taken c.args.sink.now) (g.K.Sink.taken c.put_fault.new.sink) quiet c.put_fault.ensures.ends (ap (λ v. g.K.Sink.taken v) (c.put_fault.ensures.quiet quiet)));
   none_devices = λ h. refl;
   untouched_devices = λ image told no_state. refl;
