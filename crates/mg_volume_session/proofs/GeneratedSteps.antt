@@ -24,6 +24,7 @@ use Rattle.mg_model.specs.declared.replies.Reply.{Reply}
 use Rattle.mg_model.specs.Fresh.{fresh}
 use Rattle.mg_model.specs.Kept.{KeepsLine, KeepsWarm}
 use Rattle.mg_model.specs.Lines.{line_of}
+use Rattle.mg_model.specs.Refused.{Answer}
 use Rattle.mg_model.specs.State.{State}
 use Rattle.mg_model.specs.Step.{after, step}
 use Rattle.mg_model.specs.Warmth.{cost, events}
@@ -76,19 +77,18 @@ module _ {D : Type 0} (facts : Ghosts D) where
 
   -- a line is stepped, and its reply counted
   pub Counted-line : GoesOn → (k k' : Kernel) (d d' : D) (counts counts' : List ℕ) (n n' : ℕ) (line : Line) (reply : Reply)
-      → ForSome (facts.seen d) (λ image. reply ≡ (step (now_of k image) line).1)
-      → ForSome (facts.seen d) (λ image. now_of k' image ≡ (step (now_of k image) line).0)
+      → ForSome (facts.seen d) (λ image. step (now_of k image) line ≡ (now_of k' image, reply))
       → ForSome (facts.seen d) (λ image. KeepsLine (now_of k image) line (λ key. keeps_key k key) (λ key. keeps_key k' key) n n')
       → WritesNothing facts d d'
       → ((replies : List Reply) → counts ≡ tally_of replies → length replies < 2 ^ 64 - 1 → counts' ≡ tally_of (replies ++ reply ∷ []))
       → Counts facts (record { kernel = k; disk = d; counts = counts; steps = n }) line (record { kernel = k'; disk = d'; counts = counts'; steps = n' })
-  Counted-line laws k k' d d' counts counts' n n' line reply replies state keeps writes counted first s sofar few a =
-      let is : reply ≡ (step (after s sofar) line).1 = replies a.image a.is ∙ ap (λ v. (step v line).1) a.now in
+  Counted-line laws k k' d d' counts counts' n n' line reply answers keeps writes counted first s sofar few a =
+      let answer : step (after s sofar) line ≡ (now_of k' a.image, reply) = ap (λ v. step v line) (sym a.now) ∙ answers a.image a.is in
       let short : length (replies_from s sofar) < 2 ^ 64 - 1 = subst (λ (v : ℕ). v < 2 ^ 64 - 1) (sym (length-replies s sofar)) few in record {
         image = a.image;
         is = writes.same ∙ a.is;
-        now = state a.image a.is ∙ ap (λ v. (step v line).0) a.now ∙ sym (after-append s sofar (line ∷ []));
-        counts = counted (replies_from s sofar) a.counts short ∙ ap (λ v. tally_of (replies_from s sofar ++ v ∷ [])) is ∙ ap (λ v. tally_of v) (sym (replies-more s sofar line));
+        now = ap (λ (v : Answer). v.0) (sym answer) ∙ sym (after-append s sofar (line ∷ []));
+        counts = counted (replies_from s sofar) a.counts short ∙ ap (λ (v : Answer). tally_of (replies_from s sofar ++ v.1 ∷ [])) (sym answer) ∙ ap (λ v. tally_of v) (sym (replies-more s sofar line));
         warm = warm-more laws s (now_of k a.image) sofar line (λ key. keeps_key k key) (λ key. keeps_key k' key) n n' a.warm a.now (keeps a.image a.is);
         spent = spent-line laws s (now_of k a.image) sofar line (λ key. keeps_key k key) first n n' a.warm a.now a.spent (keeps a.image a.is).most;
       }

@@ -1,7 +1,7 @@
 mod Drying
 mod GeneratedSteps
-mod Joined
 mod Results
+mod RunWords
 mod Seed
 mod Spelled
 mod Summed

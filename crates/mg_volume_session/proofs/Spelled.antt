@@ -4,9 +4,8 @@ use Rattle.std.specs.Prelude.{String, codes}
 use Rattle.std.specs.String.{string_bytes}
 use Rattle.std.specs.declared.alloc.Global.{Global}
 use Rattle.mg_model.specs.Words.{same_bytes}
-use Rattle.mg_volume_session.specs.ByCommand.{dry_of, format_of, gen_of, is_check, run_of}
+use Rattle.mg_volume_session.specs.Commands.{dry_of, format_of, gen_of, is_check, run_of, tariff_of}
 use Rattle.mg_io.specs.Arguments.{arguments}
-use Rattle.mg_volume_session.specs.Commands.{tariff_of}
 use Rattle.mg_volume_session.specs.Forms.{dry_words, format_usual, format_with, gen_with, run_alone, run_with}
 
 not_five : (words : List (List ℕ)) → (length words ≡ 5 → ⊥) → dry_of words ≡ None

@@ -1,6 +1,7 @@
 -- The commands, and the words that spell each.
-use Rattle.std.specs.Prelude.{ℕ, ◌+◌, ◌*◌, ◌==◌, ◌&&◌, nat_le, List, [], ◌∷◌, length, if◌then◌else◌, Option, Some, None, codes, drop, not, option_map, take, String}
+use Rattle.std.specs.Prelude.{ℕ, ◌+◌, ◌*◌, ◌==◌, ◌&&◌, Bool, false, nat_le, List, [], ◌∷◌, length, if◌then◌else◌, Option, Some, None, codes, drop, not, option_map, take, String}
 use Rattle.std.specs.List.{prefix_len}
+use Rattle.std.specs.Option.{option_or}
 use Rattle.std.specs.declared.alloc.Global.{Global}
 use Rattle.mg_io.specs.Arguments.{arguments}
 use Rattle.mg_model.specs.Settings.{Settings, within_limits}
@@ -47,26 +48,54 @@ tariff_of a b c d =
     and_then (step_of a) (λ p. and_then (step_of b) (λ q. and_then (step_of c) (λ r. and_then (step_of d) (λ s.
     if is_tariff (p ∷ q ∷ r ∷ s ∷ []) then Some (p ∷ q ∷ r ∷ s ∷ []) else None))))
 
--- The command that these words spell. They are `VOLUME check`, `VOLUME run`, `VOLUME run BATCH`, `VOLUME gen NUMBER LINES`, `VOLUME dry
--- FRAMES SEED CREDITS`, and `VOLUME format FRAMES SEED CREDITS` with nothing after it or with `F:R F:R F:R F:R`.
-abbrev pub command_of : List (List ℕ) → Option Command
-command_of (volume ∷ word ∷ []) =
-    if same_bytes word (codes "check") then Some Check
-    else if same_bytes word (codes "run") then Some (Run 1) else None
-command_of (volume ∷ word ∷ batch ∷ []) =
-    if same_bytes word (codes "run") then and_then (number_of batch) (λ n.
-    if nat_le 1 n && nat_le n 64 then Some (Run n) else None) else None
-command_of (volume ∷ word ∷ number ∷ count ∷ []) =
-    if same_bytes word (codes "gen") then and_then (number_of number) (λ n. and_then (number_of count) (λ m.
-    if nat_le m 1000000 then Some (Gen n m) else None)) else None
-command_of (volume ∷ word ∷ frames ∷ seed ∷ credits ∷ []) =
-    if same_bytes word (codes "dry") then option_map (λ settings. Dry settings) (settings_of usual_tariff frames seed credits)
-    else if same_bytes word (codes "format") then option_map (λ settings. Format settings) (settings_of usual_tariff frames seed credits)
+-- `VOLUME dry FRAMES SEED CREDITS`
+abbrev pub dry_of : List (List ℕ) → Option Settings
+dry_of (volume ∷ word ∷ frames ∷ seed ∷ credits ∷ []) =
+    if same_bytes word (codes "dry") then settings_of usual_tariff frames seed credits else None
+dry_of words = None
+
+-- `VOLUME format FRAMES SEED CREDITS`, and the same with `F:R F:R F:R F:R`
+abbrev pub format_of : List (List ℕ) → Option Settings
+format_of (volume ∷ word ∷ frames ∷ seed ∷ credits ∷ []) =
+    if same_bytes word (codes "format") then settings_of usual_tariff frames seed credits else None
+format_of (volume ∷ word ∷ frames ∷ seed ∷ credits ∷ a ∷ b ∷ c ∷ d ∷ []) =
+    if same_bytes word (codes "format")
+    then and_then (tariff_of a b c d) (λ tariff. settings_of (λ _. tariff) frames seed credits)
     else None
-command_of (volume ∷ word ∷ frames ∷ seed ∷ credits ∷ a ∷ b ∷ c ∷ d ∷ []) =
-    if same_bytes word (codes "format") then and_then (tariff_of a b c d) (λ tariff.
-    option_map (λ settings. Format settings) (settings_of (λ _. tariff) frames seed credits)) else None
-command_of words = None
+format_of words = None
+
+-- `VOLUME check`
+abbrev pub is_check : List (List ℕ) → Bool
+is_check (volume ∷ word ∷ []) = same_bytes word (codes "check")
+is_check words = false
+
+-- a batch of this many replies, if it may have as many
+abbrev pub batch_within : ℕ → Option ℕ
+batch_within batch = if nat_le 1 batch && nat_le batch 64 then Some batch else None
+
+-- `VOLUME run` and `VOLUME run BATCH`
+abbrev pub run_of : List (List ℕ) → Option ℕ
+run_of (volume ∷ word ∷ []) = if same_bytes word (codes "run") then Some 1 else None
+run_of (volume ∷ word ∷ batch ∷ []) = if same_bytes word (codes "run") then and_then (number_of batch) batch_within else None
+run_of words = None
+
+-- a run of this many lines, if it may have as many
+abbrev pub lines_within : ℕ → ℕ → Option (ℕ × ℕ)
+lines_within number count = if nat_le count 1000000 then Some (number, count) else None
+
+-- `VOLUME gen NUMBER LINES`: the number, and how many lines
+abbrev pub gen_of : List (List ℕ) → Option (ℕ × ℕ)
+gen_of (volume ∷ word ∷ number ∷ count ∷ []) =
+    if same_bytes word (codes "gen") then and_then (number_of number) (λ n. and_then (number_of count) (λ m. lines_within n m)) else None
+gen_of words = None
+
+-- the command that these words spell
+abbrev pub command_of : List (List ℕ) → Option Command
+command_of words =
+    option_or (option_map (λ settings. Dry settings) (dry_of words))
+    (option_or (option_map (λ settings. Format settings) (format_of words))
+    (option_or (if is_check words then Some Check else None)
+    (option_or (option_map (λ batch. Run batch) (run_of words)) (option_map (λ run. Gen run.0 run.1) (gen_of words)))))
 
 -- the command that the words of the command line spell
 abbrev pub spelled : List (String Global) → Option Command

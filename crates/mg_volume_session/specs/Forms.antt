@@ -2,8 +2,7 @@
 use Rattle.std.specs.Prelude.{ℕ, List, [], ◌∷◌, if◌then◌else◌, Option, Some, None, codes}
 use Rattle.mg_model.specs.Settings.{Settings}
 use Rattle.mg_model.specs.Words.{and_then, same_bytes}
-use Rattle.mg_volume_session.specs.ByCommand.{dry_of, format_of, gen_of, run_of}
-use Rattle.mg_volume_session.specs.Commands.{settings_of}
+use Rattle.mg_volume_session.specs.Commands.{dry_of, format_of, gen_of, run_of, settings_of}
 
 -- a byte, if there is one, goes before the others
 abbrev pub byte_before : Option ℕ → Option (List ℕ) → Option (List ℕ)

@@ -132,14 +132,18 @@ pub record LinesKeep {D S K : Type 0} (said : State → List Line → List ℕ) 
   pub complete : OfState s.disk (λ _. (DiskRose s.disk → ⊥) → (SourceRose s.source → ⊥) → (SinkRose s.sink → ⊥)
       → IfShort s.source (IsDoneOrMemory s.result))
 
--- What `run` keeps: the machine's replies are `text`, and its states `after`.
-pub record RunKeeps {D S K : Type 0} (s : Session D S K) : Type 0 where
-  pub lines : LinesKeep text after s
+-- What a run of lines may cost.
+pub record RunCosts {D S K : Type 0} (s : Session D S K) : Type 0 where
   -- At each status the counter rose by no more than the lines that were read may cost.
   pub cost : OfState s.disk (λ state. IsWithinCost state s.result (left_at s.source) (left_now s.source) s.steps s.steps')
   -- If there is no volume it does not rise.
   pub none_steps : s.result ≡ status.NoVolume → s.steps' ≡ s.steps
   pub untouched_steps : OfNoState s.disk (s.steps' ≡ s.steps)
+
+-- What `run` keeps: the machine's replies are `text`, and its states `after`; and what it may cost.
+pub record RunKeeps {D S K : Type 0} (s : Session D S K) : Type 0 where
+  pub lines : LinesKeep text after s
+  pub costs : RunCosts s
 
 -- `VOLUME dry FRAMES SEED CREDITS`
 

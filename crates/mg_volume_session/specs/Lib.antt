@@ -2,9 +2,9 @@
 pub mod Commands
 pub mod Headline
 -- What the parts of a session do.
-pub mod ByCommand
 pub mod Forms
 pub mod Generating
+pub mod Serving
 pub mod Unopened
 pub mod OpeningLemmas
 pub mod LastLemmas

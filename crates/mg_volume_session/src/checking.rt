@@ -2,13 +2,12 @@
 ghost use Rattle.std.specs.Prelude.{◌≡◌, ◌⊎◌, Err, IfOk};
 ghost use Rattle.std.specs.Io.KnownBytes.{Appends};
 ghost use Rattle.std.specs.Option.{ForSome};
-ghost use Rattle.mg_disk.specs.Stops.{CountRose, DiskCallsBy, WritesNothing};
+ghost use Rattle.mg_disk.specs.Stops.{DiskCallsBy, WritesNothing};
 ghost use Rattle.mg_faults.specs.Faults.{Rose};
 ghost use Rattle.mg_io.specs.Known.{AppendsPrefix};
-ghost use Rattle.mg_model.specs.State.{State};
-ghost use Rattle.mg_model.specs.Volume.{Damaged, Is, NotVolume, OldVolume, VolumeRead, volume};
-ghost use Rattle.mg_serve.specs.Sessions.{IsDoneOrMemory, disk_use, sink_use};
-ghost use Rattle.mg_volume_session.specs.Headline.{CheckKeeps, EndsUnopened, OnVolume, TellsLine, TellsOfNone, check_line};
+ghost use Rattle.mg_model.specs.Volume.{Damaged, NotVolume, OldVolume, volume};
+ghost use Rattle.mg_serve.specs.Sessions.{disk_use, sink_use};
+ghost use Rattle.mg_volume_session.specs.Headline.{CheckKeeps};
 ghost use Rattle.mg_volume_session.specs.Unopened.{TellsState, summary_line};
 
 use crate::fault_line::put_fault;
@@ -23,23 +22,6 @@ use std::alloc::Global;
 /// Reports whether the disk holds a volume, and prints the line of it. It writes nothing.
 pub fn check<D: Disk, K: Sink>(alloc: Global, disk: &mut D, sink: &mut K) -> Status
     ensures { CheckKeeps result (disk_use D.Disk disk.old disk.new) (sink_use K.Sink sink.old sink.new) }
-{
-    print_line(alloc, disk, sink)
-}
-
-/// Prints the line of what the disk holds.
-fn print_line<D: Disk, K: Sink>(alloc: Global, disk: &mut D, sink: &mut K) -> Status
-    ensures which { (result ≡ Status.Done) ⊎ EndsUnopened result }
-    ensures done { result ≡ Status.Done → TellsLine (λ read. (s : State) × (read ≡ Is s)) (D.seen disk.old) (K.taken sink.old) (K.taken sink.new) }
-    ensures prefix { (read : VolumeRead) × ForSome (D.seen disk.old) (λ image. volume image ≡ read) × AppendsPrefix (K.taken sink.old) (K.taken sink.new) (check_line read) }
-    ensures writes { WritesNothing D.Disk disk.old disk.new }
-    ensures without { TellsOfNone D.Disk K.Sink result disk.old disk.new sink.old sink.new }
-    ensures memory { result ≡ Status.Memory → sink.new ≡ sink.old }
-    ensures disk { result ≡ Status.Disk → CountRose D.Disk disk.old disk.new }
-    ensures disk_text { result ≡ Status.Disk → sink.new ≡ sink.old }
-    ensures sink { result ≡ Status.Sink → Rose (K.faults sink.old) (K.faults sink.new) (K.is_spent sink.new) }
-    ensures complete { OnVolume (D.seen disk.old) (λ _. (CountRose D.Disk disk.old disk.new → ⊥)
-        → (Rose (K.faults sink.old) (K.faults sink.new) (K.is_spent sink.new) → ⊥) → IsDoneOrMemory result) }
 {
     match examined(alloc, disk) {
         Ok(summary) => put_summary(&summary, sink),

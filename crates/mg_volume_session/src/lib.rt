@@ -7,8 +7,8 @@
 //!
 //! The loop from bytes to replies is that of `mg_serve`; here a kernel is one of its machines, and [`serve`] is that loop over it.
 //!
-//! The definitions are in `specs/`: `Commands` (what the words spell) and `Headline` (what each command keeps, in one
-//! record, which is a clause of [`top`], and the words of it); for the layers below it `ByCommand` (the words of each command),
+//! The definitions are in `specs/`: `Commands` (the words of each command) and `Headline` (what each command keeps, in one
+//! record, which is a clause of [`top`], and the words of it); for the layers below it
 //! `Generating` (a generated run) and `Unopened` (what a fault of the opening says). `OpeningLemmas` joins an opening and a
 //! session.
 #![tactic(auto)]

@@ -1,22 +1,21 @@
 // A whole session of a kernel.
-ghost use Rattle.std.specs.Prelude.{◌≡◌, ◌≤◌, Err, IfSome, IsOk, IsTrue, OnOk};
+ghost use Rattle.std.specs.Prelude.{◌≡◌, Err, IsOk, IsTrue, OnOk};
 ghost use Rattle.std.specs.Option.{ForSome};
-ghost use Rattle.mg_disk.specs.Stops.{CountRose, DiskCallsBy};
+ghost use Rattle.mg_disk.specs.Stops.{CountRose};
 ghost use Rattle.mg_faults.specs.Faults.{CountGoesOn, Rose};
-ghost use Rattle.mg_kernel.specs.Meaning.{StandsOn, is_live, now_of, staged_of, words_in};
-ghost use Rattle.mg_model.specs.Counts.{CountsAlike};
-ghost use Rattle.mg_model.specs.Print.{text};
+ghost use Rattle.mg_kernel.specs.Meaning.{is_live, now_of, staged_of};
 ghost use Rattle.mg_model.specs.Step.{after};
-ghost use Rattle.mg_serve.specs.Parts.{KeepsExactly, SpellsAfter};
-ghost use Rattle.mg_serve.specs.Sessions.{Answers, Ends, Holds, HoldsExactly, IsWithin, UnlessDisk, disk_use, sink_use, source_use, status_of};
-ghost use Rattle.mg_volume_session.specs.Headline.{IsWithinCost};
+ghost use Rattle.mg_serve.specs.Parts.{KeepsExactly};
+ghost use Rattle.mg_serve.specs.Serving.{Keeps, MayServe};
+ghost use Rattle.mg_serve.specs.Sessions.{Ends, IsWithin, disk_use, sink_use, source_use, status_of};
+ghost use Rattle.mg_volume_session.specs.Serving.{ServesFrom};
 
 use mg_disk::Disk;
 use mg_io::{Sink, Source};
 use mg_kernel::Kernel;
 use mg_laws::costs_add_up;
 use mg_model::Steps;
-use mg_serve::{Buffers, Ended};
+use mg_serve::{Buffers, Ended, Machine};
 use std::sync::ledger::Ledger;
 
 /// Reads lines to the end of the source, steps them and sends their replies in batches of at most 64, up to a limit on the
@@ -42,23 +41,12 @@ pub fn serve<D: Disk, S: Source, K: Sink, L: Ledger>(
     limit: u64,
     steps: &mut Steps<L>,
 ) -> Result<(), Ended>
-    requires live { IsTrue (is_live kernel.old) }
-    requires stands { StandsOn D.Disk kernel.old disk.old }
-    requires staged { staged_of kernel.old ≡ 0 }
-    requires batch_at_least_1 { 1 ≤ batch }
-    requires small { batch ≤ 64 }
+    requires ready { MayServe ⟦<Kernel as Machine>⟧ D.Disk batch kernel.old disk.old }
 
     // What the sink took, what a stop leaves, and how the session ends.
-    ensures answers { ForSome (D.seen disk.old) (λ image. Answers (text (now_of kernel.old image)) (status_of result)
-        (source_use S.Source source.old source.new) (sink_use K.Sink sink.old sink.new)) }
-    ensures kept { OnOk result (ForSome (D.seen disk.old) (λ image. IfSome (S.left source.old) (λ input.
-        SpellsAfter (after (now_of kernel.old image)) input (D.seen disk.new)))) }
-    ensures holds { ForSome (D.seen disk.old) (λ image. Holds (after (now_of kernel.old image)) (disk_use D.Disk disk.old disk.new)
-        (source_use S.Source source.old source.new) (sink_use K.Sink sink.old sink.new)) }
-    ensures holds_exactly { ForSome (D.seen disk.old) (λ image. HoldsExactly (after (now_of kernel.old image)) (status_of result)
-        (disk_use D.Disk disk.old disk.new) (source_use S.Source source.old source.new) (sink_use K.Sink sink.old sink.new)) }
+    ensures serves { ForSome (D.seen disk.old) (λ image. ServesFrom (now_of kernel.old image) result (disk_use D.Disk disk.old disk.new)
+        (source_use S.Source source.old source.new) (sink_use K.Sink sink.old sink.new) steps.old steps.new) }
     ensures ends { Ends batch limit (status_of result) (source_use S.Source source.old source.new) (sink_use K.Sink sink.old sink.new) }
-    ensures disk { DiskCallsBy D.Disk disk.old disk.new (result ≡ Err Ended.Disk) }
 
     // If no call failed and the input is not too long, all is done.
     ensures complete { (CountRose D.Disk disk.old disk.new → ⊥)
@@ -66,23 +54,17 @@ pub fn serve<D: Disk, S: Source, K: Sink, L: Ledger>(
         → (Rose (K.faults sink.old) (K.faults sink.new) (K.is_spent sink.new) → ⊥)
         → IsWithin limit (S.left source.old) (IsOk result) }
 
-    // Unless the disk failed the kernel is live and stands on the disk, and after a good end it may serve again. If the
-    // disk failed and the kernel is live, no commit failed, and the answered lines are held and no others.
-    ensures live { UnlessDisk result (IsTrue (is_live kernel.new)) }
-    ensures stands { UnlessDisk result (StandsOn D.Disk kernel.new disk.new) }
+    // Unless the disk failed the kernel is live and stands on the disk, and after a good end it may serve again. The two counts of
+    // words rise by as much, and no count of faults falls.
+    ensures keeps { Keeps ⟦<Kernel as Machine>⟧ D.Disk K.Sink kernel.old disk.old sink.old steps.old
+        result kernel.new disk.new sink.new steps.new }
     ensures staged { OnOk result (staged_of kernel.new ≡ 0) }
+    ensures source_count { CountGoesOn (S.faults source.old) (S.faults source.new) (S.is_spent source.old) (S.is_spent source.new) }
+
+    // If the disk failed and the kernel is live, no commit failed, and the answered lines are held and no others.
     ensures held_disk { result ≡ Err Ended.Disk → IsTrue (is_live kernel.new) → ForSome (D.seen disk.old) (λ image.
         KeepsExactly (D.left_since disk.new (D.moment disk.new)) (after (now_of kernel.old image))
         (S.left source.old) (K.taken sink.old) (K.taken sink.new)) }
-
-    // Whatever ends it, the counter rises by no more than the lines that were read may cost, and one that was cut is not among them.
-    ensures cost { ForSome (D.seen disk.old) (λ image. IsWithinCost (now_of kernel.old image) (status_of result)
-        (S.left source.old) (S.left source.new) steps.old steps.new) }
-
-    // The two counts of words rise by as much, and no count falls.
-    ensures counted { CountsAlike (words_in kernel.old) (words_in kernel.new) steps.old steps.new }
-    ensures source_count { CountGoesOn (S.faults source.old) (S.faults source.new) (S.is_spent source.old) (S.is_spent source.new) }
-    ensures sink_count { CountGoesOn (K.faults sink.old) (K.faults sink.new) (K.is_spent sink.old) (K.is_spent sink.new) }
 {
     costs_add_up();
     mg_serve::serve(kernel, disk, source, sink, owed, batch, limit, steps)

@@ -3,12 +3,14 @@ ghost use Rattle.std.specs.Prelude.{◌≡◌, ◌≢◌, ◌⊎◌, ℕ, None, 
 ghost use Rattle.std.specs.Io.KnownBytes.{Appends};
 ghost use Rattle.mg_faults.specs.Faults.{Rose};
 ghost use Rattle.mg_io.specs.Known.{AppendsPrefix};
+ghost use Rattle.mg_model.specs.Print.{text};
 ghost use Rattle.mg_model.specs.Settings.{Settings};
+ghost use Rattle.mg_model.specs.Step.{after};
 ghost use Rattle.mg_serve.specs.Sessions.{disk_use, sink_use, source_use};
-ghost use Rattle.mg_volume_session.specs.Commands.{spelled};
+ghost use Rattle.mg_volume_session.specs.Commands.{run_of, spelled};
 ghost use Rattle.mg_volume_session.specs.declared.words.Command.TheVariants.{Check, Dry, Format, Gen, Run};
-ghost use Rattle.mg_volume_session.specs.Headline.{CheckKeeps, DryKeeps, FormatKeeps, GenKeeps, RunKeeps, UsageKeeps, session_of};
-ghost use Rattle.mg_io.specs.Arguments.{usage_line};
+ghost use Rattle.mg_volume_session.specs.Headline.{CheckKeeps, DryKeeps, FormatKeeps, GenKeeps, LinesKeep, RunCosts, UsageKeeps, session_of};
+ghost use Rattle.mg_io.specs.Arguments.{arguments, usage_line};
 
 use crate::checking::check;
 use crate::dry::dry;
@@ -73,8 +75,12 @@ pub fn top<D: Disk, S: Source, K: Sink, L: Ledger>(
     steps: &mut Steps<L>,
 ) -> Status
     // What each command keeps. `dry` makes no call on the disk, and `gen` none on the disk and the source.
-    ensures run { (batch : ℕ) → spelled words.now ≡ Some (Run batch) → RunKeeps (session_of batch result (disk_use D.Disk disk.old disk.new)
-        (source_use S.Source source.old source.new) (sink_use K.Sink sink.old sink.new) steps.old steps.new) }
+    ensures run { (batch : ℕ) → run_of (arguments words.now) ≡ Some batch → LinesKeep text after
+        (session_of batch result (disk_use D.Disk disk.old disk.new) (source_use S.Source source.old source.new)
+        (sink_use K.Sink sink.old sink.new) steps.old steps.new) }
+    ensures run_costs { (batch : ℕ) → run_of (arguments words.now) ≡ Some batch → RunCosts
+        (session_of batch result (disk_use D.Disk disk.old disk.new) (source_use S.Source source.old source.new)
+        (sink_use K.Sink sink.old sink.new) steps.old steps.new) }
     ensures dry { (settings : Settings) → spelled words.now ≡ Some (Dry settings) → DryKeeps settings result
         (source_use S.Source source.old source.new) (sink_use K.Sink sink.old sink.new) steps.old steps.new }
     ensures disk_alone { (settings : Settings) → spelled words.now ≡ Some (Dry settings) → disk.new ≡ disk.old }

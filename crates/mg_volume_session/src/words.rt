@@ -1,9 +1,8 @@
 // The words of the command line.
 ghost use Rattle.std.specs.Prelude.{◌≡◌, ◌≤◌, ℕ, IfSome, Some, length};
 ghost use Rattle.mg_model.specs.Tariff.{usual_tariff};
-ghost use Rattle.mg_volume_session.specs.ByCommand.{batch_within, command_by, dry_of, format_of, gen_of, is_check, lines_within, run_of};
 ghost use Rattle.mg_io.specs.Arguments.{arguments};
-ghost use Rattle.mg_volume_session.specs.Commands.{before_colon, byte_of, seed_of, settings_of, spelled, step_of, step_parts, tariff_of};
+ghost use Rattle.mg_volume_session.specs.Commands.{batch_within, before_colon, byte_of, dry_of, format_of, gen_of, is_check, lines_within, run_of, seed_of, settings_of, spelled, step_of, step_parts, tariff_of};
 ghost use Rattle.mg_volume_session.specs.Forms.{dry_words, format_usual, format_with, gen_with, run_alone, run_with};
 ghost use Rattle.mg_volume_session.specs.declared.words.Command.TheVariants.{Gen, Run};
 
@@ -38,15 +37,6 @@ pub enum Command {
 /// and numbers are spelled as in a line.
 pub fn read_words(words: &[String]) -> Option<Command>
     ensures command { result ≡ spelled words.now }
-    ensures few_lines { (number count : ℕ) → result ≡ Some (Gen number count) → count ≤ 1000000 }
-    ensures batch_within { (batch : ℕ) → result ≡ Some (Run batch) → (1 ≤ batch) × (batch ≤ 64) }
-{
-    read_by(words)
-}
-
-/// The command that one of the functions below reads.
-fn read_by(words: &[String]) -> Option<Command>
-    ensures command { result ≡ command_by (arguments words.now) }
     ensures few_lines { (number count : ℕ) → result ≡ Some (Gen number count) → count ≤ 1000000 }
     ensures batch_within { (batch : ℕ) → result ≡ Some (Run batch) → (1 ≤ batch) × (batch ≤ 64) }
 {

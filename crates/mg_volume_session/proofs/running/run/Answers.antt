@@ -12,23 +12,27 @@ pub returns-in-Ok-clause-keeps : goal.returns-in-Ok-clause-keeps
 returns-in-Ok-clause-keeps g c = record {
   lines = lines_opened g.D.Disk g.S.Source g.K.Sink text after c.args.batch _ c.in-Ok.kernel c.in-Ok.kernel c.run.new.machine c.run.result c.args.disk.now c.open.new.disk c.run.new.disk c.args.source.now c.run.new.source c.args.sink.now c.run.new.sink c.args.steps.now c.run.new.steps
       c.in-Ok.ensures.opens c.in-Ok.ensures.any_moment c.in-Ok.ensures.calls.count (λ image. refl) (λ image. refl) (λ s. refl) c.run.ensures.serves;
-  cost = opened_then c.in-Ok.kernel (g.D.Disk.seen c.args.disk.now) (g.D.Disk.seen c.open.new.disk) (λ s. IsWithinCost s c.run.result (g.S.Source.left c.args.source.now) (g.S.Source.left c.run.new.source) c.args.steps.now c.run.new.steps)
-      c.in-Ok.ensures.opens
-      (λ image seen. traced_cost _ c.costs_add_up.ensures.prefix c.args.batch c.run.result c.in-Ok.kernel c.run.new.machine image (now_of c.in-Ok.kernel image) (g.S.Source.left c.args.source.now) (g.S.Source.left c.run.new.source) (g.K.Sink.taken c.args.sink.now) (g.K.Sink.taken c.run.new.sink) c.args.steps.now c.run.new.steps
-      (λ ls st. st.spent) (λ ls st. st) (c.run.ensures.serves.traces image seen));
-  none_steps = λ h. absurd (no_volume c.run.result c.run.ensures.serves.which h);
-  untouched_steps = λ image seen no_state. absurd (subst IsNoState (c.in-Ok.ensures.opens image seen).is no_state);
+  costs = record {
+    cost = opened_then c.in-Ok.kernel (g.D.Disk.seen c.args.disk.now) (g.D.Disk.seen c.open.new.disk) (λ s. IsWithinCost s c.run.result (g.S.Source.left c.args.source.now) (g.S.Source.left c.run.new.source) c.args.steps.now c.run.new.steps)
+        c.in-Ok.ensures.opens
+        (λ image seen. traced_cost _ c.costs_add_up.ensures.prefix c.args.batch c.run.result c.in-Ok.kernel c.run.new.machine image (now_of c.in-Ok.kernel image) (g.S.Source.left c.args.source.now) (g.S.Source.left c.run.new.source) (g.K.Sink.taken c.args.sink.now) (g.K.Sink.taken c.run.new.sink) c.args.steps.now c.run.new.steps
+        (λ ls st. st.spent) (λ ls st. st) (c.run.ensures.serves.traces image seen));
+    none_steps = λ h. absurd (no_volume c.run.result c.run.ensures.serves.which h);
+    untouched_steps = λ image seen no_state. absurd (subst IsNoState (c.in-Ok.ensures.opens image seen).is no_state);
+  };
 }
 
 pub returns-in-Err-clause-keeps : goal.returns-in-Err-clause-keeps
 returns-in-Err-clause-keeps g c = record {
   lines = lines_unopened g.D.Disk g.S.Source g.K.Sink text after c.args.batch c.in-Err.fault c.put_fault.result c.args.disk.now c.open.new.disk c.args.source.now c.args.sink.now c.put_fault.new.sink c.args.steps.now
-      (fault_tells c.in-Err.fault (g.D.Disk.seen c.args.disk.now) c.in-Err.ensures.not c.in-Err.ensures.old c.in-Err.ensures.damaged) c.put_fault.ensures.ends
-      (untouched c.in-Err.fault (WritesNothing g.D.Disk c.args.disk.now c.open.new.disk) c.in-Err.ensures.untouched_not c.in-Err.ensures.untouched_old c.in-Err.ensures.untouched_damaged)
+      (fault_tells c.in-Err.fault (g.D.Disk.seen c.args.disk.now) (λ h. (c.in-Err.ensures.not h).is) (λ h. (c.in-Err.ensures.old h).is) (λ h. (c.in-Err.ensures.damaged h).is)) c.put_fault.ensures.ends
+      (untouched c.in-Err.fault (WritesNothing g.D.Disk c.args.disk.now c.open.new.disk) (λ h. (c.in-Err.ensures.not h).untouched) (λ h. (c.in-Err.ensures.old h).untouched) (λ h. (c.in-Err.ensures.damaged h).untouched))
       c.in-Err.ensures.untouched c.put_fault.ensures.quiet c.put_fault.ensures.put c.put_fault.ensures.prefix c.put_fault.ensures.sink c.in-Err.ensures.calls.cause c.in-Err.ensures.any_moment (λ s. refl) (λ s. refl);
-  cost = unopened c.in-Err.fault (g.D.Disk.seen c.args.disk.now) (λ s. IsWithinCost s c.put_fault.result (g.S.Source.left c.args.source.now) (g.S.Source.left c.args.source.now) c.args.steps.now c.args.steps.now)
-      (fault_tells c.in-Err.fault (g.D.Disk.seen c.args.disk.now) c.in-Err.ensures.not c.in-Err.ensures.old c.in-Err.ensures.damaged)
-      (λ quiet image is s spelled. none_spent s c.put_fault.result (g.S.Source.left c.args.source.now) c.args.steps.now);
-  none_steps = λ h. refl;
-  untouched_steps = λ image seen no_state. refl;
+  costs = record {
+    cost = unopened c.in-Err.fault (g.D.Disk.seen c.args.disk.now) (λ s. IsWithinCost s c.put_fault.result (g.S.Source.left c.args.source.now) (g.S.Source.left c.args.source.now) c.args.steps.now c.args.steps.now)
+        (fault_tells c.in-Err.fault (g.D.Disk.seen c.args.disk.now) (λ h. (c.in-Err.ensures.not h).is) (λ h. (c.in-Err.ensures.old h).is) (λ h. (c.in-Err.ensures.damaged h).is))
+        (λ quiet image is s spelled. none_spent s c.put_fault.result (g.S.Source.left c.args.source.now) c.args.steps.now);
+    none_steps = λ h. refl;
+    untouched_steps = λ image seen no_state. refl;
+  };
 }

@@ -4,6 +4,7 @@ use Rattle.mungi.proofs.program.ran.Goals as goal
 pub returns : goal.returns
 returns g c = record {
   run = search rules;
+  run_costs = search rules;
   dry = search rules;
   check = search rules;
   format = search rules;
