@@ -1,15 +1,12 @@
 -- The texts of objects, each by its place, object by object.
-use Rattle.mg_show.proofs.Names.{◌≡◌, ℕ, suc, ◌+◌, ◌<◌, ◌≤◌, List, [], ◌∷◌, ◌++◌, flat_map, length, slice_index_or, take, HoldsAt, sym, ap, refl, ◌∙◌}
-use Rattle.mg_show.proofs.Names.{append_assoc, append-nil, arith, take_all, ObjectRow, by_place}
+use Rattle.mg_show.proofs.Names.{◌≡◌, ℕ, suc, ◌+◌, ◌<◌, List, [], ◌∷◌, ◌++◌, flat_map, length, slice_index_or, take, HoldsAt, sym, ap, refl, ◌∙◌}
+use Rattle.mg_show.proofs.Names.{append_assoc, append-nil, arith, if◌then◌else◌, Bool, ObjectRow, by_place}
 use Rattle.std.proofs.lemmas.List.{length-take, take_more}
 
 module _ {A : Type 0} (text : ℕ → ObjectRow → List A) where
   places-append : (j : ℕ) (xs ys : List (ℕ × ObjectRow)) → by_place text j (xs ++ ys) ≡ by_place text j xs ++ by_place text (j + length xs) ys
   places-append j [] ys = let e : j ≡ j + 0 = omega arith in ap (λ n. by_place text n ys) e
-  places-append j (x ∷ xs) ys =
-      let e : j + 1 + length xs ≡ j + length (x ∷ xs) = omega arith in
-      ap (λ (rest : List A). text j x.1 ++ rest) (places-append (j + 1) xs ys ∙ ap (λ n. by_place text (j + 1) xs ++ by_place text n ys) e)
-      ∙ sym (append_assoc (text j x.1) (by_place text (j + 1) xs) (by_place text (j + length (x ∷ xs)) ys))
+  places-append j (x ∷ xs) ys = grind (arith, (places-append (j + 1) xs ys), append_assoc)
 
   -- one object more
   pub places-more : (objects : List (ℕ × ObjectRow)) (i : ℕ) → i < length objects → (row : ObjectRow) → HoldsAt (λ (o : ℕ × ObjectRow). row ≡ o.1) objects i
@@ -20,9 +17,6 @@ module _ {A : Type 0} (text : ℕ → ObjectRow → List A) where
       ap (λ r. by_place text 0 (take i objects) ++ text i r) (is (0, row))
       ∙ ap (λ (rest : List A). by_place text 0 (take i objects) ++ rest) (sym (append-nil (text i o.1)))
       ∙ sym (ap (by_place text 0) (take_more objects i (0, row) below) ∙ places-append 0 (take i objects) (o ∷ []) ∙ ap (λ n. by_place text 0 (take i objects) ++ by_place text n (o ∷ [])) e)
-
-  pub places-all : (objects : List (ℕ × ObjectRow)) (i : ℕ) → length objects ≤ i → by_place text 0 (take i objects) ≡ by_place text 0 objects
-  places-all objects i end = ap (by_place text 0) (take_all i objects end)
 
   -- where the text by its place is a text of each object alone
   same_from : (own : ObjectRow → List A) (j : ℕ) (objects : List (ℕ × ObjectRow))
@@ -38,3 +32,12 @@ module _ {A : Type 0} (text : ℕ → ObjectRow → List A) where
       → ((i : ℕ) → i < length objects → (d : ℕ × ObjectRow) → text i (slice_index_or objects i d).1 ≡ own (slice_index_or objects i d).1)
       → by_place text 0 objects ≡ flat_map (λ (o : ℕ × ObjectRow). own o.1) objects
   places-same own objects are = same_from own 0 objects (λ i below d. let e : 0 + i ≡ i = omega arith in ap (λ n. text n (slice_index_or objects i d).1) e ∙ are i below d)
+
+-- one object more, whose text is there if it passes a test
+pub places-next : {A : Type 0} (text : ℕ → ObjectRow → List A) (test : ℕ → Bool) (objects : List (ℕ × ObjectRow)) (i : ℕ) → i < length objects
+    → (row : ObjectRow) → HoldsAt (λ (o : ℕ × ObjectRow). row ≡ o.1) objects i → (v : Bool) → v ≡ test i
+    → by_place (λ i row. if test i then text i row else []) 0 (take i objects) ++ (if v then text i row else [])
+    ≡ by_place (λ i row. if test i then text i row else []) 0 (take (i + 1) objects)
+places-next text test objects i below row is v passes =
+    ap (λ v. by_place (λ i row. if test i then text i row else []) 0 (take i objects) ++ (if v then text i row else [])) passes
+    ∙ places-more (λ i row. if test i then text i row else []) objects i below row is

@@ -1,28 +1,19 @@
 -- The graph by the bytes and the ranks of objects is that of the state.
 use Rattle.mg_show.proofs.Names.{◌≡◌, ℕ, suc, ◌+◌, ◌-◌, ◌<◌, ◌==◌, ◌&&◌, ◌||◌, Bool, true, false, List, [], ◌∷◌, ◌++◌, codes, find, flat_map, if◌then◌else◌}
-use Rattle.mg_show.proofs.Names.{length, map, None, Option, Some, slice_index, slice_index_or, take, HoldsAt, list_any, option_map, option_map_or, refl, sym}
-use Rattle.mg_show.proofs.Names.{ap, ◌∙◌, append_assoc, arith, get_or, fun_ext, flat_map-map, list_any-append, Image, Right, R}
+use Rattle.mg_show.proofs.Names.{length, map, None, Option, Some, slice_index, slice_index_or, take, list_any, option_map, option_map_or, refl, sym}
+use Rattle.mg_show.proofs.Names.{eq-eqb, ap, ◌∙◌, append_assoc, arith, get_or, fun_ext, flat_map-map, list_any-append, Image, Right, R}
 use Rattle.mg_show.proofs.Names.{Slot, holds, last_slots, has_right, Object, ObjectRow, Thread, ThreadRow, is_among, part_text, reached, thread_part}
-use Rattle.mg_show.proofs.Names.{holds_now, is_list, object_name, quoted, slot_arrow, thread_node, bases_of, domains_drawn, entries_drawn, graph_end}
+use Rattle.mg_show.proofs.Names.{holds_now, is_list, object_name, slot_arrow, thread_node, bases_of, domains_drawn, entries_drawn, graph_end}
 use Rattle.mg_show.proofs.Names.{graph_head, lists_ranked, node_if, nodes_ranked, threads_drawn, given, is_within, named_by, listed, letters, letters_by}
 use Rattle.mg_show.proofs.Names.{bare, numbered, object_in, state_shown, AreOpened, AreRanked, flat_more, Shown}
-use Rattle.std.specs.Prelude.{slice_get}
+use Rattle.std.specs.Prelude.{All, slice_get}
+use Rattle.std.proofs.lemmas.List.Elements.{All-head, All-tail}
 use Rattle.mg_model.specs.State.{CallFrame, State}
 use Rattle.mg_show.specs.DotText.{arrow, dot_text, entry_arrow, list_arrows, thread_name}
 use Rattle.mg_show.specs.Drawn.{entry_bits, part_ranked, slot_bits}
-use Rattle.mg_show.proofs.ByPlaces.{places-more, places-same}
+use Rattle.mg_show.proofs.ByPlaces.{places-same}
 use Rattle.mg_show.proofs.Letters.{any-right, rights-letters}
 use Rattle.mg_show.proofs.Listing.{held-bare}
-
--- a text between quotes, of which each stands with the text beside it
-pub quotes-around : (m c l : List ℕ) → ((m ++ (c ++ 34 ∷ [])) ++ l) ++ 34 ∷ 93 ∷ 10 ∷ [] ≡ (((m ++ c) ++ quoted l) ++ 93 ∷ []) ++ 10 ∷ []
-quotes-around m c l =
-    append_assoc (m ++ (c ++ 34 ∷ [])) l (34 ∷ 93 ∷ 10 ∷ [])
-    ∙ ap (λ t. t ++ (l ++ 34 ∷ 93 ∷ 10 ∷ [])) (sym (append_assoc m c (34 ∷ [])))
-    ∙ append_assoc (m ++ c) (34 ∷ []) (l ++ 34 ∷ 93 ∷ 10 ∷ [])
-    ∙ ap (λ t. (m ++ c) ++ 34 ∷ t) (sym (append_assoc l (34 ∷ []) (93 ∷ 10 ∷ [])))
-    ∙ sym (append_assoc (m ++ c) (quoted l) (93 ∷ 10 ∷ []))
-    ∙ sym (append_assoc ((m ++ c) ++ quoted l) (93 ∷ []) (10 ∷ []))
 
 -- bits that have the rights that pass
 module _ (s : State) (base password bits : ℕ) (same : (right : Right) → has_right bits right ≡ holds_now s base password right) where
@@ -30,11 +21,11 @@ module _ (s : State) (base password bits : ℕ) (same : (right : Right) → has_
   slot-drawn t = λ i. arrow (thread_name t) (object_name base) ((rights-letters bits ∙ ap letters_by (fun_ext same)) i) (same R i)
 
   pub entry-drawn : (list : ℕ) → (base == 0) ≡ false → entry_bits list base bits ≡ entry_arrow s list (base, password)
-  entry-drawn list some =
-      (λ i. arrow (object_name list) (object_name base) ((rights-letters bits ∙ ap letters_by (fun_ext same)) i)
-      ((sym (any-right bits) ∙ ap (λ (has : Right → Bool). list_any (λ (l : ℕ × Right). has l.1) letters) (fun_ext same)) i))
-      ∙ sym (ap (λ v. if v then [] else arrow (object_name list) (object_name base) (letters_by (holds_now s base password))
-      (list_any (λ (l : ℕ × Right). holds_now s base password l.1) letters)) some)
+  entry-drawn list some = grind (arith, rights-letters, fun_ext, any-right)
+
+-- the arrow of an empty place
+pub entry-none : (s : State) (base password list : ℕ) → base ≡ 0 → [] ≡ entry_arrow s list (base, password)
+entry-none s base password list none = grind (arith, eq-eqb)
 
 -- the slots of the present frame
 pub slots-last : (frames : List CallFrame) (last : CallFrame) (slots : List Slot) → slice_get frames (length frames - 1) ≡ Some last → slots ≡ last.slots → slots ≡ last_slots frames
@@ -45,8 +36,7 @@ named-given : (period : ℕ) (row : ObjectRow) (slots : List Slot)
     → given (holds period) (named_by slots) row R
     ≡ list_any (λ (slot : Slot). slot.base == row.base && holds period row slot.password R) slots
 named-given period row [] = refl
-named-given period row (slot ∷ slots) =
-    ap (λ v. (slot.base == row.base && holds period row slot.password R) || v) (named-given period row slots)
+named-given period row (slot ∷ slots) = grind (arith, (named-given period row slots))
 
 pub all-given : (period : ℕ) (row : ObjectRow) (threads : List (ℕ × ThreadRow))
     → given (holds period) (flat_map (λ (t : ℕ × ThreadRow). named_by (last_slots t.1.frames)) threads) row R
@@ -66,31 +56,15 @@ entry_by has list entry =
     (list_any (λ (l : ℕ × Right). has entry.0 entry.1 l.1) letters)
 
 -- the entries of a list, one more
-pub entries-more : (shown : Shown) (list : ℕ) (slots : List Slot) (i : ℕ) (d : Slot) → i < length slots
-    → entries_drawn shown list (named_by (take i slots))
-    ++ entry_arrow (bare shown) list ((get_or slots i d).base, (get_or slots i d).password)
-    ≡ entries_drawn shown list (named_by (take (i + 1) slots))
-entries-more shown list slots i d below =
+pub entries-more : (shown : Shown) (list : ℕ) (slots : List Slot) (i : ℕ) (d : Slot) (text : List ℕ) → i < length slots
+    → text ≡ entry_arrow (bare shown) list ((get_or slots i d).base, (get_or slots i d).password)
+    → entries_drawn shown list (named_by (take i slots)) ++ text ≡ entries_drawn shown list (named_by (take (i + 1) slots))
+entries-more shown list slots i d text below is =
     let arrow = entry_arrow (bare shown) list in
     let slot : Slot → ℕ × ℕ = λ (slot : Slot). (slot.base, slot.password) in
-    ap (λ (t : List ℕ). t ++ arrow (slot (get_or slots i d))) (flat_map-map arrow slot (take i slots))
+    (λ k. flat_map-map arrow slot (take i slots) k ++ is k)
     ∙ flat_more (λ (s : Slot). arrow (slot s)) slots i d below
     ∙ sym (flat_map-map arrow slot (take (i + 1) slots))
-
--- the lists, one more, whose arrows are put if it is left
-module _ (shown : Shown) (r : Image) (n : ℕ) (bytes ranks : List ℕ) (i : ℕ) where
-  abbrev arrows : ℕ → ObjectRow → List ℕ
-  arrows i row = if is_within (slice_index ranks i) n && has_right (slice_index bytes i) R
-      then entries_drawn shown row.base (listed shown r row) else []
-
-  pub list-next : (row : ObjectRow) (v : Bool) → i < length shown.objects → HoldsAt (λ (o : ℕ × ObjectRow). row ≡ o.1) shown.objects i
-      → v ≡ (is_within (slice_index ranks i) n && has_right (slice_index bytes i) R)
-      → lists_ranked shown r n bytes ranks (take i shown.objects) ++ (if v then entries_drawn shown row.base (listed shown r row) else [])
-      ≡ lists_ranked shown r n bytes ranks (take (i + 1) shown.objects)
-  list-next row v below is test =
-      ap (λ v. lists_ranked shown r n bytes ranks (take i shown.objects)
-      ++ (if v then entries_drawn shown row.base (listed shown r row) else [])) test
-      ∙ places-more arrows shown.objects i below row is
 
 -- two tests
 if-both : (v w : Bool) (text : List ℕ) → (if v then (if w then text else []) else []) ≡ (if v && w then text else [])
@@ -101,14 +75,20 @@ module _ (shown : Shown) (r : Image) (drawn : List (ℕ × ThreadRow)) (bytes ra
   abbrev s : State
   s = state_shown shown r
 
+  -- the nodes of objects, the arrows of threads and those of lists
+  abbrev nodes_of : (ℕ → Bool) → List ℕ
+  nodes_of nodes = flat_map (λ (object : Object). node_if (nodes object.row.base) (is_list s object.row) object.row) s.objects
+
+  abbrev slots_of : List Thread → List ℕ
+  slots_of threads = flat_map (λ (thread : Thread). flat_map (slot_arrow s thread.number) (last_slots thread.row.frames)) threads
+
+  abbrev arrows_of : (ℕ → Bool) → List ℕ
+  arrows_of lists = flat_map (λ (object : Object). if lists object.row.base then list_arrows s object else []) s.objects
+
   -- some threads, objects and lists of a graph
   abbrev graph : List Thread → (ℕ → Bool) → (ℕ → Bool) → List ℕ
   graph threads nodes lists =
-      graph_head
-      ++ flat_map (λ (thread : Thread). thread_node thread.number) threads
-      ++ flat_map (λ (object : Object). node_if (nodes object.row.base) (is_list s object.row) object.row) s.objects
-      ++ flat_map (λ (thread : Thread). flat_map (slot_arrow s thread.number) (last_slots thread.row.frames)) threads
-      ++ flat_map (λ (object : Object). if lists object.row.base then list_arrows s object else []) s.objects
+      graph_head ++ flat_map (λ (thread : Thread). thread_node thread.number) threads ++ nodes_of nodes ++ slots_of threads ++ arrows_of lists
       ++ codes "}" ++ 10 ∷ []
 
   told : (n : ℕ) (nodes lists : ℕ → Bool)
@@ -119,16 +99,12 @@ module _ (shown : Shown) (r : Image) (drawn : List (ℕ × ThreadRow)) (bytes ra
       → part_ranked shown r n bytes ranks drawn ≡ graph (map numbered drawn) nodes lists
   told n nodes lists shows leaves =
       (λ i. graph_head ++ threads-same i ++ nodes-same i ++ domains-same i ++ lists-same i ++ graph_end)
-      ∙ sym (append_assoc (graph_head ++ flat_map (λ (thread : Thread). thread_node thread.number) (map numbered drawn)
-      ++ flat_map (λ (object : Object). node_if (nodes object.row.base) (is_list s object.row) object.row) s.objects
-      ++ flat_map (λ (thread : Thread). flat_map (slot_arrow s thread.number) (last_slots thread.row.frames)) (map numbered drawn)
-      ++ flat_map (λ (object : Object). if lists object.row.base then list_arrows s object else []) s.objects) (codes "}") (10 ∷ []))
+      ∙ grind (arith, append_assoc)
     where
       threads-same : threads_drawn drawn ≡ flat_map (λ (thread : Thread). thread_node thread.number) (map numbered drawn)
       threads-same = sym (flat_map-map (λ (thread : Thread). thread_node thread.number) numbered drawn)
 
-      domains-same : domains_drawn shown drawn
-          ≡ flat_map (λ (thread : Thread). flat_map (slot_arrow s thread.number) (last_slots thread.row.frames)) (map numbered drawn)
+      domains-same : domains_drawn shown drawn ≡ slots_of (map numbered drawn)
       domains-same =
           sym (
           flat_map-map (λ (thread : Thread). flat_map (slot_arrow s thread.number) (last_slots thread.row.frames)) numbered drawn
@@ -137,8 +113,7 @@ module _ (shown : Shown) (r : Image) (drawn : List (ℕ × ThreadRow)) (bytes ra
           (last_slots t.1.frames)) drawn) (held-bare shown r)
           )
 
-      nodes-same : nodes_ranked n bytes ranks shown.objects
-          ≡ flat_map (λ (object : Object). node_if (nodes object.row.base) (is_list s object.row) object.row) s.objects
+      nodes-same : nodes_ranked n bytes ranks shown.objects ≡ nodes_of nodes
       nodes-same =
           places-same (λ i row. node_if (is_within (slice_index ranks i) (n + 1)) (has_right (slice_index bytes i) R) row)
           (λ row. node_if (nodes row.base) (is_list s row) row) shown.objects
@@ -146,8 +121,7 @@ module _ (shown : Shown) (r : Image) (drawn : List (ℕ × ThreadRow)) (bytes ra
           ∙ sym (flat_map-map (λ (object : Object). node_if (nodes object.row.base) (is_list s object.row) object.row)
           (object_in shown r) shown.objects)
 
-      lists-same : lists_ranked shown r n bytes ranks shown.objects
-          ≡ flat_map (λ (object : Object). if lists object.row.base then list_arrows s object else []) s.objects
+      lists-same : lists_ranked shown r n bytes ranks shown.objects ≡ arrows_of lists
       lists-same =
           places-same (λ i row. if is_within (slice_index ranks i) n && has_right (slice_index bytes i) R
           then entries_drawn shown row.base (listed shown r row) else [])
@@ -173,41 +147,25 @@ module _ (shown : Shown) (r : Image) (drawn : List (ℕ × ThreadRow)) (bytes ra
   pub part-told : (bases : List ℕ) (n : ℕ) → AreRanked shown r bases (n + 1) ranks
       → part_ranked shown r n bytes ranks drawn ≡ part_text s (map numbered drawn) bases n
   part-told bases n are =
-      let e : n + 1 ≡ suc n = omega arith in
       told n (is_among (reached s bases (suc n))) (is_among (reached s bases n))
-      (λ i below d. are.is i below d (n + 1) (omega arith)
-      ∙ ap (λ k. is_among (reached s bases k) (slice_index_or shown.objects i d).1.base) e)
-      (λ i below d. are.is i below d n (omega arith))
+      (λ i below d. grind (arith, are.is i below d (n + 1) (omega arith))) (λ i below d. are.is i below d n (omega arith))
 
 -- the part from a thread
 found-same : (number : ℕ) (threads : List (ℕ × ThreadRow))
     → find (λ (thread : Thread). thread.number == number) (map numbered threads)
     ≡ option_map numbered (find (λ (t : ℕ × ThreadRow). t.0 + 1 == number) threads)
 found-same number [] = refl
-found-same number (t ∷ threads) = by_test (t.0 + 1 == number) (found-same number threads)
-  where
-    by_test : (v : Bool) → find (λ (thread : Thread). thread.number == number) (map numbered threads)
-        ≡ option_map numbered (find (λ (t : ℕ × ThreadRow). t.0 + 1 == number) threads)
-        → (if v then Some (numbered t) else find (λ (thread : Thread). thread.number == number) (map numbered threads))
-        ≡ option_map numbered (if v then Some t else find (λ (t : ℕ × ThreadRow). t.0 + 1 == number) threads)
-    by_test true rest = refl
-    by_test false rest = rest
+found-same number (t ∷ threads) = grind (arith, (found-same number threads))
+
+-- what holds of all threads holds of the one that is found
+pub found-all : {A : Type 0} (P : A → Type 0) (test : A → Bool) (xs : List A) (x : A) → All P xs → Some x ≡ find test xs → P x
+found-all P test [] x all is = absurd (cc)
+found-all P test (y ∷ xs) x all is = grind (arith, All-head P y xs all, found-all P test xs x (All-tail P y xs all))
 
 pub thread-told : (shown : Shown) (r : Image) (number steps : ℕ) (found : Option (ℕ × ThreadRow))
     → found ≡ find (λ (t : ℕ × ThreadRow). t.0 + 1 == number) shown.threads.items
     → part_text (state_shown shown r) (map numbered (option_map_or (λ (t : ℕ × ThreadRow). t ∷ []) found []))
     (bases_of (option_map_or (λ (t : ℕ × ThreadRow). last_slots t.1.frames) found [])) (steps - 1)
     ≡ thread_part (state_shown shown r) number steps
-thread-told shown r number steps found is =
-    by found
-    ∙ ap (λ (thread : Option Thread). part_text (state_shown shown r) (option_map_or (λ (thread : Thread). thread ∷ []) thread [])
-    (bases_of (option_map_or (λ (thread : Thread). last_slots thread.row.frames) thread [])) (steps - 1))
-    (ap (option_map numbered) is ∙ sym (found-same number shown.threads.items))
-  where
-    by : (found : Option (ℕ × ThreadRow))
-        → part_text (state_shown shown r) (map numbered (option_map_or (λ (t : ℕ × ThreadRow). t ∷ []) found []))
-        (bases_of (option_map_or (λ (t : ℕ × ThreadRow). last_slots t.1.frames) found [])) (steps - 1)
-        ≡ part_text (state_shown shown r) (option_map_or (λ (thread : Thread). thread ∷ []) (option_map numbered found) [])
-        (bases_of (option_map_or (λ (thread : Thread). last_slots thread.row.frames) (option_map numbered found) [])) (steps - 1)
-    by None = refl
-    by (Some t) = refl
+thread-told shown r number steps None is = grind (arith, found-same number shown.threads.items)
+thread-told shown r number steps (Some t) is = grind (arith, found-same number shown.threads.items)

@@ -2,8 +2,8 @@
 use Rattle.mg_show.proofs.Names.{◌≡◌, ℕ, Bool, List, [], ◌++◌, Option, ap, refl, subst, ◌∙◌, Image, Fits, Slot, ObjectRow, Finds, Learns, Marks}
 use Rattle.mg_show.proofs.Names.{named_by, Shown, Held, reads_none}
 use Rattle.mg_check.specs.ReadRuns.{same_contents, still_read}
-use Rattle.mg_check.specs.Reads.{OnlyRead}
 use Rattle.mg_disk.specs.declared.disk.Disk as disks
+use Rattle.mg_disk.specs.Stops.{OnlyRead}
 use Rattle.mg_show.specs.Shown.{CanShow}
 use Rattle.mg_show.specs.WritingLemmas.{reads_kept, reads_then}
 use Rattle.mg_show.proofs.Marked.{marks_none, marks_then}

@@ -1,12 +1,39 @@
 -- The list in the first page of an object, and the object that has a base.
-use Rattle.mg_show.proofs.Names.{◌≡◌, ℕ, zero, suc, ◌+◌, ◌*◌, ◌≤◌, ◌==◌, Bool, true, false, List, [], ◌∷◌, ◌++◌, find, if◌then◌else◌, length, map, Option}
+use Rattle.mg_show.proofs.Names.{◌≡◌, ℕ, zero, suc, ◌+◌, ◌*◌, ◌≤◌, ◌==◌, false, List, [], ◌∷◌, ◌++◌, find, if◌then◌else◌, length, map, Option}
 use Rattle.mg_show.proofs.Names.{None, Some, slice_index, option_map, option_map_or, refl, sym, ap, ◌∙◌, arith, Image, Right, R, Slot, entries_from}
 use Rattle.mg_show.proofs.Names.{entries_of, entries_under, holds, Object, ObjectRow, object_spelled, page_words, pages_words, holds_now, listed, object_in}
 use Rattle.mg_show.proofs.Names.{state_shown, Shown}
-use Rattle.std.specs.Prelude.{min}
+use Rattle.mg_show.proofs.Names.{◌<◌, get_or, block_words, number_at, numbers_at}
 use Rattle.std.proofs.Math.ListN.{get_or-append}
 use Rattle.mg_model.specs.Access.{based_at}
 use Rattle.mg_show.proofs.WordTexts.{length-page_words}
+
+-- Entries, one by one
+
+number-of : (bytes : List ℕ) (from n i : ℕ) → i < n → get_or (numbers_at bytes from n) i 0 ≡ number_at bytes (from + 8 * i)
+number-of bytes from zero i below = absurd (omega arith)
+number-of bytes from (suc n) zero below = let e : from ≡ from + 8 * 0 = omega arith in ap (number_at bytes) e
+number-of bytes from (suc n) (suc i) below = let e : from + 8 + 8 * i ≡ from + 8 * suc i = omega arith in number-of bytes (from + 8) n i (omega arith) ∙ ap (number_at bytes) e
+
+pub word-of : (block : List ℕ) (i at : ℕ) → i < 512 → at ≡ 8 * i → slice_index (block_words block) i ≡ number_at block at
+word-of block i at below is = let e : 0 + 8 * i ≡ at = omega arith in number-of block 0 512 i below ∙ ap (number_at block) e
+
+-- one entry more
+pub entries-more : (words : List ℕ) (j n : ℕ) → entries_from words j (n + 1) ≡ entries_from words j n ++ (slice_index words (2 + 2 * (j + n)), slice_index words (3 + 2 * (j + n))) ∷ []
+entries-more words j zero = grind arith
+entries-more words j (suc n) = grind (arith, entries-more words (j + 1) n)
+
+entry-more : (words : List ℕ) (k base password : ℕ) → base ≡ slice_index words (2 + 2 * k) → password ≡ slice_index words (3 + 2 * k)
+    → entries_from words 0 k ++ (base, password) ∷ [] ≡ entries_from words 0 (k + 1)
+entry-more words k base password b p = grind (arith, entries-more words 0 k)
+
+pub block-entries-more : (block : List ℕ) (k at base password : ℕ) → k < 255 → at ≡ 16 * k → base ≡ number_at block (at + 16) → password ≡ number_at block (at + 24)
+    → entries_from (block_words block) 0 k ++ (base, password) ∷ [] ≡ entries_from (block_words block) 0 (k + 1)
+block-entries-more block k at base password below at_is b p =
+    entry-more (block_words block) k base password (b ∙ sym (word-of block (2 + 2 * k) (at + 16) (omega arith) (omega arith)))
+    (p ∙ sym (word-of block (3 + 2 * k) (at + 24) (omega arith) (omega arith)))
+
+-- The list in the first page
 
 entries_before : (a b : List ℕ) (j n : ℕ) → length a ≡ 512 → j + n ≤ 255 → entries_from (a ++ b) j n ≡ entries_from a j n
 entries_before a b j zero long few = refl
@@ -17,12 +44,7 @@ entries_before a b j (suc n) long few = λ i.
 pub list_first : (image : Image) (frames : ℕ) (table : List ℕ) (page n : ℕ) → 1 ≤ n
     → entries_of (page_words image frames table page) ≡ entries_of (pages_words image frames table page n)
 list_first image frames table page zero some = absurd (omega arith)
-list_first image frames table page (suc n) some =
-    let a = page_words image frames table page in
-    let b = pages_words image frames table (page + 1) n in
-    let long = length-page_words image frames table page in
-    sym (ap (λ v. entries_from (a ++ b) 0 (min v 255)) (get_or-append a b 0 0 (omega arith))
-    ∙ entries_before a b 0 (min (slice_index a 0) 255) long (omega arith))
+list_first image frames table page (suc n) some = grind (arith, length-page_words, get_or-append, entries_before)
 
 or-map : {A B C : Type 0} (f : A → B) (g : B → C) (d : C) (found : Option A)
     → option_map_or (λ x. g (f x)) found d ≡ option_map_or g (option_map f found) d
@@ -39,34 +61,18 @@ module _ (shown : Shown) (r : Image) (base : ℕ) where
 
   based : (objects : List (ℕ × ObjectRow)) → based_at (map (object_in shown r) objects) base ≡ option_map made (row_at objects)
   based [] = refl
-  based (o ∷ objects) = by_test (o.1.base == base) (based objects)
-    where
-      by_test : (v : Bool) → based_at (map (object_in shown r) objects) base ≡ option_map made (row_at objects)
-          → (if v then Some (made o.1) else based_at (map (object_in shown r) objects) base)
-          ≡ option_map made (option_map (λ (o : ℕ × ObjectRow). o.1)
-          (if v then Some o else find (λ (o : ℕ × ObjectRow). o.1.base == base) objects))
-      by_test true rest = refl
-      by_test false rest = rest
+  based (o ∷ objects) = grind (arith, (based objects))
 
   -- what a slot opens, and whether the object holds a password
   pub opened : (slot : Slot) (found : Option ObjectRow) → slot.base ≡ base → found ≡ row_at shown.objects
       → option_map_or (λ (row : ObjectRow). if holds shown.counters.period row slot.password R then listed shown r row else []) found []
       ≡ entries_under (state_shown shown r).objects shown.counters.period slot
-  opened slot found same is =
-      let given = λ (object : Object). if holds shown.counters.period object.row slot.password R then entries_of object.words else [] in
-      or-map made given [] found
-      ∙ ap (λ found. option_map_or given (option_map made found) []) is
-      ∙ sym (ap (λ found. option_map_or given found []) (based shown.objects))
-      ∙ ap (λ b. option_map_or given (based_at (state_shown shown r).objects b) []) (sym same)
+  opened slot found same is = grind (arith, or-map, based)
 
   pub held : (password : ℕ) (right : Right) (found : Option ObjectRow) → found ≡ row_at shown.objects
       → option_map_or (λ (row : ObjectRow). holds shown.counters.period row password right) found false
       ≡ holds_now (state_shown shown r) base password right
-  held password right found is =
-      let has = λ (object : Object). holds shown.counters.period object.row password right in
-      or-map made has false found
-      ∙ ap (λ found. option_map_or has (option_map made found) false) is
-      ∙ sym (ap (λ found. option_map_or has found false) (based shown.objects))
+  held password right found is = grind (arith, or-map, based)
 
 -- the rights on an object do not depend on the words
 pub held-bare : (shown : Shown) (r : Image) → holds_now (state_shown shown r) ≡ holds_now (state_shown shown [])

@@ -1,7 +1,6 @@
 -- The names that most proofs of this crate cite, passed on from one place.
 pub use Rattle.arrayvec.specs.ArrayVec.{array_vec_len}
 pub use Rattle.mg_bank.specs.Bank.{pages_at}
-pub use Rattle.mg_check.specs.Reads.{contents}
 pub use Rattle.mg_check.specs.RowsRead.{state_in}
 pub use Rattle.mg_check.specs.declared.volume_rows.VolumeRows.{VolumeRows}
 pub use Rattle.mg_disk.specs.Disk.{Image}
@@ -43,13 +42,12 @@ pub use Rattle.std.proofs.Common.{length-append, map, refl, slice_index, subst, 
 pub use Rattle.std.proofs.Common.{◌≤◌}
 pub use Rattle.std.proofs.Math.Bool.{or-false, or_assoc}
 pub use Rattle.std.proofs.Math.Path.{fun_ext}
-pub use Rattle.std.proofs.lemmas.Bool.{and_parts, cases_Bool, cases_lt, eq-eqb, eqb-true, le-leb, leb-true, ne_eqb}
-pub use Rattle.std.proofs.lemmas.List.{get_or_default, map-append, map_more, take_all}
+pub use Rattle.std.proofs.lemmas.Bool.{and_parts, cases_Bool, cases_lt, eq-eqb, le-leb, leb-true, ne_eqb}
+pub use Rattle.std.proofs.lemmas.List.{map-append, map_more, take_all}
 pub use Rattle.std.proofs.lemmas.List.Elements.{All-cons, All-nil}
 pub use Rattle.std.proofs.lemmas.List.Folds.{flat_map-map, list_any-append}
 pub use Rattle.std.proofs.lemmas.Simd.{map-map}
-pub use Rattle.std.specs.Fmt.{decimal}
 pub use Rattle.std.specs.Io.KnownBytes.{Appends}
 pub use Rattle.std.specs.List.{AllPairs, AllWithin, HoldsAt, list_any}
 pub use Rattle.std.specs.Option.{ForSome, option_map, option_map_or}
-pub use Rattle.std.specs.Prelude.{All, Bool, Option, false, filter, find, nat_le, nat_lt, slice_index_or, sum_by, true, zero, ◌%◌, ◌&&◌, ◌==◌, ◌≢◌, ◌⊎◌}
+pub use Rattle.std.specs.Prelude.{All, Bool, Option, false, filter, find, nat_le, slice_index_or, sum_by, true, zero, ◌%◌, ◌&&◌, ◌==◌, ◌≢◌, ◌⊎◌}

@@ -1,13 +1,19 @@
 -- What is defined by the judgement of each access is what the walk over lists gives.
-use Rattle.mg_show.proofs.Names.{◌≡◌, ℕ, zero, suc, ◌+◌, ◌*◌, ◌<◌, ◌≤◌, ◌==◌, ◌&&◌, nat_le, nat_lt, Bool, true, false, All, List, [], ◌∷◌, ◌++◌, filter, find}
-use Rattle.mg_show.proofs.Names.{flat_map, if◌then◌else◌, length, map, Some, AllPairs, list_any, option_map_or, refl, sym, ap, ◌∙◌, arith, get_or, fun_ext}
-use Rattle.mg_show.proofs.Names.{and_parts, eq-eqb, le-leb, leb-true, ne_eqb, flat_map-map, Image, Right, P, capabilities, holds, last_slots, page_behind}
-use Rattle.mg_show.proofs.Names.{page_of, IsObjectRow, Object, ObjectRow, Thread, ThreadRow, AreApart, given, enter_line, row_reach, thread_reached}
-use Rattle.mg_show.proofs.Names.{letters_by, reach_line, numbered, object_in, state_shown, Shown}
-use Rattle.std.proofs.lemmas.Bool.{and_from, lt-ltb, ltb-true}
+use Rattle.mg_show.proofs.Names.{slice_index, slice_index_or}
+use Rattle.mg_show.proofs.Names.{ap, Slot}
+use Rattle.mg_show.proofs.Names.{capabilities, has_right, Marks, bits_line, marked_reach, row_reach}
+use Rattle.mg_show.proofs.Names.{letters_by, reach_line}
+use Rattle.mg_show.proofs.ByPlaces.{places-same}
+use Rattle.mg_show.proofs.Letters.{none-has, rights-letters}
+use Rattle.mg_show.proofs.Names.{◌≡◌, ℕ, zero, suc, ◌+◌, ◌*◌, ◌<◌, ◌≤◌, ◌==◌, Bool, true, false, All, List, [], ◌∷◌, ◌++◌, filter, find}
+use Rattle.mg_show.proofs.Names.{flat_map, if◌then◌else◌, length, map, Some, AllPairs, option_map_or, refl, sym, ◌∙◌, arith, get_or, fun_ext}
+use Rattle.mg_show.proofs.Names.{eq-eqb, flat_map-map, Image, Right, holds, last_slots}
+use Rattle.mg_show.proofs.Names.{IsObjectRow, ObjectRow, Thread, ThreadRow, AreApart, given, thread_reached}
+use Rattle.mg_show.proofs.Names.{numbered, object_in, state_shown, Shown}
+use Rattle.std.proofs.lemmas.Bool.Decides.{nat_tests}
 use Rattle.mg_model.specs.Access.{allowed, at, covers, domain_of}
 use Rattle.mg_show.specs.Reached.{reached_by}
-use Rattle.mg_show.specs.ReachText.{enter_lines, reach_text, rights_now, thread_reach}
+use Rattle.mg_show.specs.ReachText.{reach_text, thread_reach}
 
 -- the same at each element
 pub flat_map_same : {X Y : Type 0} (f g : X → List Y) (xs : List X) → ((i : ℕ) → i < length xs → (d : X) → f (get_or xs i d) ≡ g (get_or xs i d)) → flat_map f xs ≡ flat_map g xs
@@ -20,14 +26,7 @@ passed_alike : {X Y : Type 0} (f : X → List Y) (test : X → Bool) (v : Bool) 
     → flat_map f (filter test xs) ≡ (if v then flat_map f xs else [])
 passed_alike f test true [] same = refl
 passed_alike f test false [] same = refl
-passed_alike f test v (x ∷ xs) same =
-    ap (λ b. flat_map f (if b then x ∷ filter test xs else filter test xs)) (same 0 (omega arith) x)
-    ∙ by v (passed_alike f test v xs (λ i below d. same (suc i) (omega arith) d))
-  where
-    by : (v : Bool) → flat_map f (filter test xs) ≡ (if v then flat_map f xs else [])
-        → flat_map f (if v then x ∷ filter test xs else filter test xs) ≡ (if v then f x ++ flat_map f xs else [])
-    by true rest = ap (λ t. f x ++ t) rest
-    by false rest = rest
+passed_alike f test v (x ∷ xs) same = grind (arith, same 0 (omega arith) x, (passed_alike f test v xs (λ i below d. same (suc i) (omega arith) d)))
 
 module _ (shown : Shown) (r : Image) where
   -- an address of an object is that of no other
@@ -35,25 +34,10 @@ module _ (shown : Shown) (r : Image) where
       → i < length os → (d : ℕ × ObjectRow)
       → covers (get_or os i d).1 address ≡ true → at (map (object_in shown r) os) address ≡ Some (object_in shown r (get_or os i d))
   at_own address [] rows apart i below d inside = absurd (omega arith)
-  at_own address (o ∷ os) rows apart zero below d inside =
-      ap (λ v. if v then Some (object_in shown r o) else at (map (object_in shown r) os) address) inside
+  at_own address (o ∷ os) rows apart zero below d inside = grind arith
   at_own address (o ∷ os) rows apart (suc i) below d inside =
-      by_cover (covers o.1 address) refl
-      (at_own address os (λ k d under. rows (suc k) d (omega arith))
-      (λ k l d before under. apart (suc k) (suc l) d (omega arith) (omega arith)) i (omega arith) d inside)
-    where
-      by_cover : (v : Bool) → covers o.1 address ≡ v → at (map (object_in shown r) os) address ≡ Some (object_in shown r (get_or os i d))
-          → (if v then Some (object_in shown r o) else at (map (object_in shown r) os) address) ≡ Some (object_in shown r (get_or os i d))
-      by_cover true is rest =
-          let x = (get_or os i d).1 in
-          let mine = and_parts (nat_le o.1.base address) (nat_lt address (o.1.base + 4096 * o.1.pages)) is in
-          let other = and_parts (nat_le x.base address) (nat_lt address (x.base + 4096 * x.pages)) inside in
-          let high = ltb-true address (o.1.base + 4096 * o.1.pages) mine.1 in
-          let low = leb-true x.base address other.0 in
-          let near : page_behind o.1 ≤ page_of x = apart 0 (suc i) d (omega arith) (omega arith) in
-          let aligned = (rows 0 d (omega arith)).place.aligned in
-          absurd (omega arith)
-      by_cover false is rest = rest
+      let rest = at_own address os (λ k d under. rows (suc k) d (omega arith)) (λ k l d before under. apart (suc k) (suc l) d (omega arith) (omega arith)) i (omega arith) d inside in
+      grind (arith, nat_tests, rest, inside, (rows 0 d (omega arith)).place.aligned, apart 0 (suc i) d (omega arith) (omega arith))
 
   -- the thread with its number, where places rise
   domain_own : (threads : List (ℕ × ThreadRow)) → AllPairs (λ (x y : ℕ × ThreadRow). x.0 < y.0) threads → (i : ℕ) → i < length threads
@@ -62,17 +46,10 @@ module _ (shown : Shown) (r : Image) where
       (find (λ (thread : Thread). thread.number == (get_or threads i d).0 + 1) (map numbered threads)) []
       ≡ last_slots (get_or threads i d).1.frames
   domain_own [] rise i below d = absurd (omega arith)
-  domain_own (t ∷ threads) rise zero below d =
-      ap (λ v. option_map_or (λ (thread : Thread). last_slots thread.row.frames)
-      (if v then Some (numbered t) else find (λ (thread : Thread). thread.number == t.0 + 1) (map numbered threads)) [])
-      (eq-eqb (t.0 + 1) (t.0 + 1) refl)
+  domain_own (t ∷ threads) rise zero below d = grind (arith, eq-eqb)
   domain_own (t ∷ threads) rise (suc i) below d =
-      let x = get_or threads i d in
-      let l : t.0 < x.0 = rise 0 (suc i) d (omega arith) (omega arith) in
-      ap (λ v. option_map_or (λ (thread : Thread). last_slots thread.row.frames)
-      (if v then Some (numbered t) else find (λ (thread : Thread). thread.number == x.0 + 1) (map numbered threads)) [])
-      (ne_eqb (t.0 + 1) (x.0 + 1) (λ e. absurd (omega arith)))
-      ∙ domain_own threads (λ k j d before under. rise (suc k) (suc j) d (omega arith) (omega arith)) i (omega arith) d
+      let rest = domain_own threads (λ k j d before under. rise (suc k) (suc j) d (omega arith) (omega arith)) i (omega arith) d in
+      grind (arith, nat_tests, rest, rise 0 (suc i) d (omega arith) (omega arith))
 
   module _ (ranges : All (λ (o : ℕ × ObjectRow). IsObjectRow o.1) shown.objects) (apart : AreApart shown.objects) (thread : ℕ × ThreadRow)
       (domain : domain_of (state_shown shown r) (thread.0 + 1) ≡ last_slots thread.1.frames) where
@@ -84,35 +61,10 @@ module _ (shown : Shown) (r : Image) where
         → (get_or shown.objects i d).1.base ≤ address
         → address < (get_or shown.objects i d).1.base + 4096 * (get_or shown.objects i d).1.pages
         → allowed (state_shown shown r) (thread.0 + 1) address right ≡ has (get_or shown.objects i d).1 right
-    allowed_own i below d address right above under =
-        let row = (get_or shown.objects i d).1 in
-        let inside = and_from (nat_le row.base address) (nat_lt address (row.base + 4096 * row.pages)) (le-leb row.base address above)
-        (lt-ltb address (row.base + 4096 * row.pages) under) in
-        λ k. option_map_or
-        (λ (object : Object). list_any (λ (entry : ℕ × ℕ). entry.0 == object.row.base
-        && holds shown.counters.period object.row entry.1 right)
-        (capabilities (state_shown shown r).objects shown.counters.period (domain k)))
-        (at_own address shown.objects ranges apart i below d inside k) false
+    allowed_own i below d address right above under = grind (arith, nat_tests, domain, above, under, at_own address shown.objects ranges apart i below d)
 
     reach_own : thread_reach (state_shown shown r) (thread.0 + 1) ≡ thread_reached shown r thread
-    reach_own =
-        let s = state_shown shown r in
-        let t = thread.0 + 1 in
-        let text =
-        λ (object : Object). reach_line t object.row.base (rights_now s t object.row.base) ++ enter_lines s t object.row.entries in
-        flat_map-map text (object_in shown r) shown.objects
-        ∙ flat_map_same (λ (o : ℕ × ObjectRow). text (object_in shown r o)) (λ (o : ℕ × ObjectRow). row_reach t (has o.1) o.1) shown.objects
-        (λ i below d.
-        let row = (get_or shown.objects i d).1 in
-        let kept = ranges i d below in
-        let some = kept.place.some in
-        let rights : (λ (right : Right). allowed s t row.base right) ≡ has row =
-        fun_ext (λ right. allowed_own i below d row.base right (omega arith) (omega arith)) in
-        let doors =
-        passed_alike (enter_line t) (λ address. allowed s t address P) (has row P) row.entries
-        (λ k within e. let inside = kept.entries k e within in allowed_own i below d (get_or row.entries k e) P inside.above inside.below)
-        in
-        λ k. reach_line t row.base (letters_by (rights k)) ++ doors k)
+    reach_own = grind (arith, flat_map-map, flat_map_same, fun_ext, allowed_own, passed_alike)
 
   pub reach_same : All (λ (o : ℕ × ObjectRow). IsObjectRow o.1) shown.objects → AreApart shown.objects
       → AllPairs (λ (x y : ℕ × ThreadRow). x.0 < y.0) shown.threads.items
@@ -125,3 +77,23 @@ module _ (shown : Shown) (r : Image) where
       ∙ flat_map_same (λ (t : ℕ × ThreadRow). text (numbered t)) (thread_reached shown r) shown.threads.items
       (λ i below d. reach_own ranges apart (get_or shown.threads.items i d) (domain_own shown.threads.items rise i below d))
       )
+
+-- the line of bits is that of the rights that they have
+pub bits-line : (t base bits : ℕ) → bits_line t base bits ≡ reach_line t base (letters_by (has_right bits))
+bits-line t base bits = grind (arith, nat_tests, rights-letters)
+
+-- what a thread reaches by bytes that have the rights of its lists
+pub thread-reached : (shown : Shown) (r : Image) (thread : ℕ × ThreadRow) (slots : List Slot) (zeros bytes : List ℕ)
+    → slots ≡ last_slots thread.1.frames → ((i : ℕ) → slice_index zeros i ≡ 0)
+    → Marks has_right (holds shown.counters.period) shown.objects
+    (capabilities (state_shown shown r).objects shown.counters.period slots) zeros bytes
+    → marked_reach (thread.0 + 1) bytes shown.objects ≡ thread_reached shown r thread
+thread-reached shown r thread slots zeros bytes are none marks =
+    let caps = λ (slots : List Slot). capabilities (state_shown shown r).objects shown.counters.period slots in
+    places-same (λ i row. row_reach (thread.0 + 1) (has_right (slice_index bytes i)) row)
+    (λ row. row_reach (thread.0 + 1) (given (holds shown.counters.period) (caps (last_slots thread.1.frames)) row) row) shown.objects
+    (λ i below d.
+    let row = (slice_index_or shown.objects i d).1 in
+    let same : has_right (slice_index bytes i) ≡ given (holds shown.counters.period) (caps (last_slots thread.1.frames)) row =
+    fun_ext (λ right. grind (arith, marks.are i below d right, none i, none-has 0 refl right, are)) in
+    ap (λ (has : Right → Bool). row_reach (thread.0 + 1) has row) same)

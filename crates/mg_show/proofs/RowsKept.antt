@@ -1,23 +1,48 @@
 -- What rows keep that were read of a volume, and the parts of the state that they spell.
-use Rattle.mg_show.proofs.Names.{◌≡◌, ℕ, ◌+◌, ◌&&◌, ◌==◌, nat_le, true, List, [], ◌∷◌, length, map, sum_by, list_any, refl, sym, ap, ◌∙◌, arith, and_parts}
-use Rattle.mg_show.proofs.Names.{eqb-true, leb-true, All-cons, All-nil, state_in, VolumeRows, AccRow, page_behind, page_of, Object, ObjectRow, object_spelled}
+use Rattle.mg_show.proofs.Names.{None, Option, Some}
+use Rattle.mg_show.proofs.Names.{cases_Bool, Object}
+use Rattle.mg_check.specs.RowsRead as rows
+use Rattle.mg_model.specs.Objects.{with_object}
+use Rattle.mg_model.specs.Volume.{objects_spelled}
+use Rattle.mg_objects.specs.Held.{by_base, into_place, live_from}
+use Rattle.mg_show.proofs.Names.{◌≡◌, ℕ, ◌+◌, nat_le, true, List, [], ◌∷◌, map, sum_by, refl, sym, ap, ◌∙◌, arith, and_parts}
+use Rattle.mg_show.proofs.Names.{leb-true, All-cons, All-nil, state_in, VolumeRows, AccRow, page_behind, page_of, ObjectRow, object_spelled}
 use Rattle.mg_show.proofs.Names.{AreApart, objects_in}
-use Rattle.std.specs.List.{list_all}
 use Rattle.std.proofs.lemmas.List.Elements.{All-weaker}
+use Rattle.std.proofs.lemmas.Bool.Decides.{nat_tests}
 use Rattle.std.proofs.lemmas.List.Kept.{AllPairs-cons}
-use Rattle.mg_check.specs.RowsRead.{AreKept, placed_from, rows_in}
+use Rattle.mg_check.specs.RowsRead.{AreKept, placed_from}
 use Rattle.mg_model.specs.KeptListLemmas.{AllPairs-head, AllPairs-nil}
-use Rattle.mg_model.specs.Limits.{debt_limit}
 use Rattle.mg_model.specs.Tests.{all_distinct}
-use Rattle.mg_model.specs.Volume.{accounts_fit, are_apart, bound_pages, has_no_gap, is_page_of, objects_fit, threads_fit}
-use Rattle.mg_model.specs.Bank.{used}
+use Rattle.mg_model.specs.Volume.{accounts_fit, are_apart, bound_pages}
 use Rattle.mg_objects.specs.Held.{IsBefore}
-use Rattle.mg_show.proofs.ObjectsInOrder.{objects-in-order}
 
 -- accounts without their places
 pub accounts-placed : (i : ℕ) (rows : List AccRow) → map (λ (r : ℕ × AccRow). r.1) (placed_from i rows) ≡ rows
 accounts-placed i [] = refl
 accounts-placed i (row ∷ rows) = ap (λ rest. row ∷ rest) (accounts-placed (i + 1) rows)
+
+-- the rows that are there, in either words
+pub live-same : {R : Type 0} (i : ℕ) (items : List (Option R)) → rows.live_from i items ≡ live_from i items
+live-same i [] = refl
+live-same i (None ∷ items) = live-same (i + 1) items
+live-same i (Some row ∷ items) = ap (λ rest. (i, row) ∷ rest) (live-same (i + 1) items)
+
+module _ (image : List (List ℕ)) (frames : ℕ) (table : List ℕ) where
+  abbrev spelled : ℕ × ObjectRow → Object
+  spelled o = object_spelled image frames table o.1
+
+  inserted : (new : ℕ × ObjectRow) (os : List (ℕ × ObjectRow)) → with_object (spelled new) (map spelled os) ≡ map spelled (into_place new os)
+  inserted new [] = refl
+  inserted new (o ∷ os) = grind (arith, (inserted new os), cases_Bool)
+
+  ordered : (os : List (ℕ × ObjectRow)) → objects_spelled image frames table os ≡ map spelled (by_base os)
+  ordered [] = refl
+  ordered (o ∷ os) = ap (with_object (spelled o)) (ordered os) ∙ inserted o (by_base os)
+
+  -- the objects that the rows of a volume spell are those of its table
+  pub objects-in-order : (items : List (Option ObjectRow)) → objects_spelled image frames table (rows.live_from 0 items) ≡ map (λ (o : ℕ × ObjectRow). object_spelled image frames table o.1) (objects_in items)
+  objects-in-order items = ap (objects_spelled image frames table) (live-same 0 items) ∙ ordered (live_from 0 items)
 
 -- of objects in their order each lies apart from those behind it
 apart-pairs : (image : List (List ℕ)) (frames : ℕ) (table : List ℕ) (os : List (ℕ × ObjectRow)) → are_apart (map (λ (o : ℕ × ObjectRow). object_spelled image frames table o.1) os) ≡ true → AreApart os
@@ -37,25 +62,11 @@ module _ (rows : VolumeRows) (kept : AreKept rows) where
     pub distinct : all_distinct (bound_pages rows.table.items) ≡ true
 
   fit : AreFit
-  fit =
-      let held = rows_in rows in
-      let state = state_in rows [] in
-      let g = has_no_gap 0 held.accounts in
-      let a = accounts_fit state.settings.credits state.counters.period state.accounts in
-      let o = objects_fit state.settings.frames (length state.accounts) state.objects in
-      let t = threads_fit state.counters.births state.threads in
-      let i = list_all (λ page. list_any (λ object. is_page_of page object) state.objects) (bound_pages held.table) in
-      let d = all_distinct (bound_pages held.table) in
-      let paid = list_all (λ (object : Object). nat_le object.row.account (length state.accounts)) state.objects in
-      let few = nat_le (used state.objects) state.settings.frames in
-      let first = and_parts (g && a && o && t) (i && d) (kept.fit []) in
-      let second = and_parts (g && a && o) t first.0 in
-      let third = and_parts (g && a) o second.0 in
-      record {
-        accounts = (and_parts g a third.0).1;
-        objects = (and_parts (are_apart state.objects) paid (and_parts (are_apart state.objects && paid) few third.1).0).0;
-        distinct = (and_parts i d first.1).1;
-      }
+  fit = record {
+    accounts = grind (arith, kept.fit [], and_parts);
+    objects = grind (arith, kept.fit [], and_parts);
+    distinct = grind (arith, kept.fit [], and_parts);
+  }
 
   -- no page stands twice in the frame table, and no two objects share one
   pub distinct_kept : all_distinct (bound_pages rows.table.items) ≡ true
@@ -68,12 +79,4 @@ module _ (rows : VolumeRows) (kept : AreKept rows) where
 
   -- the accounts have the credits of the volume together
   pub credits_kept : sum_by (λ (row : AccRow). row.balance) rows.accounts.items ≡ rows.params.credits
-  credits_kept =
-      let accounts = rows.accounts.items in
-      let credits = rows.params.credits in
-      let period = rows.globals.period in
-      let some = nat_le 1 (length accounts) in
-      let sum = sum_by (λ (row : AccRow). row.balance) accounts == credits in
-      let fit = ap (accounts_fit credits period) (sym (accounts-placed 0 accounts)) ∙ fit.accounts in
-      eqb-true (sum_by (λ (row : AccRow). row.balance) accounts) credits
-      (and_parts some sum (and_parts (some && sum) (list_all (λ (row : AccRow). nat_le row.owed (debt_limit period)) accounts) fit).0).1
+  credits_kept = grind (arith, nat_tests, ap (accounts_fit rows.params.credits rows.globals.period) (sym (accounts-placed 0 rows.accounts.items)) ∙ fit.accounts, and_parts)

@@ -1,4 +1,5 @@
 -- From the text that was put of the contents, and what waited of it, to what is kept of the volume whose rows were read.
+use Rattle.std.proofs.Common.{arith}
 use Rattle.mg_show.proofs.Names.{ℕ, ◌≡◌, List, [], ◌++◌, None, Option, Some, refl, sym, ap, inl, inr, subst, append-nil, ⊎_elim, ◌∙◌, Appends, ForSome}
 use Rattle.mg_show.proofs.Names.{state_in, VolumeRows, Image, AppendsPrefix, text_of, Held, Puts, PutsOf}
 use Rattle.mg_check.specs.ReadRuns.{only_none}
@@ -10,7 +11,6 @@ use Rattle.mg_model.specs.Layout.{total_blocks}
 use Rattle.mg_model.specs.Replay.{replay}
 use Rattle.mg_model.specs.State.{State}
 use Rattle.mg_model.specs.Volume.{Is, volume}
-use Rattle.mg_model.specs.Words.{and_then}
 use Rattle.mg_serve.specs.declared.status.Status.TheVariants as status
 use Rattle.mg_show.specs.Putting.{ShowsRows, status_of}
 use Rattle.mg_show.specs.Writing.{Adds, Writes}
@@ -54,8 +54,7 @@ module _ {D K : Type 0} (facts : disks.Ghosts D) (to : sinks.Ghosts K) (asked : 
 
       -- what was put is the text of the state
       told_is : (image : Image) → facts.seen d ≡ Some image → (read : IsReadAs rows image) → puts.told ≡ text_of asked (state_in rows read.replayed)
-      told_is image seen read =
-          puts.is read.replayed (ap (λ o. and_then o (λ image. replay image total)) seen ∙ ap (replay image) is ∙ read.replay_is) ∙ same read.replayed
+      told_is image seen read = grind arith
 
       prefix : ForSome (facts.seen d) (λ image. (x : State) × (volume image ≡ Is x) × AppendsPrefix (to.taken s) (to.taken s'') (text_of asked x))
       prefix image seen =

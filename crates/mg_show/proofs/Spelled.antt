@@ -1,5 +1,5 @@
 -- What the words of a command line ask for, by their number.
-use Rattle.mg_show.proofs.Names.{ℕ, ◌<◌, ◌≤◌, ◌≡◌, List, [], ◌∷◌, length, get_or, None, Some, refl, ap, ◌∙◌, arith}
+use Rattle.mg_show.proofs.Names.{◌⊎◌, ⊎_elim, ℕ, ◌<◌, ◌≤◌, ◌≡◌, List, [], ◌∷◌, length, get_or, None, Some, refl, arith}
 use Rattle.std.specs.Prelude.{String}
 use Rattle.std.specs.String.{string_bytes}
 use Rattle.std.specs.declared.alloc.Global.{Global}
@@ -12,22 +12,15 @@ one_word [] some few = absurd (omega arith)
 one_word (a ∷ []) some few = refl
 one_word (a ∷ b ∷ words) some few = absurd (omega arith)
 
-pub three_or_four : (words : List (String Global)) → 3 ≤ length words → length words < 5 → None ≡ spelled (arguments words)
-three_or_four [] some few = absurd (omega arith)
-three_or_four (a ∷ []) some few = absurd (omega arith)
-three_or_four (a ∷ b ∷ []) some few = absurd (omega arith)
-three_or_four (a ∷ b ∷ c ∷ []) some few = refl
-three_or_four (a ∷ b ∷ c ∷ d ∷ []) some few = refl
-three_or_four (a ∷ b ∷ c ∷ d ∷ e ∷ words) some few = absurd (omega arith)
-
-pub six_or_more : (words : List (String Global)) → 6 ≤ length words → None ≡ spelled (arguments words)
-six_or_more [] many = absurd (omega arith)
-six_or_more (a ∷ []) many = absurd (omega arith)
-six_or_more (a ∷ b ∷ []) many = absurd (omega arith)
-six_or_more (a ∷ b ∷ c ∷ []) many = absurd (omega arith)
-six_or_more (a ∷ b ∷ c ∷ d ∷ []) many = absurd (omega arith)
-six_or_more (a ∷ b ∷ c ∷ d ∷ e ∷ []) many = absurd (omega arith)
-six_or_more (a ∷ b ∷ c ∷ d ∷ e ∷ f ∷ words) many = refl
+-- more than two words, and not five
+pub none_asked : (words : List (String Global)) → 3 ≤ length words → (length words < 5) ⊎ (6 ≤ length words) → None ≡ spelled (arguments words)
+none_asked [] some few = absurd (omega arith)
+none_asked (a ∷ []) some few = absurd (omega arith)
+none_asked (a ∷ b ∷ []) some few = absurd (omega arith)
+none_asked (a ∷ b ∷ c ∷ []) some few = refl
+none_asked (a ∷ b ∷ c ∷ d ∷ []) some few = refl
+none_asked (a ∷ b ∷ c ∷ d ∷ e ∷ []) some few = absurd (⊎_elim (λ less. omega arith) (λ more. omega arith) few)
+none_asked (a ∷ b ∷ c ∷ d ∷ e ∷ f ∷ words) some few = refl
 
 -- five words, each read by its place
 pub five_words : (words : List (String Global)) (word start number steps : String Global) (w s n k : List ℕ) → 5 ≤ length words → length words < 6
@@ -39,9 +32,5 @@ five_words (a ∷ []) word start number steps w s n k some few p q r t wb sb nb 
 five_words (a ∷ b ∷ []) word start number steps w s n k some few p q r t wb sb nb kb = absurd (omega arith)
 five_words (a ∷ b ∷ c ∷ []) word start number steps w s n k some few p q r t wb sb nb kb = absurd (omega arith)
 five_words (a ∷ b ∷ c ∷ d ∷ []) word start number steps w s n k some few p q r t wb sb nb kb = absurd (omega arith)
-five_words (a ∷ b ∷ c ∷ d ∷ e ∷ []) word start number steps w s n k some few p q r t wb sb nb kb =
-    ap (λ v. part_named v s n k) (wb ∙ ap (λ v. string_bytes v) p)
-    ∙ ap (λ v. part_named (string_bytes b) v n k) (sb ∙ ap (λ v. string_bytes v) q)
-    ∙ ap (λ v. part_named (string_bytes b) (string_bytes c) v k) (nb ∙ ap (λ v. string_bytes v) r)
-    ∙ ap (λ v. part_named (string_bytes b) (string_bytes c) (string_bytes d) v) (kb ∙ ap (λ v. string_bytes v) t)
+five_words (a ∷ b ∷ c ∷ d ∷ e ∷ []) word start number steps w s n k some few p q r t wb sb nb kb = grind arith
 five_words (a ∷ b ∷ c ∷ d ∷ e ∷ f ∷ words) word start number steps w s n k some few p q r t wb sb nb kb = absurd (omega arith)

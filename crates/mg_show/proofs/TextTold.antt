@@ -1,12 +1,19 @@
 -- The state of a volume that is held is the one that its rows spell, and its text.
-use Rattle.mg_show.proofs.Names.{◌≡◌, ℕ, ◌++◌, flat_map, length, map, ap, sym, ◌∙◌, fun_ext, flat_map-map, map-map, pages_at, state_in, VolumeRows, Image}
-use Rattle.mg_show.proofs.Names.{Object, ObjectRow, ThreadRow, object_spelled, objects_in, numbered, object_in, state_shown, accounts_text, object_text}
-use Rattle.mg_show.proofs.Names.{pages_paid, thread_text, words_text, rows_text, Shown}
+use Rattle.mg_show.proofs.Names.{◌==◌, true, false, filter, sum_by, ◌+◌, ◌<◌, List, [], ◌∷◌, get_or, take, ap, refl}
+use Rattle.mg_show.proofs.Names.{append_assoc, append-nil, AccRow, pages_paid}
+use Rattle.std.specs.Prelude.{Bool, if◌then◌else◌}
+use Rattle.std.proofs.lemmas.List.{length-take-le, take_more}
+use Rattle.std.proofs.lemmas.List.Sums.{sum_by-cons}
+use Rattle.mg_space.specs.Space.{paid_by}
+use Rattle.mg_show.specs.StateText.{account_text}
+use Rattle.std.proofs.Common.{arith}
+use Rattle.mg_show.proofs.Names.{◌≡◌, ℕ, ◌++◌, flat_map, length, map, sym, ◌∙◌, fun_ext, flat_map-map, map-map, pages_at, state_in, VolumeRows, Image}
+use Rattle.mg_show.proofs.Names.{ObjectRow, ThreadRow, objects_in, numbered, state_shown, accounts_text, object_text}
+use Rattle.mg_show.proofs.Names.{thread_text, rows_text, Shown}
 use Rattle.mg_space.specs.Space.{ArePaid}
 use Rattle.mg_show.specs.StateText.{counters_text, settings_text, state_text}
 use Rattle.mg_show.specs.WordText.{row_text}
-use Rattle.mg_show.proofs.ObjectsInOrder.{objects-in-order}
-use Rattle.mg_show.proofs.Paying.{paid-rows}
+use Rattle.mg_show.proofs.RowsKept.{objects-in-order}
 use Rattle.mg_show.proofs.RowsKept.{accounts-placed}
 
 pub state-told : (rows : VolumeRows) (r : Image) (shown : Shown) → shown.params ≡ rows.params → shown.counters ≡ rows.globals
@@ -23,10 +30,35 @@ state-told rows r shown params counters threads objects accounts frames entries 
 }
   where
     objects-same : (state_shown shown r).objects ≡ (state_in rows r).objects
-    objects-same =
-        (λ i. map (λ (o : ℕ × ObjectRow). object_spelled r (length (frames i)) (frames i) o.1) (objects i))
-        ∙ ap (λ n. map (λ (o : ℕ × ObjectRow). object_spelled r n rows.table.items o.1) (objects_in rows.objects.items)) entries
-        ∙ sym (objects-in-order r rows.params.frames rows.table.items rows.objects.items)
+    objects-same = grind (arith, objects-in-order)
+
+accounts-append : (paid : ℕ → ℕ) (n m : ℕ) (xs ys : List AccRow) → m ≡ n + length xs → accounts_text paid n (xs ++ ys) ≡ accounts_text paid n xs ++ accounts_text paid m ys
+accounts-append paid n m [] ys e = ap (λ k. accounts_text paid k ys) (omega arith)
+accounts-append paid n m (x ∷ xs) ys e = grind (arith, (accounts-append paid (n + 1) m xs ys (omega arith)), append_assoc)
+
+-- account m, the one at place i, more
+pub accounts-next : (paid : ℕ → ℕ) (m : ℕ) (xs : List AccRow) (i : ℕ) (d : AccRow) (rows : List AccRow) (pages : ℕ) → m ≡ i + 1 → i < length xs
+    → rows ≡ xs → pages ≡ paid m → accounts_text paid 1 (take i xs) ++ account_text m (get_or rows i d) pages ≡ accounts_text paid 1 (take (i + 1) xs)
+accounts-next paid m xs i d rows pages e h same paying =
+    let long = length-take-le i xs (omega arith) in
+    grind (arith, append-nil, take_more xs i d h, accounts-append paid 1 m (take i xs) (get_or xs i d ∷ []) (omega arith))
+
+-- the pages of objects with their places are those of the objects
+pub paid-rows : (n : ℕ) (objects : List (ℕ × ObjectRow)) → paid_by n objects ≡ pages_paid (map (λ (o : ℕ × ObjectRow). o.1) objects) n
+paid-rows n [] = refl
+paid-rows n (o ∷ objects) =
+    by (o.1.account == n) (filter (λ (o : ℕ × ObjectRow). o.1.account == n) objects)
+    (filter (λ (row : ObjectRow). row.account == n) (map (λ (o : ℕ × ObjectRow). o.1) objects)) (paid-rows n objects)
+  where
+    by : (v : Bool) (os : List (ℕ × ObjectRow)) (rows : List ObjectRow)
+        → sum_by (λ (o : ℕ × ObjectRow). o.1.pages) os ≡ sum_by (λ (row : ObjectRow). row.pages) rows
+        → sum_by (λ (o : ℕ × ObjectRow). o.1.pages) (if v then o ∷ os else os)
+        ≡ sum_by (λ (row : ObjectRow). row.pages) (if v then o.1 ∷ rows else rows)
+    by true os rows rest =
+        let a = sum_by-cons (λ (o : ℕ × ObjectRow). o.1.pages) o os in
+        let b = sum_by-cons (λ (row : ObjectRow). row.pages) o.1 rows in
+        omega arith
+    by false os rows rest = rest
 
 -- the text of the state, table by table
 pub text-told : (shown : Shown) (r : Image) → ArePaid shown.bank.pages shown.objects
@@ -38,15 +70,4 @@ pub text-told : (shown : Shown) (r : Image) → ArePaid shown.bank.pages shown.o
     ++ rows_text r (length shown.frames) shown.frames shown.objects
     ≡ state_text (state_shown shown r)
 unfolding row_text
-text-told shown r paid =
-    let payers = fun_ext (λ n. paid n ∙ paid-rows n shown.objects) in
-    let bare = map-map (λ (object : Object). object.row) (object_in shown r) shown.objects in
-    let objects = flat_map-map (λ (object : Object). object_text object.row) (object_in shown r) shown.objects in
-    let words = flat_map-map (λ (object : Object). words_text object.row.base object.words) (object_in shown r) shown.objects in
-    λ i.
-    settings_text shown.params
-    ++ counters_text shown.counters
-    ++ accounts_text ((payers ∙ ap pages_paid (sym bare)) i) 1 shown.bank.accounts
-    ++ sym objects i
-    ++ sym (flat_map-map thread_text numbered shown.threads.items) i
-    ++ sym words i
+text-told shown r paid = grind (arith, fun_ext, paid-rows, map-map, flat_map-map)

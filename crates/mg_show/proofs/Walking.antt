@@ -7,7 +7,7 @@ use Rattle.mg_show.proofs.Names.{listed, object_in, state_shown, AreOpened, AreR
 use Rattle.std.proofs.Math.Bool.{and-false, and-or_distrib_right, and-true}
 use Rattle.std.proofs.lemmas.Bool.{lt-leb}
 use Rattle.std.proofs.lemmas.Bool.Decides.{nat_tests}
-use Rattle.mg_show.proofs.ByPlaces.{places-more}
+use Rattle.mg_show.proofs.ByPlaces.{places-next}
 use Rattle.mg_show.proofs.Marked.{marks_then}
 
 -- Tests
@@ -24,33 +24,13 @@ bases_in entries = map (λ (entry : ℕ × ℕ). entry.0) entries
 
 bases-append : (p q : List (ℕ × ℕ)) (base : ℕ)
     → is_among (bases_in (p ++ q)) base ≡ (is_among (bases_in p) base || is_among (bases_in q) base)
-bases-append p q base =
-    ap (λ bs. is_among bs base) (map-append (λ (entry : ℕ × ℕ). entry.0) p q)
-    ∙ list_any-append (λ (b : ℕ). b == base) (bases_in p) (bases_in q)
+bases-append p q base = grind (arith, map-append, list_any-append)
 
 -- the list of an object that is reached in two ways
 one-list : (a b c l v : Bool) (entries : List (ℕ × ℕ)) (base : ℕ) → a ≡ (b || c) → v ≡ l
     → is_among (if a && l then bases_in entries else []) base
     ≡ (is_among (if b && l then bases_in entries else []) base || is_among (bases_in (if c && v then entries else [])) base)
-one-list a b c l v entries base e same =
-    ap (λ a. is_among (if a && l then bases_in entries else []) base) e
-    ∙ by b c l
-    ∙ ap (λ l'. is_among (if b && l then bases_in entries else []) base
-    || is_among (bases_in (if c && l' then entries else [])) base) (sym same)
-  where
-    twice : (x : Bool) → x ≡ (x || x)
-    twice true = refl
-    twice false = refl
-
-    by : (b c l : Bool) → is_among (if (b || c) && l then bases_in entries else []) base
-        ≡ (is_among (if b && l then bases_in entries else []) base || is_among (bases_in (if c && l then entries else [])) base)
-    by true true true = twice (is_among (bases_in entries) base)
-    by true false true = sym (or-false (is_among (bases_in entries) base))
-    by true true false = refl
-    by true false false = refl
-    by false true true = refl
-    by false true false = refl
-    by false false l = refl
+one-list a b c l v entries base e same = grind (arith, or-false)
 
 -- Ranks
 
@@ -66,22 +46,14 @@ same-rank (suc m) a b some same = let x = same m (omega arith) in let y = same (
 any-rank : (rank n : ℕ) (caps : List (ℕ × ℕ)) (row : ObjectRow)
     → given (gives_rank rank) caps row n ≡ (is_among (bases_in caps) row.base && nat_le rank n)
 any-rank rank n [] row = refl
-any-rank rank n (c ∷ caps) row =
-    ap (λ v. (c.0 == row.base && nat_le rank n) || v) (any-rank rank n caps row)
-    ∙ sym (and-or_distrib_right (c.0 == row.base) (is_among (bases_in caps) row.base) (nat_le rank n))
+any-rank rank n (c ∷ caps) row = grind (arith, (any-rank rank n caps row), and-or_distrib_right)
 
 -- a rank leaves the lower ones alone
 lower : (rank : ℕ) (objects : List (ℕ × ObjectRow)) (caps : List (ℕ × ℕ)) (a b : List ℕ)
     → Marks is_within (gives_rank rank) objects caps a b
     → (i : ℕ) → i < length objects → (d : ℕ × ObjectRow) → (n : ℕ) → n < rank
     → is_within (slice_index b i) n ≡ is_within (slice_index a i) n
-lower rank objects caps a b marks i below d n low =
-    let row = (slice_index_or objects i d).1 in
-    marks.are i below d n
-    ∙ ap (λ v. is_within (slice_index a i) n || v)
-    (any-rank rank n caps row ∙ ap (λ v. is_among (bases_in caps) row.base && v) (lt-leb rank n low)
-    ∙ and-false (is_among (bases_in caps) row.base))
-    ∙ or-false (is_within (slice_index a i) n)
+lower rank objects caps a b marks i below d n low = grind (arith, marks.are i below d n, any-rank, lt-leb, and-false, or-false)
 
 module _ (shown : Shown) (r : Image) (bases : List ℕ) where
   abbrev far : ℕ → List ℕ
@@ -97,14 +69,7 @@ module _ (shown : Shown) (r : Image) (bases : List ℕ) where
       → AreRanked shown r bases (m + 1) ranks'
   step m caps ranks ranks' old new grows = record {
     is = λ i below d k low.
-        let base = (slice_index_or shown.objects i d).1.base in
-        ⊎_elim
-        (λ (more : m < k).
-        let e : m + 1 ≡ k = omega arith in
-        late i below d k (omega arith)
-        ∙ ap (λ v. v || is_among (bases_in caps) base) (old.is i below d m (omega arith))
-        ∙ grows base
-        ∙ ap (λ n. is_among (far n) base) e)
+        ⊎_elim (λ (more : m < k). let e : m + 1 ≡ k = omega arith in grind (arith, late i below d k (omega arith), old.is i below d m (omega arith), grows))
         (λ le. lower (m + 1) shown.objects caps ranks ranks' new i below d k (omega arith) ∙ old.is i below d k le)
         (cases_lt m k);
     few = λ i below k high. late i below none k high ∙ sym (late i below none (m + 1) (omega arith));
@@ -113,13 +78,7 @@ module _ (shown : Shown) (r : Image) (bases : List ℕ) where
       late : (i : ℕ) → i < length shown.objects → (d : ℕ × ObjectRow) → (k : ℕ) → m + 1 ≤ k
           → is_within (slice_index ranks' i) k
           ≡ (is_within (slice_index ranks i) m || is_among (bases_in caps) (slice_index_or shown.objects i d).1.base)
-      late i below d k high =
-          let row = (slice_index_or shown.objects i d).1 in
-          new.are i below d k
-          ∙ ap (λ v. v || given (gives_rank (m + 1)) caps row k) (old.few i below k (omega arith))
-          ∙ ap (λ v. is_within (slice_index ranks i) m || v)
-          (any-rank (m + 1) k caps row ∙ ap (λ v. is_among (bases_in caps) row.base && v) (le-leb (m + 1) k high)
-          ∙ and-true (is_among (bases_in caps) row.base))
+      late i below d k high = grind (arith, new.are i below d k, old.few i below k (omega arith), any-rank, le-leb, and-true)
 
   -- the start
   pub ranked-first : (slots : List Slot) (zeros ranks : List ℕ) → bases ≡ bases_of slots
@@ -128,17 +87,11 @@ module _ (shown : Shown) (r : Image) (bases : List ℕ) where
   ranked-first slots zeros ranks are none marks =
       step 0 (named_by slots) zeros ranks
       (record {
-        is = λ i below d k low.
-            let base = (slice_index_or shown.objects i d).1.base in
-            let e : 0 ≡ k = omega arith in
-            subst (λ n. is_within (slice_index zeros i) n ≡ is_among (far n) base) e (ap (λ n. is_within n 0) (none i below));
-        few = λ i below k high. ap (λ n. is_within n k) (none i below) ∙ sym (ap (λ n. is_within n 0) (none i below));
+        is = λ i below d k low. let e : k ≡ 0 = omega arith in grind (arith, none i below, ap (λ k. is_among (far k) (slice_index_or shown.objects i d).1.base) e);
+        few = λ i below k high. grind (arith, none i below);
       })
       marks
-      (λ base.
-      ap (λ bs. is_among bs base) (map-map (λ (entry : ℕ × ℕ). entry.0) (λ (slot : Slot). (slot.base, slot.password)) slots ∙ sym are
-      ∙ sym (append-nil bases))
-      ∙ ap (λ (rest : List ℕ). is_among (bases ++ rest) base) (sym (unread (state_shown shown r).objects)))
+      (λ base. let rest = unread (state_shown shown r).objects in grind (arith, map-map, append-nil, are, rest))
     where
       unread : (objects : List Object)
           → flat_map (λ (object : Object). if is_among [] object.row.base && is_list (state_shown shown r) object.row
@@ -157,43 +110,19 @@ module _ (shown : Shown) (r : Image) (bases : List ℕ) where
     last i row = if slice_index ranks i == suc m && has_right (slice_index bytes i) R then listed shown r row else []
 
     halves : (j : ℕ) (objects : List (ℕ × ObjectRow))
-        → ((i : ℕ) → i < length objects → (d : ℕ × ObjectRow) → let b = (slice_index_or objects i d).1.base in
-        is_among (far (suc m)) b ≡ (is_among (far m) b || (slice_index ranks (j + i) == suc m)))
-        → ((i : ℕ) → i < length objects → (d : ℕ × ObjectRow)
-        → has_right (slice_index bytes (j + i)) R ≡ is_list (state_shown shown r) (slice_index_or objects i d).1)
+        → ((i k : ℕ) → i < length objects → k ≡ j + i → (d : ℕ × ObjectRow) → let b = (slice_index_or objects i d).1.base in
+        is_among (far (suc m)) b ≡ (is_among (far m) b || (slice_index ranks k == suc m)))
+        → ((i k : ℕ) → i < length objects → k ≡ j + i → (d : ℕ × ObjectRow)
+        → has_right (slice_index bytes k) R ≡ is_list (state_shown shown r) (slice_index_or objects i d).1)
         → is_among (named (far (suc m)) objects) base
         ≡ (is_among (named (far m) objects) base || is_among (bases_in (by_place last j objects)) base)
     halves j [] within opens = refl
     halves j (o ∷ objects) within opens =
-        let b = o.1.base in
-        let e : j + 0 ≡ j = omega arith in
-        let entries = listed shown r o.1 in
-        let l = is_list (state_shown shown r) o.1 in
-        let test = λ (b : ℕ). b == base in
-        let here =
-        one-list (is_among (far (suc m)) b) (is_among (far m) b) (slice_index ranks j == suc m) l
-        (has_right (slice_index bytes j) R) entries base
-        (subst (λ n. is_among (far (suc m)) b ≡ (is_among (far m) b || (slice_index ranks n == suc m))) e (within 0 (omega arith) o))
-        (subst (λ n. has_right (slice_index bytes n) R ≡ l) e (opens 0 (omega arith) o))
-        in
         let rest =
-        halves (j + 1) objects
-        (λ i below d.
-        let e : j + suc i ≡ j + 1 + i = omega arith in
-        subst (λ n. let b = (slice_index_or objects i d).1.base in is_among (far (suc m)) b
-        ≡ (is_among (far m) b || (slice_index ranks n == suc m))) e (within (suc i) (omega arith) d))
-        (λ i below d.
-        let e : j + suc i ≡ j + 1 + i = omega arith in
-        subst (λ n. has_right (slice_index bytes n) R ≡ is_list (state_shown shown r) (slice_index_or objects i d).1) e
-        (opens (suc i) (omega arith) d))
+        halves (j + 1) objects (λ i k below e d. within (suc i) k (omega arith) (omega arith) d)
+        (λ i k below e d. opens (suc i) k (omega arith) (omega arith) d)
         in
-        let a = if is_among (far (suc m)) b && l then bases_in entries else [] in
-        let c = if is_among (far m) b && l then bases_in entries else [] in
-        list_any-append test a (named (far (suc m)) objects)
-        ∙ (λ k. here k || rest k)
-        ∙ crossed (is_among c base) (is_among (bases_in (last j o.1)) base) (is_among (named (far m) objects) base)
-        (is_among (bases_in (by_place last (j + 1) objects)) base)
-        ∙ sym (λ k. list_any-append test c (named (far m) objects) k || bases-append (last j o.1) (by_place last (j + 1) objects) base k)
+        grind (arith, list_any-append, bases-append, one-list, crossed, rest, within 0 j (omega arith) (omega arith) o, opens 0 j (omega arith) (omega arith) o)
 
   pub ranked-more : (bytes : List ℕ) (m : ℕ) (ranks ranks' : List ℕ) → 1 ≤ m → AreOpened shown bytes → AreRanked shown r bases m ranks
       → Marks is_within (gives_rank (m + 1)) shown.objects (listed_at shown r bytes ranks m shown.objects) ranks ranks'
@@ -202,41 +131,27 @@ module _ (shown : Shown) (r : Image) (bases : List ℕ) where
   ranked-more bytes (suc m) ranks ranks' some opens old new =
       step (suc m) (listed_at shown r bytes ranks (suc m) shown.objects) ranks ranks' old new
       (λ base.
-      let test = λ (b : ℕ). b == base in
-      let last = is_among (bases_in (listed_at shown r bytes ranks (suc m) shown.objects)) base in
-      let before = named bytes ranks m base (far m) shown.objects in
-      let e : suc (suc m) ≡ suc m + 1 = omega arith in
-      ap (λ v. v || last) (list_any-append test bases before)
-      ∙ or_assoc (is_among bases base) (is_among before base) last
-      ∙ ap (λ v. is_among bases base || v)
-      (sym (halves bytes ranks m base 0 shown.objects
-      (λ i below d.
-      let b = (slice_index_or shown.objects i d).1.base in
-      let z : i ≡ 0 + i = omega arith in
-      sym (old.is i below d (suc m) (omega arith)) ∙ exact m (slice_index ranks i)
-      ∙ (λ k. old.is i below d m (omega arith) k || (slice_index ranks (z k) == suc m)))
-      (λ i below d. let z : 0 + i ≡ i = omega arith in ap (λ n. has_right (slice_index bytes n) R) z ∙ opens i below d)))
-      ∙ sym (list_any-append test bases (named bytes ranks m base (far (suc m)) shown.objects))
-      ∙ ap (λ n. is_among (far n) base) e)
+      let more =
+      halves bytes ranks m base 0 shown.objects
+      (λ i k below e d. grind (arith, old.is i below d (suc m) (omega arith), old.is i below d m (omega arith), exact m (slice_index ranks i)))
+      (λ i k below e d. grind (arith, opens i below d))
+      in
+      grind (arith, list_any-append, or_assoc, more))
 
 -- one object more, whose list is read if its rank was the last
-module _ (shown : Shown) (r : Image) (bytes first : List ℕ) (m i : ℕ) where
-  abbrev next : ℕ → ObjectRow → List (ℕ × ℕ)
-  next i row = if slice_index first i == m && has_right (slice_index bytes i) R then listed shown r row else []
-
-  pub listed-next : (row : ObjectRow) (v : Bool) (ranks new : List ℕ) → 1 ≤ m → i < length shown.objects
-      → HoldsAt (λ (o : ℕ × ObjectRow). row ≡ o.1) shown.objects i
-      → v ≡ (slice_index ranks i == m && has_right (slice_index bytes i) R)
-      → Marks is_within (gives_rank (m + 1)) shown.objects (listed_at shown r bytes first m (take i shown.objects)) first ranks
-      → Marks is_within (gives_rank (m + 1)) shown.objects (if v then listed shown r row else []) ranks new
-      → Marks is_within (gives_rank (m + 1)) shown.objects (listed_at shown r bytes first m (take (i + 1) shown.objects)) first new
-  listed-next row v ranks new some below is test before after =
-      let caps = by_place next 0 (take i shown.objects) in
-      let kept =
-      same-rank m (slice_index ranks i) (slice_index first i) some
-      (λ n low. lower (m + 1) shown.objects caps first ranks before i below (0, row) n (omega arith))
-      in
-      subst (λ caps. Marks is_within (gives_rank (m + 1)) shown.objects caps first new)
-      (ap (λ v. caps ++ (if v then listed shown r row else [])) (test ∙ ap (λ v. v && has_right (slice_index bytes i) R) kept)
-      ∙ places-more next shown.objects i below row is)
-      (marks_then is_within (gives_rank (m + 1)) shown.objects caps (if v then listed shown r row else []) first ranks new before after)
+pub listed-next : (shown : Shown) (r : Image) (bytes first : List ℕ) (m i : ℕ) (row : ObjectRow) (v : Bool) (ranks new : List ℕ) → 1 ≤ m
+    → i < length shown.objects → HoldsAt (λ (o : ℕ × ObjectRow). row ≡ o.1) shown.objects i
+    → v ≡ (slice_index ranks i == m && has_right (slice_index bytes i) R)
+    → Marks is_within (gives_rank (m + 1)) shown.objects (listed_at shown r bytes first m (take i shown.objects)) first ranks
+    → Marks is_within (gives_rank (m + 1)) shown.objects (if v then listed shown r row else []) ranks new
+    → Marks is_within (gives_rank (m + 1)) shown.objects (listed_at shown r bytes first m (take (i + 1) shown.objects)) first new
+listed-next shown r bytes first m i row v ranks new some below is test before after =
+    let test_of = λ (i : ℕ). slice_index first i == m && has_right (slice_index bytes i) R in
+    let caps = listed_at shown r bytes first m (take i shown.objects) in
+    let kept =
+    same-rank m (slice_index ranks i) (slice_index first i) some
+    (λ n low. lower (m + 1) shown.objects caps first ranks before i below (0, row) n (omega arith))
+    in
+    subst (λ caps. Marks is_within (gives_rank (m + 1)) shown.objects caps first new)
+    (places-next (λ i row. listed shown r row) test_of shown.objects i below row is v (test ∙ ap (λ v. v && has_right (slice_index bytes i) R) kept))
+    (marks_then is_within (gives_rank (m + 1)) shown.objects caps (if v then listed shown r row else []) first ranks new before after)

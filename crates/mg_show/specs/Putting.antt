@@ -2,8 +2,7 @@
 use Rattle.std.specs.Prelude.{◌≡◌, ◌⊎◌, None, Option, Some}
 use Rattle.std.specs.Io.KnownBytes.{Appends}
 use Rattle.std.specs.Option.{ForSome}
-use Rattle.mg_check.specs.Reads.{OnlyRead}
-use Rattle.mg_disk.specs.Stops.{CountRose}
+use Rattle.mg_disk.specs.Stops.{CountRose, OnlyRead}
 use Rattle.mg_disk.specs.declared.disk.Disk as disks
 use Rattle.mg_faults.specs.Faults.{Rose}
 use Rattle.mg_io.specs.Known.{AppendsPrefix}

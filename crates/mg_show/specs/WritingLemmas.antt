@@ -1,14 +1,14 @@
 -- Lemmas on text that is put through a writer: one text behind another, a text behind reads, and the last of a list's texts.
-use Rattle.std.specs.Prelude.{◌⊎◌, IsTrue, false, is_some, Some, None}
+use Rattle.std.specs.Prelude.{◌⊎◌, IsTrue, is_some, Some, None}
 use Rattle.std.specs.List.{HoldsAt, flat_map}
 use Rattle.std.specs.Option.{ForSome, option_map_or}
 use Rattle.std.proofs.Common.{◌≡◌, ℕ, ◌+◌, ◌<◌, ◌≤◌, List, [], ◌++◌, Option, length, get_or, take, ap, sym, refl, inl, inr, ⊎_elim, ◌∙◌, append_assoc, append-nil, subst}
 use Rattle.std.proofs.lemmas.List.{flat_map_more, take_all, take_more}
 use Rattle.mg_check.specs.ReadRuns.{only_none, only_then, same_contents}
-use Rattle.mg_check.specs.Reads.{OnlyRead, contents}
+use Rattle.mg_check.specs.Reads.{contents}
 use Rattle.mg_disk.specs.declared.disk.Disk as disks
 use Rattle.mg_disk.specs.Disk.{Image}
-use Rattle.mg_disk.specs.Stops.{CountGoes, CountRose}
+use Rattle.mg_disk.specs.Stops.{CountGoes, CountRose, OnlyRead}
 use Rattle.mg_faults.specs.Faults.{count_none, count_then, rose_then, then_rose}
 use Rattle.mg_io.specs.Known.{Appends-none, Appends-then, AppendsPrefix, AppendsPrefix-longer, AppendsPrefix-none}
 use Rattle.mg_io.specs.declared.traits.Sink as sinks
@@ -52,10 +52,6 @@ by_fault (Some f) = inr refl
 pub not_both : (fault : Option ShowFault) → fault ≡ None → IsTrue (is_some fault) → ⊥
 not_both None e h = absurd (cc)
 not_both (Some f) e h = absurd (cc)
-
-pub none_is : (fault : Option ShowFault) → is_some fault ≡ false → fault ≡ None
-none_is None e = refl
-none_is (Some f) e = absurd (cc)
 
 some_is : (fault : Option ShowFault) (f : ShowFault) → fault ≡ Some f → IsTrue (is_some fault)
 some_is None f e = absurd (cc)

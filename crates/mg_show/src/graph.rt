@@ -6,8 +6,8 @@ ghost use Rattle.mg_model.specs.Limits.{thread_limit};
 ghost use Rattle.mg_model.specs.Rights.{has_right};
 ghost use Rattle.mg_model.specs.declared.rights.Right.TheVariants.{R};
 ghost use Rattle.mg_show.specs.DotFrom.{object_part, part_text, thread_part};
-ghost use Rattle.mg_show.specs.DotText.{dot_text, entry_arrow, slot_arrow};
-ghost use Rattle.mg_show.specs.Drawn.{bases_of, domains_drawn, entries_drawn, lists_ranked, node_if, nodes_ranked, part_ranked, threads_drawn};
+ghost use Rattle.mg_show.specs.DotText.{dot_text, slot_arrow};
+ghost use Rattle.mg_show.specs.Drawn.{bases_of, domains_drawn, entries_drawn, lists_ranked, nodes_ranked, part_ranked, threads_drawn};
 ghost use Rattle.mg_show.specs.Marking.{is_within, named_by};
 ghost use Rattle.mg_show.specs.Reached.{listed};
 ghost use Rattle.mg_show.specs.Shown.{CanShow, bare, held_in, numbered, state_shown};
@@ -190,17 +190,10 @@ fn put_nodes<K: Sink>(
     ensures { Puts K.Sink (nodes_ranked steps bytes.now ranks.now shown.now.objects) sink.old sink.new out.old out.new }
 {
     for i in 0..shown.count() {
-        let is_shown = is_within(ranks[i], steps + 1);
-        put_node(is_shown, has_r(bytes[i]), shown.row(i), out, sink);
-    }
-}
-
-// Writes the node of an object, if it is shown.
-fn put_node<K: Sink>(is_shown: bool, is_list: bool, row: &ObjRow, out: &mut Writer, sink: &mut K)
-    ensures { Puts K.Sink (node_if is_shown is_list row.now) sink.old sink.new out.old out.new }
-{
-    if is_shown {
-        out.line(print_object_node(row, is_list), sink);
+        let row = shown.row(i);
+        if is_within(ranks[i], steps + 1) {
+            out.line(print_object_node(row, has_r(bytes[i])), sink);
+        }
     }
 }
 
@@ -219,15 +212,9 @@ fn put_slots<K: Sink>(shown: &Shown, thread: u64, slots: &[Slot], out: &mut Writ
     ensures { Puts K.Sink (flat_map (slot_arrow (bare shown.now) thread) slots.now) sink.old sink.new out.old out.new }
 {
     for slot in slots {
-        put_slot(shown, thread, *slot, out, sink);
+        let bits = rights_on(shown, slot.base, slot.password);
+        out.line(print_slot_arrow(thread, slot.base, bits), sink);
     }
-}
-
-fn put_slot<K: Sink>(shown: &Shown, thread: u64, slot: Slot, out: &mut Writer, sink: &mut K)
-    ensures { Puts K.Sink (slot_arrow (bare shown.now) thread slot) sink.old sink.new out.old out.new }
-{
-    let bits = rights_on(shown, slot.base, slot.password);
-    out.line(print_slot_arrow(thread, slot.base, bits), sink);
 }
 
 /// Writes the arrows of the lists whose rank is from 1 to `steps`. A byte has R for a list. Each of them is read once.
@@ -247,58 +234,22 @@ fn put_lists<D: Disk, K: Sink>(
     ensures { PutsOf D.Disk K.Sink (held_in shown.now) (λ r. lists_ranked shown.now r steps bytes.now ranks.now shown.now.objects) disk.old disk.new sink.old sink.new out.old out.new }
 {
     for i in 0..shown.count() {
-        let is_left = is_within(ranks[i], steps) & has_r(bytes[i]);
-        put_left(is_left, shown, shown.row(i), disk, out, sink);
+        let row = shown.row(i);
+        if is_within(ranks[i], steps) & has_r(bytes[i]) {
+            let list = list_of(shown, row, disk, out);
+            put_entries(shown, row.base(), list.as_slice(), out, sink);
+        }
     }
 }
 
-// Writes the arrows of a list, if it is left.
-fn put_left<D: Disk, K: Sink>(
-    is_left: bool,
-    shown: &Shown,
-    row: &ObjRow,
-    disk: &mut D,
-    out: &mut Writer,
-    sink: &mut K,
-)
-    requires can { CanShow D.Disk shown.now disk.old }
-    ensures { PutsOf D.Disk K.Sink (held_in shown.now) (λ r. if is_left then entries_drawn shown.now row.now.base (listed shown.now r row.now) else []) disk.old disk.new sink.old sink.new out.old out.new }
-{
-    if is_left {
-        put_list(shown, row, disk, out, sink);
-    }
-}
-
-// The arrows of a list.
-fn put_list<D: Disk, K: Sink>(
-    shown: &Shown,
-    row: &ObjRow,
-    disk: &mut D,
-    out: &mut Writer,
-    sink: &mut K,
-)
-    requires can { CanShow D.Disk shown.now disk.old }
-    ensures { PutsOf D.Disk K.Sink (held_in shown.now) (λ r. entries_drawn shown.now row.now.base (listed shown.now r row.now)) disk.old disk.new sink.old sink.new out.old out.new }
-{
-    let list = list_of(shown, row, disk, out);
-    put_entries(shown, row.base(), list.as_slice(), out, sink);
-}
-
+// The arrows of entries. A place with base 0 is empty: no object lies there.
 fn put_entries<K: Sink>(shown: &Shown, list: u64, slots: &[Slot], out: &mut Writer, sink: &mut K)
     ensures { Puts K.Sink (entries_drawn shown.now list (named_by slots.now)) sink.old sink.new out.old out.new }
 {
     for slot in slots {
-        put_entry(shown, list, *slot, out, sink);
+        if slot.base != 0 {
+            let bits = rights_on(shown, slot.base, slot.password);
+            out.line(print_entry_arrow(list, slot.base, bits), sink);
+        }
     }
-}
-
-// The arrow of an entry. A place with base 0 is empty: no object lies there.
-fn put_entry<K: Sink>(shown: &Shown, list: u64, slot: Slot, out: &mut Writer, sink: &mut K)
-    ensures { Puts K.Sink (entry_arrow (bare shown.now) list (slot.base, slot.password)) sink.old sink.new out.old out.new }
-{
-    if slot.base == 0 {
-        return;
-    }
-    let bits = rights_on(shown, slot.base, slot.password);
-    out.line(print_entry_arrow(list, slot.base, bits), sink);
 }

@@ -50,6 +50,7 @@ impl Shown {
 }
 
 /// The volume that these rows spell. None if there is not enough memory.
+#[tactic(auto, using(crate::proofs::RowsKept::distinct_kept))]
 pub(crate) fn shown_of(alloc: Global, rows: VolumeRows, view: View) -> Option<Shown>
     requires kept { AreKept rows }
     requires total { view.total ≡ total_blocks rows.params.frames }

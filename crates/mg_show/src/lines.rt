@@ -3,7 +3,7 @@ ghost use Rattle.std.specs.Prelude.{◌≡◌, ◌+◌, ◌*◌, ◌/◌, ◌%�
 ghost use Rattle.std.specs.Fmt.{decimal};
 ghost use Rattle.arrayvec.specs.ArrayVec.{array_vec_len};
 ghost use Rattle.mg_model.specs.Print.{hex_digit, hex_digits, hex_text, spaced};
-ghost use Rattle.mg_show.specs.StateText.{account_text, counters_text, line, made_text, object_line, password_text, registers_text, rights_text, seed_text, step_text, thread_head, thread_state_text, until_text};
+ghost use Rattle.mg_show.specs.StateText.{account_text, counters_text, line, made_text, object_line, password_text, rights_text, seed_text, step_text, thread_head, thread_state_text, until_text};
 
 use arrayvec::ArrayVec;
 use mg_model::{AccRow, Fault, Globals, ObjRow, Params, Pw, Tariff, ThrRow, ThrState};
@@ -36,27 +36,17 @@ pub(crate) fn print_counters(counters: &Globals) -> Line
     out
 }
 
-/// A line with one address: its first word, of at most 16 bytes, and the address.
-pub(crate) fn print_word(head: &[u8], word: u64) -> Line
+/// A line with words in hexadecimal: its first word, of at most 16 bytes, and at most eight others.
+pub(crate) fn print_words(head: &[u8], words: &[u64]) -> Line
     requires short_head { length head.now ≤ 16 }
-    ensures { result.items ≡ line head.now (hex_text word ∷ []) }
+    requires few { length words.now ≤ 8 }
+    ensures { result.items ≡ line head.now (map hex_text words.now) }
 {
     let mut out = Line::new();
     push_text(&mut out, head);
-    push_word(&mut out, word);
-    push_text(&mut out, b"\n");
-    out
-}
-
-/// A line with two words: its first word, of at most 16 bytes, and the two in hexadecimal.
-pub(crate) fn print_pair(head: &[u8], first: u64, second: u64) -> Line
-    requires short_head { length head.now ≤ 16 }
-    ensures { result.items ≡ line head.now (hex_text first ∷ hex_text second ∷ []) }
-{
-    let mut out = Line::new();
-    push_text(&mut out, head);
-    push_word(&mut out, first);
-    push_word(&mut out, second);
+    for word in words {
+        push_word(&mut out, *word);
+    }
     push_text(&mut out, b"\n");
     out
 }
@@ -258,18 +248,6 @@ fn state_words(state: ThrState) -> &'static [u8]
         ThrState::Faulted(Fault::Denied) => b"Faulted Denied",
         ThrState::Faulted(Fault::Opcode) => b"Faulted Opcode",
     }
-}
-
-/// The end of the line of a thread: its registers. It has 153 bytes.
-pub(crate) fn print_registers(regs: &[u64; 8]) -> Line
-    ensures { result.items ≡ registers_text regs.now }
-{
-    let mut out = Line::new();
-    for word in regs {
-        push_word(&mut out, *word);
-    }
-    push_text(&mut out, b"\n");
-    out
 }
 
 /// The line of an object that a thread reaches, with the rights whose bits these are.

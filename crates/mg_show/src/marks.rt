@@ -18,26 +18,17 @@ use mg_disk::Disk;
 use mg_model::{ObjRow, Right, Slot};
 use mg_objects::Objects;
 
-/// Each object gets, in its byte, the rights that capabilities give on it now.
+/// Each object gets, in its byte, the rights that capabilities give on it now. Nothing changes for one that names no object.
 pub(crate) fn mark(shown: &Shown, capabilities: &[Slot], bytes: &mut [u8])
     requires long { length bytes.old ≡ length shown.now.objects }
     ensures { Marks has_right (holds shown.now.counters.period) shown.now.objects (named_by capabilities.now) bytes.old bytes.new }
 {
-    for slot in capabilities {
-        mark_one(shown, *slot, bytes);
-    }
-}
-
-// The object that a capability names gets the rights that it gives. If there is none, nothing changes.
-fn mark_one(shown: &Shown, slot: Slot, bytes: &mut [u8])
-    requires long { length bytes.old ≡ length shown.now.objects }
-    ensures { Marks has_right (holds shown.now.counters.period) shown.now.objects ((slot.base, slot.password) ∷ []) bytes.old bytes.new }
-{
     let objects = shown.objects.objects();
     let period = shown.counters.period();
-    match place_of(objects, slot.base) {
-        Some(i) => bytes[i] = with_rights(bytes[i], objects.nth_ref(i), slot.password, period),
-        None => {}
+    for slot in capabilities {
+        if let Some(i) = place_of(objects, slot.base) {
+            bytes[i] = with_rights(bytes[i], objects.nth_ref(i), slot.password, period);
+        }
     }
 }
 
@@ -47,20 +38,12 @@ pub(crate) fn rank(shown: &Shown, capabilities: &[Slot], rank: u64, ranks: &mut 
     requires long { length ranks.old ≡ length shown.now.objects }
     ensures { Marks is_within (gives_rank rank) shown.now.objects (named_by capabilities.now) ranks.old ranks.new }
 {
+    let objects = shown.objects.objects();
     for slot in capabilities {
-        rank_one(shown, *slot, rank, ranks);
-    }
-}
-
-// The object that a capability names gets this rank, if it has none.
-fn rank_one(shown: &Shown, slot: Slot, rank: u64, ranks: &mut [u64])
-    requires some { 1 ≤ rank }
-    requires long { length ranks.old ≡ length shown.now.objects }
-    ensures { Marks is_within (gives_rank rank) shown.now.objects ((slot.base, slot.password) ∷ []) ranks.old ranks.new }
-{
-    match place_of(shown.objects.objects(), slot.base) {
-        Some(i) => ranks[i] = least(ranks[i], rank),
-        None => {}
+        match place_of(objects, slot.base) {
+            Some(i) => ranks[i] = least(ranks[i], rank),
+            None => {}
+        }
     }
 }
 
@@ -171,8 +154,7 @@ fn with_rights(byte: u8, row: &ObjRow, password: u64, period: u64) -> u8
 // 1 if a byte has this weight, or the password gives the right on the object at the period, else 0.
 fn joined(byte: u8, weight: u8, row: &ObjRow, password: u64, right: Right, period: u64) -> u8
     requires { 1 ≤ weight }
-    ensures is { (result == 1) ≡ (byte / weight % 2 == 1 || holds period row.now password right) }
-    ensures few { result ≤ 1 }
+    ensures { result ≡ (if byte / weight % 2 == 1 || holds period row.now password right then 1 else 0) }
 {
     if byte / weight % 2 == 1 || row.holds(password, right, period) {
         1
@@ -205,63 +187,28 @@ pub(crate) fn walk<D: Disk>(
     }
 }
 
-// A step from the lists with this rank.
+// A step from the lists whose rank is `last`.
 #[tactic(auto, using(crate::proofs::Learning::still_shown))]
 fn go_on<D: Disk>(
     shown: &Shown,
     bytes: &[u8],
-    rank: u64,
+    last: u64,
     ranks: &mut [u64],
     disk: &mut D,
     out: &mut Writer,
 )
-    requires some { 1 ≤ rank }
-    requires few { rank ≤ 65535 }
+    requires some { 1 ≤ last }
+    requires few { last ≤ 65535 }
     requires long { length bytes.now ≡ length shown.now.objects }
     requires long_ranks { length ranks.old ≡ length shown.now.objects }
     requires can { CanShow D.Disk shown.now disk.old }
-    ensures { Finds D.Disk (held_in shown.now) is_within (gives_rank (rank + 1)) shown.now.objects (λ r. listed_at shown.now r bytes.now ranks.old rank shown.now.objects) disk.old disk.new ranks.old ranks.new out.old out.new }
+    ensures { Finds D.Disk (held_in shown.now) is_within (gives_rank (last + 1)) shown.now.objects (λ r. listed_at shown.now r bytes.now ranks.old last shown.now.objects) disk.old disk.new ranks.old ranks.new out.old out.new }
 {
     for i in 0..shown.count() {
-        let is_next = (ranks[i] == rank) & has_r(bytes[i]);
-        rank_next(is_next, shown, shown.row(i), rank + 1, ranks, disk, out);
+        let row = shown.row(i);
+        if (ranks[i] == last) & has_r(bytes[i]) {
+            let list = list_of(shown, row, disk, out);
+            rank(shown, list.as_slice(), last + 1, ranks);
+        }
     }
-}
-
-// What the list in an object names gets this rank, if it is next.
-fn rank_next<D: Disk>(
-    is_next: bool,
-    shown: &Shown,
-    row: &ObjRow,
-    number: u64,
-    ranks: &mut [u64],
-    disk: &mut D,
-    out: &mut Writer,
-)
-    requires some { 1 ≤ number }
-    requires long { length ranks.old ≡ length shown.now.objects }
-    requires can { CanShow D.Disk shown.now disk.old }
-    ensures { Finds D.Disk (held_in shown.now) is_within (gives_rank number) shown.now.objects (λ r. if is_next then listed shown.now r row.now else []) disk.old disk.new ranks.old ranks.new out.old out.new }
-{
-    if is_next {
-        rank_list(shown, row, number, ranks, disk, out);
-    }
-}
-
-// What the list in an object names gets this rank.
-fn rank_list<D: Disk>(
-    shown: &Shown,
-    row: &ObjRow,
-    number: u64,
-    ranks: &mut [u64],
-    disk: &mut D,
-    out: &mut Writer,
-)
-    requires some { 1 ≤ number }
-    requires long { length ranks.old ≡ length shown.now.objects }
-    requires can { CanShow D.Disk shown.now disk.old }
-    ensures { Finds D.Disk (held_in shown.now) is_within (gives_rank number) shown.now.objects (λ r. listed shown.now r row.now) disk.old disk.new ranks.old ranks.new out.old out.new }
-{
-    let list = list_of(shown, row, disk, out);
-    rank(shown, list.as_slice(), number, ranks);
 }

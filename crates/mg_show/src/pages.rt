@@ -1,8 +1,8 @@
 // The pages of objects and the capability lists in them, read one by one.
 ghost use Rattle.std.specs.Prelude.{◌≡◌, ◌≤◌, ◌<◌, [], None, OnErr, OnOk, if◌then◌else◌, length};
 ghost use Rattle.std.specs.Option.{ForSome};
-ghost use Rattle.mg_check.specs.Reads.{CanRead, OnlyRead, contents};
-ghost use Rattle.mg_disk.specs.Stops.{CountRose};
+ghost use Rattle.mg_check.specs.Reads.{CanRead, contents};
+ghost use Rattle.mg_disk.specs.Stops.{CountRose, OnlyRead};
 ghost use Rattle.mg_journal.specs.Looked.{Fits};
 ghost use Rattle.mg_model.specs.Access.{entries_of, entries_under, holds};
 ghost use Rattle.mg_model.specs.Bytes.{block_words};

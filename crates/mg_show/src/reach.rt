@@ -1,11 +1,11 @@
 // Who may reach what, written as text.
-ghost use Rattle.std.specs.Prelude.{◌≡◌, ◌+◌, ◌<◌, ℕ, flat_map, length};
+ghost use Rattle.std.specs.Prelude.{◌≡◌, flat_map, length};
 ghost use Rattle.mg_check.specs.RowsRead.{ArePlaced};
 ghost use Rattle.mg_model.specs.Access.{capabilities, holds};
 ghost use Rattle.mg_model.specs.Limits.{thread_limit};
 ghost use Rattle.mg_model.specs.Rights.{has_right};
 ghost use Rattle.mg_show.specs.Marking.{Finds};
-ghost use Rattle.mg_show.specs.Reached.{bits_line, doors, enter_line, marked_reach, row_reach, thread_reached};
+ghost use Rattle.mg_show.specs.Reached.{bits_line, doors, enter_line, marked_reach};
 ghost use Rattle.mg_show.specs.ReachText.{reach_text};
 ghost use Rattle.mg_show.specs.Shown.{CanShow, held_in, state_shown};
 ghost use Rattle.mg_show.specs.Writing.{Puts, PutsOf};
@@ -17,7 +17,7 @@ use crate::pages::list_under;
 use crate::writer::Writer;
 use mg_disk::Disk;
 use mg_io::Sink;
-use mg_model::{ObjRow, Slot, ThrRow};
+use mg_model::{ObjRow, Slot};
 
 /// Writes for each thread, in order, the objects that it may reach now, and the entries at which it may enter. There is a byte for each
 /// object. A right that a list gives is found once.
@@ -36,29 +36,12 @@ pub(crate) fn put_reach<D: Disk, K: Sink>(
 {
     shown.objects.objects().keep_rules();
     for i in 0..shown.threads.len() {
-        put_thread(shown, &shown.threads[i], bytes, disk, out, sink);
+        let thread = &shown.threads[i];
+        clear(bytes);
+        let last = thread.1.last();
+        mark_lists(shown, last.slots(), bytes, disk, out);
+        put_marked(thread.0 + 1, bytes, shown, out, sink);
     }
-}
-
-// Writes what a thread may reach.
-fn put_thread<D: Disk, K: Sink>(
-    shown: &Shown,
-    thread: &(u64, ThrRow),
-    bytes: &mut [u8],
-    disk: &mut D,
-    out: &mut Writer,
-    sink: &mut K,
-)
-    requires place { thread.now.0 < 256 }
-    requires long { length bytes.old ≡ length shown.now.objects }
-    requires can { CanShow D.Disk shown.now disk.old }
-    ensures puts { PutsOf D.Disk K.Sink (held_in shown.now) (λ r. thread_reached shown.now r thread.now) disk.old disk.new sink.old sink.new out.old out.new }
-    ensures long { length bytes.new ≡ length bytes.old }
-{
-    clear(bytes);
-    let last = thread.1.last();
-    mark_lists(shown, last.slots(), bytes, disk, out);
-    put_marked(thread.0 + 1, bytes, shown, out, sink);
 }
 
 // Each object gets, in its byte, the rights that the lists give on it which these slots open.
@@ -80,22 +63,16 @@ fn mark_lists<D: Disk>(
     }
 }
 
-// Writes the objects that a thread may reach, with the rights in the byte of each.
+// Writes the objects that a thread may reach, with the rights in the byte of each, and the entries at which it may enter.
 fn put_marked<K: Sink>(thread: u64, bytes: &[u8], shown: &Shown, out: &mut Writer, sink: &mut K)
     requires long { length bytes.now ≡ length shown.now.objects }
     ensures { Puts K.Sink (marked_reach thread bytes.now shown.now.objects) sink.old sink.new out.old out.new }
 {
     for i in 0..shown.count() {
-        put_row(thread, bytes[i], shown.row(i), out, sink);
+        let row = shown.row(i);
+        put_rights(thread, row.base(), bytes[i], out, sink);
+        put_doors(thread, bytes[i], row, out, sink);
     }
-}
-
-// Writes an object on which a thread has the rights with these bits, and its entries if it may enter there.
-fn put_row<K: Sink>(thread: u64, bits: u8, row: &ObjRow, out: &mut Writer, sink: &mut K)
-    ensures { Puts K.Sink (row_reach thread (has_right bits) row.now) sink.old sink.new out.old out.new }
-{
-    put_rights(thread, row.base(), bits, out, sink);
-    put_doors(thread, bits, row, out, sink);
 }
 
 // Writes the line of an object, and nothing if there is no right.

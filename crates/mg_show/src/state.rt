@@ -5,14 +5,14 @@ ghost use Rattle.mg_model.specs.Limits.{thread_limit};
 ghost use Rattle.mg_model.specs.State.{ObjectRow, ThreadRow};
 ghost use Rattle.mg_space.specs.Space.{ArePaid};
 ghost use Rattle.mg_show.specs.Shown.{CanShow, held_in, state_shown};
-ghost use Rattle.mg_show.specs.StateText.{accounts_text, entry_text, extension_text, frame_text, object_text, password_text, settings_text, slot_text, state_text, thread_text, words_text};
-ghost use Rattle.mg_show.specs.WordText.{block_text, page_text, pages_text, row_text, rows_text, word_text, words_read};
+ghost use Rattle.mg_show.specs.StateText.{accounts_text, entry_text, extension_text, frame_text, object_text, password_text, slot_text, state_text, thread_text};
+ghost use Rattle.mg_show.specs.WordText.{block_text, pages_text, rows_text, word_text};
 ghost use Rattle.mg_show.specs.Writing.{Puts, PutsOf};
 
 use crate::held::Shown;
 use crate::lines::{
-    print_account, print_counters, print_object, print_pair, print_password, print_registers,
-    print_settings, print_tariff, print_thread, print_word,
+    print_account, print_counters, print_object, print_password, print_settings, print_tariff,
+    print_thread, print_words,
 };
 use crate::pages::read_page;
 use crate::writer::Writer;
@@ -20,7 +20,7 @@ use mg_bank::Bank;
 use mg_disk::{BLOCK_SIZE, Block, Disk};
 use mg_io::Sink;
 use mg_layout::{BLOCK_WORDS, number_at};
-use mg_model::{Frame, ObjRow, Params, Pw, Slot, ThrRow};
+use mg_model::{Frame, ObjRow, Pw, Slot, ThrRow};
 
 /// Writes the text of the state of a volume, all of it.
 pub(crate) fn put_state<D: Disk, K: Sink>(
@@ -34,20 +34,13 @@ pub(crate) fn put_state<D: Disk, K: Sink>(
     requires can { CanShow D.Disk shown.now disk.old }
     ensures { PutsOf D.Disk K.Sink (held_in shown.now) (λ r. state_text (state_shown shown.now r)) disk.old disk.new sink.old sink.new out.old out.new }
 {
-    put_settings(&shown.params, out, sink);
+    out.line(print_settings(&shown.params), sink);
+    out.line(print_tariff(shown.params.tariff()), sink);
     out.line(print_counters(&shown.counters), sink);
     put_accounts(&shown.bank, out, sink);
     put_objects(shown, out, sink);
     put_threads(&shown.threads, out, sink);
     put_words(shown, disk, out, sink);
-}
-
-/// Writes the lines of the settings.
-fn put_settings<K: Sink>(params: &Params, out: &mut Writer, sink: &mut K)
-    ensures { Puts K.Sink (settings_text params.now) sink.old sink.new out.old out.new }
-{
-    out.line(print_settings(params), sink);
-    out.line(print_tariff(params.tariff()), sink);
 }
 
 /// Writes the lines of the accounts of a bank, each with the pages that the bank keeps for it.
@@ -60,23 +53,17 @@ fn put_accounts<K: Sink>(bank: &Bank, out: &mut Writer, sink: &mut K)
     }
 }
 
-/// Writes the lines of the objects, in the order of their bases.
+/// Writes the lines of the objects, in the order of their bases, each with the lines of what belongs to it.
 fn put_objects<K: Sink>(shown: &Shown, out: &mut Writer, sink: &mut K)
     ensures { Puts K.Sink (flat_map (λ (o : ℕ × ObjectRow). object_text o.1) shown.now.objects) sink.old sink.new out.old out.new }
 {
     for i in 0..shown.count() {
-        put_object(shown.row(i), out, sink);
+        let row = shown.row(i);
+        out.line(print_object(row), sink);
+        put_passwords(row.passwords(), out, sink);
+        put_entries(row.entries(), out, sink);
+        put_extension(row, out, sink);
     }
-}
-
-// The line of an object, and what belongs to it.
-fn put_object<K: Sink>(row: &ObjRow, out: &mut Writer, sink: &mut K)
-    ensures { Puts K.Sink (object_text row.now) sink.old sink.new out.old out.new }
-{
-    out.line(print_object(row), sink);
-    put_passwords(row.passwords(), out, sink);
-    put_entries(row.entries(), out, sink);
-    put_extension(row, out, sink);
 }
 
 fn put_passwords<K: Sink>(rows: &[Pw], out: &mut Writer, sink: &mut K)
@@ -91,7 +78,7 @@ fn put_entries<K: Sink>(entries: &[u64], out: &mut Writer, sink: &mut K)
     ensures { Puts K.Sink (flat_map entry_text entries.now) sink.old sink.new out.old out.new }
 {
     for entry in entries {
-        out.line(print_word(b"entry", *entry), sink);
+        out.line(print_words(b"entry", &[*entry]), sink);
     }
 }
 
@@ -99,49 +86,36 @@ fn put_extension<K: Sink>(row: &ObjRow, out: &mut Writer, sink: &mut K)
     ensures { Puts K.Sink (extension_text row.now.extension) sink.old sink.new out.old out.new }
 {
     if let Some(slot) = row.ext() {
-        out.line(print_pair(b"extension", slot.base, slot.password), sink);
+        out.line(print_words(b"extension", &[slot.base, slot.password]), sink);
     }
 }
 
-/// Writes the lines of the threads, each of which has the place before its number.
+/// Writes the lines of the threads, each of which has the place before its number, and of their frames.
 fn put_threads<K: Sink>(threads: &[(u64, ThrRow)], out: &mut Writer, sink: &mut K)
     requires { All (λ t. t.0 < thread_limit) threads.now }
     ensures { Puts K.Sink (flat_map (λ (t : ℕ × ThreadRow). thread_text (record { number = t.0 + 1; row = t.1 })) threads.now) sink.old sink.new out.old out.new }
 {
     for t in threads {
-        put_thread(t.0 + 1, &t.1, out, sink);
+        out.line(print_thread(t.0 + 1, &t.1), sink);
+        out.line(print_words(b"", &t.1.regs()), sink);
+        put_frames(t.1.frames(), out, sink);
     }
-}
-
-// The line of a thread, and its frames.
-fn put_thread<K: Sink>(number: u64, row: &ThrRow, out: &mut Writer, sink: &mut K)
-    ensures { Puts K.Sink (thread_text (record { number = number; row = row.now })) sink.old sink.new out.old out.new }
-{
-    out.line(print_thread(number, row), sink);
-    out.line(print_registers(&row.regs()), sink);
-    put_frames(row.frames(), out, sink);
 }
 
 fn put_frames<K: Sink>(frames: &[Frame], out: &mut Writer, sink: &mut K)
     ensures { Puts K.Sink (flat_map frame_text frames.now) sink.old sink.new out.old out.new }
 {
     for frame in frames {
-        put_frame(frame, out, sink);
+        out.line(print_words(b"frame", &[frame.back()]), sink);
+        put_slots(frame.slots(), out, sink);
     }
-}
-
-fn put_frame<K: Sink>(frame: &Frame, out: &mut Writer, sink: &mut K)
-    ensures { Puts K.Sink (frame_text frame.now) sink.old sink.new out.old out.new }
-{
-    out.line(print_word(b"frame", frame.back()), sink);
-    put_slots(frame.slots(), out, sink);
 }
 
 fn put_slots<K: Sink>(slots: &[Slot], out: &mut Writer, sink: &mut K)
     ensures { Puts K.Sink (flat_map (slot_text (codes "slot")) slots.now) sink.old sink.new out.old out.new }
 {
     for slot in slots {
-        out.line(print_pair(b"slot", slot.base, slot.password), sink);
+        out.line(print_words(b"slot", &[slot.base, slot.password]), sink);
     }
 }
 
@@ -153,29 +127,10 @@ fn put_words<D: Disk, K: Sink>(shown: &Shown, disk: &mut D, out: &mut Writer, si
     ensures { PutsOf D.Disk K.Sink (held_in shown.now) (λ r. rows_text r (length shown.now.frames) shown.now.frames shown.now.objects) disk.old disk.new sink.old sink.new out.old out.new }
 {
     for i in 0..shown.count() {
-        put_object_words(shown, shown.row(i), disk, out, sink);
+        let row = shown.row(i);
+        let first = row.base() / BLOCK_SIZE as u64;
+        put_pages(shown, first, row.pages(), disk, out, sink);
     }
-}
-
-// Writes the words of an object.
-fn put_object_words<D: Disk, K: Sink>(
-    shown: &Shown,
-    row: &ObjRow,
-    disk: &mut D,
-    out: &mut Writer,
-    sink: &mut K,
-)
-    requires can { CanShow D.Disk shown.now disk.old }
-    ensures { PutsOf D.Disk K.Sink (held_in shown.now) (λ r. row_text r (length shown.now.frames) shown.now.frames row.now) disk.old disk.new sink.old sink.new out.old out.new }
-{
-    put_pages(
-        shown,
-        row.base() / BLOCK_SIZE as u64,
-        row.pages(),
-        disk,
-        out,
-        sink,
-    );
 }
 
 // Writes the words of `count` pages from this one on.
@@ -194,35 +149,11 @@ fn put_pages<D: Disk, K: Sink>(
     ensures { PutsOf D.Disk K.Sink (held_in shown.now) (λ r. pages_text r (length shown.now.frames) shown.now.frames first count) disk.old disk.new sink.old sink.new out.old out.new }
 {
     for i in 0..count {
-        put_page(shown, first + i, disk, out, sink);
-    }
-}
-
-// Writes the words of a page.
-fn put_page<D: Disk, K: Sink>(
-    shown: &Shown,
-    page: u64,
-    disk: &mut D,
-    out: &mut Writer,
-    sink: &mut K,
-)
-    requires some { 1 ≤ page }
-    requires place { page < 2 ^ 52 }
-    requires can { CanShow D.Disk shown.now disk.old }
-    ensures { PutsOf D.Disk K.Sink (held_in shown.now) (λ r. page_text r (length shown.now.frames) shown.now.frames page) disk.old disk.new sink.old sink.new out.old out.new }
-{
-    let mut block = [0; BLOCK_SIZE];
-    let is_held = read_page(shown, page, &mut block, disk, out);
-    put_read(is_held, BLOCK_SIZE as u64 * page, &block, out, sink);
-}
-
-// Writes the words of a page that was read, the first of them at this address.
-fn put_read<K: Sink>(is_held: bool, address: u64, block: &Block, out: &mut Writer, sink: &mut K)
-    requires place { address + 4096 ≤ 2 ^ 64 }
-    ensures { Puts K.Sink (words_text address (words_read is_held block.now)) sink.old sink.new out.old out.new }
-{
-    if is_held {
-        put_block(address, block, out, sink);
+        let page = first + i;
+        let mut block = [0; BLOCK_SIZE];
+        if read_page(shown, page, &mut block, disk, out) {
+            put_block(BLOCK_SIZE as u64 * page, &block, out, sink);
+        }
     }
 }
 
@@ -244,5 +175,5 @@ fn put_word<K: Sink>(address: u64, word: u64, out: &mut Writer, sink: &mut K)
     if word == 0 {
         return;
     }
-    out.line(print_pair(b"word", address, word), sink);
+    out.line(print_words(b"word", &[address, word]), sink);
 }

@@ -1,5 +1,5 @@
-use Rattle.mg_show.proofs.Names.{◌∙◌}
-use Rattle.mg_show.proofs.Spelled.{five_words, one_word, six_or_more, three_or_four}
+use Rattle.mg_show.proofs.Names.{◌∙◌, arith, inl, inr}
+use Rattle.mg_show.proofs.Spelled.{five_words, none_asked, one_word}
 use Rattle.mg_show.proofs.command.read_words.Goals as goal
 
 pub returns-in-len1 : goal.returns-in-len1
@@ -13,7 +13,7 @@ returns-in-len5 c =
     c.as_bytes-in-len5.ensures.value c.as_bytes-in-len5-2.ensures.value c.as_bytes-in-len5-3.ensures.value c.as_bytes-in-len5-4.ensures.value
 
 pub returns-in_default-2 : goal.returns-in_default-2
-returns-in_default-2 c = three_or_four c.args.words.now c.in_default.len_at_least c.in_default.len_below
+returns-in_default-2 c = none_asked c.args.words.now c.in_default.len_at_least (inl c.in_default.len_below)
 
 pub returns-in_default-3 : goal.returns-in_default-3
-returns-in_default-3 c = six_or_more c.args.words.now c.in_default.len_at_least
+returns-in_default-3 c = none_asked c.args.words.now (let many = c.in_default.len_at_least in omega arith) (inr c.in_default.len_at_least)

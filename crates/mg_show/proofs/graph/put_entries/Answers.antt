@@ -1,9 +1,17 @@
-use Rattle.mg_show.proofs.Names.{arith, puts_same, puts_then}
-use Rattle.mg_show.proofs.Drawing.{entries-more}
+use Rattle.mg_show.proofs.Names.{◌∙◌, arith, get_or, ne_eqb, Slot, bare, puts_none, puts_same, puts_then}
+use Rattle.mg_show.proofs.Drawing.{entries-more, entry-drawn, entry-none}
+use Rattle.mg_show.proofs.graph.put_entries.Goals.{else-slot-ne0, then-slot-ne0}
 use Rattle.mg_show.proofs.graph.put_entries.Goals as goal
 
 pub loop-slot-preserved : goal.loop-slot-preserved
 loop-slot-preserved g c =
-    puts_same g.K.Sink (entries-more c.args.shown.now c.args.list c.args.slots.now c.loop-slot.slot-index
-    (record { base = 0; password = 0 }) (omega arith))
-    (puts_then g.K.Sink c.loop-slot.invariant c.put_entry.ensures)
+    let state = bare c.args.shown.now in
+    let none : Slot = record { base = 0; password = 0 } in
+    let slot = get_or c.args.slots.now c.loop-slot.slot-index none in
+    elim c.if-slot-ne0.branch [
+      | then-slot-ne0 w ↦ rw (w.out-is, w.sink-is) (puts_same g.K.Sink (entries-more c.args.shown.now c.args.list c.args.slots.now c.loop-slot.slot-index none _ (omega arith)
+          (w.print_entry_arrow.ensures ∙ entry-drawn state slot.base slot.password w.rights_on-bits.result w.rights_on-bits.ensures c.args.list (ne_eqb slot.base 0 w.if-slot-ne0.true)))
+          (puts_then g.K.Sink c.loop-slot.invariant w.line.ensures))
+      | else-slot-ne0 w ↦ rw (w.out-is, w.sink-is) (puts_same g.K.Sink (entries-more c.args.shown.now c.args.list c.args.slots.now c.loop-slot.slot-index none _ (omega arith)
+          (entry-none state slot.base slot.password c.args.list w.if-slot-ne0.false)) (puts_then g.K.Sink c.loop-slot.invariant (puts_none g.K.Sink c.loop-slot.sink c.loop-slot.out)))
+    ]

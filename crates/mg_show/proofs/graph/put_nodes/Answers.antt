@@ -1,16 +1,18 @@
-use Rattle.mg_show.proofs.Names.{◌+◌, arith, slice_index, R, has_right, node_if, nodes_ranked, is_within, puts_all, puts_same, puts_then}
-use Rattle.mg_show.proofs.ByPlaces.{places-more}
+use Rattle.mg_show.proofs.Names.{◌+◌, ◌∙◌, ◌≡◌, Bool, true, false, sym, arith, slice_index, R, has_right, is_within, puts_none, puts_same, puts_then}
+use Rattle.mg_show.specs.DotText.{object_node}
+use Rattle.mg_show.specs.Drawn.{shape}
+use Rattle.mg_show.proofs.ByPlaces.{places-next}
+use Rattle.mg_show.proofs.graph.put_nodes.Goals.{else-is_within, then-is_within}
 use Rattle.mg_show.proofs.graph.put_nodes.Goals as goal
 
 pub loop-i-preserved : goal.loop-i-preserved
 loop-i-preserved g c =
-    let row = c.row.result.now in
-    puts_same g.K.Sink
-    (places-more (λ i row. node_if (is_within (slice_index c.args.ranks.now i) (c.args.steps + 1))
-    (has_right (slice_index c.args.bytes.now i) R) row) c.args.shown.now.objects c.loop-i.i (omega arith) row c.row.ensures)
-    (puts_then g.K.Sink c.loop-i.invariant
-    (puts_same g.K.Sink (λ k. node_if (c.is_within-is_shown.ensures k) (c.has_r.ensures k) row) c.put_node.ensures))
-
-pub returns : goal.returns
-returns g c = puts_all g.K.Sink (nodes_ranked c.args.steps c.args.bytes.now c.args.ranks.now) c.args.shown.now.objects c.loop-i.i (omega arith)
-    c.loop-i.invariant
+    let row = c.row-row.result.now in
+    let next = λ (v : Bool) (is : v ≡ c.is_within.result). places-next (λ i row. object_node (shape (has_right (slice_index c.args.bytes.now i) R)) row)
+    (λ i. is_within (slice_index c.args.ranks.now i) (c.args.steps + 1)) c.args.shown.now.objects c.loop-i.i (omega arith) row c.row-row.ensures v (is ∙ c.is_within.ensures) in
+    elim c.if-is_within.branch [
+      | then-is_within w ↦ rw (w.out-is, w.sink-is) (puts_same g.K.Sink (next true (sym w.if-is_within.true))
+          (puts_then g.K.Sink c.loop-i.invariant (puts_same g.K.Sink (w.print_object_node.ensures ∙ (λ k. object_node (shape (w.has_r.ensures k)) row)) w.line.ensures)))
+      | else-is_within w ↦ rw (w.out-is, w.sink-is) (puts_same g.K.Sink (next false (sym w.if-is_within.false))
+          (puts_then g.K.Sink c.loop-i.invariant (puts_none g.K.Sink c.loop-i.sink c.loop-i.out)))
+    ]

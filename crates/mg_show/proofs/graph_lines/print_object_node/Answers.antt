@@ -1,8 +1,11 @@
-use Rattle.mg_show.proofs.Names.{◌++◌, codes, object_name}
+use Rattle.mg_show.proofs.Names.{◌≡◌, ℕ, List, [], ◌∷◌, ◌++◌, append_assoc, arith, codes, object_name, quoted}
 use Rattle.mg_show.specs.DotText.{object_label}
 use Rattle.mg_show.specs.Drawn.{shape}
-use Rattle.mg_show.proofs.Drawing.{quotes-around}
 use Rattle.mg_show.proofs.graph_lines.print_object_node.Goals as goal
+
+-- a text between quotes, of which each stands with the text beside it
+quotes-around : (m c l : List ℕ) → ((m ++ (c ++ 34 ∷ [])) ++ l) ++ 34 ∷ 93 ∷ 10 ∷ [] ≡ (((m ++ c) ++ quoted l) ++ 93 ∷ []) ++ 10 ∷ []
+quotes-around m c l = grind (arith, append_assoc)
 
 pub returns : goal.returns
 returns c =

@@ -4,9 +4,6 @@ use Rattle.mg_model.specs.Limits.{credit_limit}
 use Rattle.mg_show.proofs.RowsKept.{apart_kept, credits_kept, distinct_kept}
 use Rattle.mg_show.proofs.held.shown_of.Goals as goal
 
-pub unreachable-requires : goal.unreachable-requires
-unreachable-requires c = let distinct = distinct_kept c.args.rows c.requires.kept in search rules
-
 pub of-requires-2-clause-credits : goal.of-requires-2-clause-credits
 of-requires-2-clause-credits c =
     let few = c.keep_rules.ensures.at_most_2_62_credits in
@@ -17,6 +14,3 @@ unreachable-requires-in_default-2 c = let apart = apart_kept c.args.rows c.requi
 
 pub invariant_of-result : goal.invariant_of-result
 invariant_of-result c = let distinct = distinct_kept c.args.rows c.requires.kept in search rules
-
-pub returns-clause-frames : goal.returns-clause-frames
-returns-clause-frames c = let distinct = distinct_kept c.args.rows c.requires.kept in search rules

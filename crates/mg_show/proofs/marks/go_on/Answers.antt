@@ -1,26 +1,29 @@
-use Rattle.std.specs.Prelude.{◌&&◌, ◌==◌, slice_index}
-use Rattle.mg_show.proofs.Names.{◌≤◌, ap, arith, length, ◌∙◌, take_all, listed_at}
-use Rattle.mg_show.proofs.Learning.{found_none, found_same, learns_then}
+use Rattle.mg_show.proofs.Names.{◌&&◌, ◌==◌, ◌≡◌, ℕ, List, Bool, arith, sym, ◌∙◌, true, false, slice_index, Image, R, has_right}
+use Rattle.mg_show.proofs.Learning.{found_list, found_none, learns_then}
 use Rattle.mg_show.proofs.Walking.{listed-next}
+use Rattle.mg_show.proofs.marks.go_on.Goals.{else-ranks-i, then-ranks-i}
 use Rattle.mg_show.proofs.marks.go_on.Goals as goal
 
-pub loop-i-init : goal.loop-i-init
-loop-i-init g c = found_none g.D.Disk c.args.disk.now c.args.ranks.now c.args.out.now (g.met.D.Disk.now_has_been c.args.disk.now)
-
 pub loop-i-preserved : goal.loop-i-preserved
-loop-i-preserved g c = record {
-  learns =
-      learns_then g.D.Disk
-      (λ r. listed-next c.args.shown.now r c.args.bytes.now c.args.ranks.now c.args.rank c.loop-i.i c.row.result.now
-      (slice_index c.loop-i.ranks c.loop-i.i == c.args.rank && c.has_r.result) c.loop-i.ranks c.rank_next.new.ranks c.requires.some (omega arith) c.row.ensures
-      (λ k. slice_index c.loop-i.ranks c.loop-i.i == c.args.rank && c.has_r.ensures k))
-      c.loop-i.invariant.learns c.rank_next.ensures.learns;
-  long = c.rank_next.ensures.long ∙ c.loop-i.invariant.long;
-}
-
-pub returns : goal.returns
-returns g c =
-    let shown = c.args.shown.now in
-    let end : length shown.objects ≤ c.loop-i.i = omega arith in
-    found_same g.D.Disk (λ r. ap (listed_at shown r c.args.bytes.now c.args.ranks.now c.args.rank) (take_all c.loop-i.i shown.objects end))
-    c.loop-i.invariant
+loop-i-preserved g c =
+    let i = c.loop-i.i in
+    let old = c.loop-i.ranks in
+    let test : (slice_index old i == c.args.last && c.has_r.result) ≡ (slice_index old i == c.args.last && has_right (slice_index c.args.bytes.now i) R) =
+    λ k. slice_index old i == c.args.last && c.has_r.ensures k in
+    let next = λ (r : Image) (v : Bool) (new : List ℕ) (is : v ≡ (slice_index old i == c.args.last && c.has_r.result)).
+    listed-next c.args.shown.now r c.args.bytes.now c.args.ranks.now c.args.last i c.row-row.result.now v old new c.requires.some (omega arith) c.row-row.ensures (is ∙ test) in
+    elim c.if-ranks-i.branch [
+      | then-ranks-i w ↦
+          let found = found_list g.D.Disk w.as_slice.result.now w.list_of-list.result w.as_slice.ensures.value w.list_of-list.ensures w.rank.ensures in
+          rw (w.ranks-is, w.disk-is, w.out-is) (record {
+            learns = learns_then g.D.Disk (λ r. next r true w.rank.new.ranks (sym w.if-ranks-i.true)) c.loop-i.invariant.learns found.learns;
+            long = found.long ∙ c.loop-i.invariant.long;
+          })
+      | else-ranks-i w ↦
+          rw (w.ranks-is, w.disk-is, w.out-is) (record {
+            learns =
+                learns_then g.D.Disk (λ r. next r false old (sym w.if-ranks-i.false)) c.loop-i.invariant.learns
+                (found_none g.D.Disk c.loop-i.disk old c.loop-i.out (g.met.D.Disk.now_has_been c.loop-i.disk)).learns;
+            long = c.loop-i.invariant.long;
+          })
+    ]

@@ -1,8 +1,5 @@
-use Rattle.mg_show.proofs.Names.{ap, sym, ◌∙◌, entries_of, named_by, words_read}
+use Rattle.mg_show.proofs.Names.{ap, sym, ◌∙◌, entries_of, words_read}
 use Rattle.mg_show.proofs.pages.list_read.Goals as goal
 
 pub returns-then-is_held : goal.returns-then-is_held
 returns-then-is_held c = c.list_in.ensures ∙ sym (ap (λ v. entries_of (words_read v c.args.block.now)) c.if-is_held.true)
-
-pub returns-else-is_held : goal.returns-else-is_held
-returns-else-is_held c = ap named_by c.new.ensures ∙ sym (ap (λ v. entries_of (words_read v c.args.block.now)) c.if-is_held.false)

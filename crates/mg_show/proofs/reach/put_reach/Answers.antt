@@ -1,5 +1,7 @@
 use Rattle.mg_show.proofs.Names.{All, ℕ, ◌++◌, ◌≤◌, ◌<◌, ap, arith, flat_map, length, subst, take, ◌∙◌, take_all, IsObjectRow, ObjectRow, AreApart}
-use Rattle.mg_show.proofs.Names.{thread_reached, flat_more, of_put, of_same, of_then, puts_none}
+use Rattle.mg_show.proofs.Names.{thread_reached, flat_more, of_behind, of_put, of_same, of_then, puts_none}
+use Rattle.mg_show.proofs.Drawing.{slots-last}
+use Rattle.mg_show.proofs.Reaching.{thread-reached}
 use Rattle.mg_show.proofs.Reaching.{reach_same}
 use Rattle.mg_show.proofs.reach.put_reach.Goals as goal
 
@@ -14,15 +16,18 @@ loop-i-preserved g c =
     let shown = c.args.shown.now in
     let threads = shown.threads.items in
     let i = c.loop-i.i in
-    let thread = c.index.result.now in
+    let thread = c.index-thread.result.now in
     let below : i < length threads = let t = c.loop-i-test.true in omega arith in
     record {
       puts =
           of_same g.D.Disk g.K.Sink
-          (λ r. ap (λ x. flat_map (thread_reached shown r) (take i threads) ++ thread_reached shown r x) c.index.ensures
+          (λ r. ap (λ x. flat_map (thread_reached shown r) (take i threads) ++ thread_reached shown r x) c.index-thread.ensures
           ∙ flat_more (thread_reached shown r) threads i thread below)
-          (of_then g.D.Disk g.K.Sink c.loop-i.invariant.puts c.put_thread.ensures.puts);
-      long = c.put_thread.ensures.long ∙ c.loop-i.invariant.long;
+          (of_then g.D.Disk g.K.Sink c.loop-i.invariant.puts (of_behind g.D.Disk g.K.Sink c.mark_lists.ensures.learns.reads c.put_marked.ensures
+          (λ none r told. thread-reached shown r thread c.slots.result.now c.clear.new.bytes c.mark_lists.new.bytes
+          (slots-last thread.1.frames c.last-last.result c.slots.result.now c.last-last.ensures c.slots.ensures) c.clear.ensures.zeros
+          (c.mark_lists.ensures.learns.is none r told))));
+      long = c.mark_lists.ensures.long ∙ c.clear.ensures.long ∙ c.loop-i.invariant.long;
     }
 
 pub returns : goal.returns

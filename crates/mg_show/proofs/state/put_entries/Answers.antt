@@ -2,4 +2,4 @@ use Rattle.mg_show.proofs.Names.{arith, entry_text, flat_more, puts_same, puts_t
 use Rattle.mg_show.proofs.state.put_entries.Goals as goal
 
 pub loop-entry-preserved : goal.loop-entry-preserved
-loop-entry-preserved g c = puts_same g.K.Sink (flat_more entry_text c.args.entries.now c.loop-entry.entry-index 0 (omega arith)) (puts_then g.K.Sink c.loop-entry.invariant (puts_same g.K.Sink c.print_word.ensures c.line.ensures))
+loop-entry-preserved g c = puts_same g.K.Sink (flat_more entry_text c.args.entries.now c.loop-entry.entry-index 0 (omega arith)) (puts_then g.K.Sink c.loop-entry.invariant (puts_same g.K.Sink c.print_words.ensures c.line.ensures))

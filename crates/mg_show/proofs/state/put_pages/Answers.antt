@@ -1,6 +1,7 @@
-use Rattle.mg_show.proofs.Names.{◌≡◌, ap, arith, length, sym, of_put, of_same, of_then, puts_none}
-use Rattle.mg_show.specs.WordText.{pages_text}
-use Rattle.mg_show.proofs.WordTexts.{pages_text-more, pages_text-none}
+use Rattle.mg_show.proofs.Names.{◌≡◌, ◌+◌, ◌*◌, ◌∙◌, ap, arith, length, sym, Image, words_read, words_text, of_behind, of_put, of_same, of_then, puts_none}
+use Rattle.mg_show.specs.WordText.{block_text, page_text, pages_text}
+use Rattle.mg_show.proofs.WordTexts.{pages_text-more, pages_text-none, words_text-zeros}
+use Rattle.mg_show.proofs.state.put_pages.Goals.{else-read_page, then-read_page}
 use Rattle.mg_show.proofs.state.put_pages.Goals as goal
 
 pub loop-i-init : goal.loop-i-init
@@ -10,10 +11,20 @@ loop-i-init g c =
     (of_put g.D.Disk g.K.Sink (g.met.D.Disk.now_has_been c.args.disk.now) (puts_none g.K.Sink c.args.sink.now c.args.out.now))
 
 pub loop-i-preserved : goal.loop-i-preserved
+unfolding block_text page_text
 loop-i-preserved g c =
     let table = c.args.shown.now.frames in
-    of_same g.D.Disk g.K.Sink (λ r. sym (pages_text-more r (length table) table c.args.first c.loop-i.i))
-    (of_then g.D.Disk g.K.Sink c.loop-i.invariant c.put_page.ensures)
+    let address = 4096 * (c.args.first + c.loop-i.i) in
+    let more = λ (r : Image). sym (pages_text-more r (length table) table c.args.first c.loop-i.i) in
+    elim c.if-read_page.branch [
+      | then-read_page w ↦ rw (w.out-is, w.sink-is) (of_same g.D.Disk g.K.Sink more (of_then g.D.Disk g.K.Sink c.loop-i.invariant
+          (of_behind g.D.Disk g.K.Sink c.read_page.ensures.reads w.put_block.ensures
+          (λ none r told. sym (ap (λ v. words_text address (words_read v c.read_page.new.block)) w.if-read_page.true) ∙ ap (words_text address) (c.read_page.ensures.page none r told)))))
+      | else-read_page w ↦ rw (w.out-is, w.sink-is) (of_same g.D.Disk g.K.Sink more (of_then g.D.Disk g.K.Sink c.loop-i.invariant
+          (of_behind g.D.Disk g.K.Sink c.read_page.ensures.reads (puts_none g.K.Sink c.loop-i.sink c.read_page.new.out)
+          (λ none r told. sym (ap (λ v. words_text address (words_read v c.read_page.new.block)) w.if-read_page.false ∙ words_text-zeros address 512)
+          ∙ ap (words_text address) (c.read_page.ensures.page none r told)))))
+    ]
 
 pub returns : goal.returns
 returns g c =

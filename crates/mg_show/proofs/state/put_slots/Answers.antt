@@ -2,4 +2,4 @@ use Rattle.mg_show.proofs.Names.{arith, codes, slot_text, flat_more, puts_same, 
 use Rattle.mg_show.proofs.state.put_slots.Goals as goal
 
 pub loop-slot-preserved : goal.loop-slot-preserved
-loop-slot-preserved g c = puts_same g.K.Sink (flat_more (slot_text (codes "slot")) c.args.slots.now c.loop-slot.slot-index (record { base = 0; password = 0 }) (omega arith)) (puts_then g.K.Sink c.loop-slot.invariant (puts_same g.K.Sink c.print_pair.ensures c.line.ensures))
+loop-slot-preserved g c = puts_same g.K.Sink (flat_more (slot_text (codes "slot")) c.args.slots.now c.loop-slot.slot-index (record { base = 0; password = 0 }) (omega arith)) (puts_then g.K.Sink c.loop-slot.invariant (puts_same g.K.Sink c.print_words.ensures c.line.ensures))

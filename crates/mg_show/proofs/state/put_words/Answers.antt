@@ -1,5 +1,6 @@
-use Rattle.mg_show.proofs.Names.{arith, length, rows_text, objects_more, of_all, of_put, of_same, of_then, puts_none}
+use Rattle.mg_show.proofs.Names.{◌/◌, ap, arith, length, rows_text, objects_more, of_all, of_put, of_same, of_then, puts_none}
 use Rattle.mg_show.specs.WordText.{row_text}
+use Rattle.mg_show.proofs.WordTexts.{row_text-pages}
 use Rattle.mg_show.proofs.state.put_words.Goals as goal
 
 pub loop-i-init : goal.loop-i-init
@@ -8,9 +9,10 @@ loop-i-init g c = of_put g.D.Disk g.K.Sink (g.met.D.Disk.now_has_been c.args.dis
 pub loop-i-preserved : goal.loop-i-preserved
 loop-i-preserved g c =
     let table = c.args.shown.now.frames in
-    of_same g.D.Disk g.K.Sink
-    (λ r. objects_more (row_text r (length table) table) c.args.shown.now.objects c.loop-i.i c.row.result.now (omega arith) c.row.ensures)
-    (of_then g.D.Disk g.K.Sink c.loop-i.invariant c.put_object_words.ensures)
+    let row = c.row-row.result.now in
+    of_same g.D.Disk g.K.Sink (λ r. objects_more (row_text r (length table) table) c.args.shown.now.objects c.loop-i.i row (omega arith) c.row-row.ensures)
+    (of_then g.D.Disk g.K.Sink c.loop-i.invariant
+    (of_same g.D.Disk g.K.Sink (λ r. row_text-pages r (length table) table row _ _ (ap (λ base. base / 4096) c.base.ensures.value) c.pages.ensures c.base.ensures.kept.place.aligned) c.put_pages.ensures))
 
 pub returns : goal.returns
 returns g c =

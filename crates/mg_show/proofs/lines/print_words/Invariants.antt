@@ -1,0 +1,8 @@
+use Rattle.mg_show.proofs.Names.{◌≡◌, ◌+◌, ◌*◌, ◌≤◌, ◌++◌, length, map, take, array_vec_len, hex_text, spaced}
+use Rattle.mg_show.proofs.lines.print_words.Given as goal
+
+abbrev pub invariant-loop-word : goal.invariant-loop-word
+invariant-loop-word l = record {
+  text : l.out.items ≡ l.head ++ spaced (map hex_text (take l.word-index l.words));
+  short : array_vec_len l.out ≤ length l.head + 19 * l.word-index;
+}
