@@ -1,6 +1,6 @@
 -- Where a text is cut: a word ends at a blank, a line at its newline, and lines of one kind before a line of another.
 use Rattle.std.specs.Prelude.{flat_map, if◌then◌else◌, ◌==◌}
-use Rattle.std.proofs.Common.{◌≡◌, ℕ, ◌+◌, ◌<◌, ◌≤◌, List, [], ◌∷◌, ◌++◌, get_or, map, refl, ap, sym, subst, ◌∙◌, arith, append_assoc, All}
+use Rattle.std.proofs.Common.{◌≡◌, ℕ, ◌+◌, ◌<◌, ◌≤◌, List, [], ◌∷◌, ◌++◌, get_or, map, refl, ap, sym, ◌∙◌, arith, append_assoc, All}
 use Rattle.std.proofs.lemmas.List.{append_cancel_left}
 use Rattle.std.proofs.lemmas.List.Elements.{All-head, All-tail}
 use Rattle.mg_model.specs.Print.{spaced}
@@ -21,13 +21,9 @@ pub cut : (In : List ℕ → Type 0) (P : ℕ → Type 0) → ((b : ℕ) (bytes 
     → (xs ys s t : List ℕ) → In xs → In ys → EndsAt P s → EndsAt P t → xs ++ s ≡ ys ++ t → Same xs ys s t
 cut In P split [] [] s t in_x in_y end_s end_t e = (refl, e)
 cut In P split [] (y ∷ ys) [] t in_x in_y end_s end_t e = absurd end_s
-cut In P split [] (y ∷ ys) (b ∷ s) t in_x in_y end_s end_t e =
-    let is : y ≡ b = cc in
-    absurd (end_s (subst P is (split y ys in_y).0))
+cut In P split [] (y ∷ ys) (b ∷ s) t in_x in_y end_s end_t e = grind arith
 cut In P split (x ∷ xs) [] s [] in_x in_y end_s end_t e = absurd end_t
-cut In P split (x ∷ xs) [] s (b ∷ t) in_x in_y end_s end_t e =
-    let is : x ≡ b = cc in
-    absurd (end_t (subst P is (split x xs in_x).0))
+cut In P split (x ∷ xs) [] s (b ∷ t) in_x in_y end_s end_t e = grind arith
 cut In P split (x ∷ xs) (y ∷ ys) s t in_x in_y end_s end_t e =
     let same : x ≡ y = cc in
     let tails : xs ++ s ≡ ys ++ t = cc in
@@ -63,9 +59,7 @@ line-apart head words r = append_assoc (head ++ spaced words) (10 ∷ []) r ∙ 
 -- two lines with one head, and what stands behind them
 pub line-cut : (head : List ℕ) (ws vs : List (List ℕ)) (r s : List ℕ) → AllHigh ws → AllHigh vs → line head ws ++ r ≡ line head vs ++ s
     → Same ws vs r s
-line-cut head ws vs r s high high' e =
-    let apart = sym (line-apart head ws r) ∙ e ∙ line-apart head vs s in
-    spaced-cut ws vs r s high high' (append_cancel_left head (spaced ws ++ 10 ∷ r) (spaced vs ++ 10 ∷ s) apart)
+line-cut head ws vs r s high high' e = grind (arith, line-apart, spaced-cut, append_cancel_left)
 
 -- the word at a place of two lines
 pub nth : (k : ℕ) {ws vs : List (List ℕ)} → ws ≡ vs → get_or ws k [] ≡ get_or vs k []
@@ -103,22 +97,15 @@ IsAt {A} n text = (x : A) (r : List ℕ) → level (text x ++ r) ≡ n
 pub list-level : {A : Type 0} (n m : ℕ) (text : A → List ℕ) (xs : List A) (r : List ℕ) → IsAt n text → n < m → level r < m
     → level (flat_map text xs ++ r) < m
 list-level n m text [] r at low low' = low'
-list-level n m text (x ∷ xs) r at low low' =
-    let e : (text x ++ flat_map text xs) ++ r ≡ text x ++ (flat_map text xs ++ r) = append_assoc (text x) (flat_map text xs) r in
-    let is = at x (flat_map text xs ++ r) in
-    subst (λ k. k < m) (sym (ap level e ∙ is)) low
+list-level n m text (x ∷ xs) r at low low' = grind (arith, append_assoc)
 
 -- a list of things of one level, before what is below that
 pub list-told : {A : Type 0} (P : A → Type 0) (n : ℕ) (text : A → List ℕ) → IsAt n text → Tells P (n + 1) text
     → (xs ys : List A) (r s : List ℕ) → All P xs → All P ys → level r < n → level s < n
     → flat_map text xs ++ r ≡ flat_map text ys ++ s → Same xs ys r s
 list-told P n text at told [] [] r s all all' low low' e = (refl, e)
-list-told P n text at told [] (y ∷ ys) r s all all' low low' e =
-    let is : level r ≡ n = ap level e ∙ ap level (append_assoc (text y) (flat_map text ys) s) ∙ at y (flat_map text ys ++ s) in
-    absurd (omega arith)
-list-told P n text at told (x ∷ xs) [] r s all all' low low' e =
-    let is : level s ≡ n = ap level (sym e) ∙ ap level (append_assoc (text x) (flat_map text xs) r) ∙ at x (flat_map text xs ++ r) in
-    absurd (omega arith)
+list-told P n text at told [] (y ∷ ys) r s all all' low low' e = grind (arith, append_assoc)
+list-told P n text at told (x ∷ xs) [] r s all all' low low' e = grind (arith, append_assoc)
 list-told P n text at told (x ∷ xs) (y ∷ ys) r s all all' low low' e =
     let apart = sym (append_assoc (text x) (flat_map text xs) r) ∙ e ∙ append_assoc (text y) (flat_map text ys) s in
     let behind = list-level n (n + 1) text xs r at (omega arith) (omega arith) in
@@ -150,8 +137,7 @@ all-high-append (w ∷ ws) vs high high' = (high.0, all-high-append ws vs high.1
 
 pub spaced-append : (ws vs : List (List ℕ)) → spaced (ws ++ vs) ≡ spaced ws ++ spaced vs
 spaced-append [] vs = refl
-spaced-append (w ∷ ws) vs =
-    ap (λ rest. 32 ∷ w ++ rest) (spaced-append ws vs) ∙ ap (λ rest. 32 ∷ rest) (sym (append_assoc w (spaced ws) (spaced vs)))
+spaced-append (w ∷ ws) vs = grind (arith, (spaced-append ws vs), append_assoc)
 
 pub flat_map-over : {A B : Type 0} (f : B → List ℕ) (g : A → B) (xs : List A) → flat_map (λ (x : A). f (g x)) xs ≡ flat_map f (map g xs)
 flat_map-over f g [] = refl

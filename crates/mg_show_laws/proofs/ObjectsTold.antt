@@ -2,7 +2,7 @@
 use Rattle.std.specs.Prelude.{codes, flat_map}
 use Rattle.std.specs.Option.{ForSome}
 use Rattle.std.specs.Fmt.{decimal}
-use Rattle.std.proofs.Common.{◌≡◌, ℕ, ◌+◌, ◌*◌, ◌^◌, ◌<◌, List, [], ◌∷◌, ◌++◌, Option, Some, None, refl, ap, sym, ◌∙◌, arith, append_assoc, All}
+use Rattle.std.proofs.Common.{◌≡◌, ℕ, ◌+◌, ◌^◌, ◌<◌, List, [], ◌∷◌, ◌++◌, Option, Some, None, refl, ap, sym, ◌∙◌, arith, append_assoc, All}
 use Rattle.std.proofs.lemmas.Fmt.{decimal_injective}
 use Rattle.std.proofs.lemmas.List.Elements.{All-head, All-tail, All-weaker}
 use Rattle.mg_model.specs.declared.accounts.AccRow.{AccRow}
@@ -10,7 +10,7 @@ use Rattle.mg_model.specs.declared.slots.Pw.{Pw}
 use Rattle.mg_model.specs.declared.slots.Slot.{Slot}
 use Rattle.mg_model.specs.PasswordRows.{IsPassword}
 use Rattle.mg_model.specs.Print.{hex_text}
-use Rattle.mg_model.specs.Ranges.{IsEntryOf, IsExtension, IsObjectRow, IsSlot, IsWord}
+use Rattle.mg_model.specs.Ranges.{IsExtension, IsObjectRow, IsSlot, IsWord}
 use Rattle.mg_model.specs.State.{ObjectRow}
 use Rattle.mg_text.specs.NumberLemmas.{hex-high}
 use Rattle.mg_show.specs.StateText.{account_text, accounts_text, entry_text, extension_text, object_line, object_text, password_text, rights_text, slot_text, until_text}
@@ -29,10 +29,7 @@ account_words n row pages = decimal n ∷ hex_text row.password ∷ decimal row.
 
 account-high : (n : ℕ) (row : AccRow) (pages : ℕ) → AllHigh (account_words n row pages)
 unfolding account_words
-account-high n row pages =
-    let funds : AllHigh (decimal row.balance ∷ decimal row.owed ∷ decimal pages ∷ []) =
-    (decimal-high row.balance, (decimal-high row.owed, (decimal-high pages, tt))) in
-    (decimal-high n, (hex-high row.password, funds))
+account-high n row pages = grind (arith, decimal-high, hex-high)
 
 -- for how many pages each pays is told too, and not needed
 account-told : (n pages pages' : ℕ) (x y : AccRow) (r s : List ℕ) → IsFunds x → IsFunds y
@@ -50,12 +47,8 @@ account-told n pages pages' x y r s ok ok' e =
 pub accounts-told : (paid paid' : ℕ → ℕ) (n : ℕ) (xs ys : List AccRow) (r s : List ℕ) → All IsFunds xs → All IsFunds ys
     → level r < 8 → level s < 8 → accounts_text paid n xs ++ r ≡ accounts_text paid' n ys ++ s → Same xs ys r s
 accounts-told paid paid' n [] [] r s all all' low low' e = (refl, e)
-accounts-told paid paid' n [] (y ∷ ys) r s all all' low low' e =
-    let is : level r ≡ 8 = ap level e in
-    absurd (omega arith)
-accounts-told paid paid' n (x ∷ xs) [] r s all all' low low' e =
-    let is : level s ≡ 8 = ap level (sym e) in
-    absurd (omega arith)
+accounts-told paid paid' n [] (y ∷ ys) r s all all' low low' e = grind (arith, level)
+accounts-told paid paid' n (x ∷ xs) [] r s all all' low low' e = grind (arith, level)
 accounts-told paid paid' n (x ∷ xs) (y ∷ ys) r s all all' low low' e =
     let more = accounts_text paid (n + 1) xs in
     let more' = accounts_text paid' (n + 1) ys in
@@ -117,12 +110,8 @@ extension-level (Some slot) r low = omega arith
 extension-told : (x y : Option Slot) (r s : List ℕ) → ForSome x IsExtension → ForSome y IsExtension → level r < 5 → level s < 5
     → extension_text x ++ r ≡ extension_text y ++ s → Same x y r s
 extension-told None None r s ok ok' low low' e = (refl, e)
-extension-told None (Some y) r s ok ok' low low' e =
-    let is : level r ≡ 5 = ap level e in
-    absurd (omega arith)
-extension-told (Some x) None r s ok ok' low low' e =
-    let is : level s ≡ 5 = ap level (sym e) in
-    absurd (omega arith)
+extension-told None (Some y) r s ok ok' low low' e = grind (arith, level)
+extension-told (Some x) None r s ok ok' low low' e = grind (arith, level)
 extension-told (Some x) (Some y) r s ok ok' low low' e =
     let here = slot-told (codes "extension") 5 x y r s (ok x refl).fields (ok' y refl).fields low low' e in
     (ap (λ (slot : Slot). Some slot) here.0, here.1)
@@ -136,15 +125,7 @@ record Fits (row : ObjectRow) : Type 0 where
   entries : All IsWord row.entries
 
 row-fits : (row : ObjectRow) → IsObjectRow row → Fits row
-row-fits row ok =
-    let place = ok.place in
-    let high : row.base + 4096 * row.pages < 2 ^ 64 = omega (arith, place.aligned, place.high) in
-    record {
-      base = omega arith;
-      pages = omega (arith, place.few);
-      account = omega (arith, ok.account_few);
-      entries = All-weaker (IsEntryOf row.base row.pages) IsWord (λ address is. omega (arith, is.below)) row.entries ok.entries;
-    }
+row-fits row ok = grind (arith, All-weaker)
 
 own_words : ObjectRow → List (List ℕ)
 own_words row = hex_text row.base ∷ decimal row.pages ∷ decimal row.account ∷ []
@@ -163,8 +144,7 @@ from_entries row r = flat_map entry_text row.entries ++ from_extension row r
 
 object-apart : (row : ObjectRow) (r : List ℕ)
     → object_text row ++ r ≡ object_line row ++ (flat_map password_text row.passwords ++ from_entries row r)
-object-apart row r =
-    four-apart (object_line row) (flat_map password_text row.passwords) (flat_map entry_text row.entries) (extension_text row.extension) r
+object-apart row r = grind (arith, four-apart)
 
 entries-level : (row : ObjectRow) (r : List ℕ) → level r < 5 → level (from_entries row r) < 7
 entries-level row r low =

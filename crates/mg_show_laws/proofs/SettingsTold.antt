@@ -49,8 +49,7 @@ tariff_line settings = line (codes "tariff") (map step_text settings.tariff)
 settings-apart : (x : Settings) (r : List ℕ)
     → settings_text x ++ r
     ≡ number_line (codes "frames") x.frames ++ (seed_line x ++ (number_line (codes "credits") x.credits ++ (tariff_line x ++ r)))
-settings-apart x r =
-    four-apart (number_line (codes "frames") x.frames) (seed_line x) (number_line (codes "credits") x.credits) (tariff_line x) r
+settings-apart x r = grind (arith, four-apart)
 
 tariff-high : (x : Settings) → IsSettings x → AllHigh (map step_text x.tariff)
 tariff-high x ok = map-high IsStep step_text step-high x.tariff (tariff-steps x.tariff ok.tariff)
@@ -79,9 +78,7 @@ counters-apart : (x : Counters) (r : List ℕ)
     → counters_text x ++ r
     ≡ number_line (codes "draws") x.draws
     ++ (number_line (codes "period") x.period ++ (number_line (codes "cursor") x.cursor ++ (number_line (codes "births") x.births ++ r)))
-counters-apart x r =
-    four-apart (number_line (codes "draws") x.draws) (number_line (codes "period") x.period) (number_line (codes "cursor") x.cursor)
-    (number_line (codes "births") x.births) r
+counters-apart x r = grind (arith, four-apart)
 
 pub counters-told : (x y : Counters) (r s : List ℕ) → IsCounters x → IsCounters y
     → counters_text x ++ r ≡ counters_text y ++ s → Same x y r s

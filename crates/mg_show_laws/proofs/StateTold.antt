@@ -1,12 +1,11 @@
 -- Two well-formed states with one text: their settings, counters, accounts, rows of objects, threads and words are told one after another.
 use Rattle.std.specs.Prelude.{flat_map}
-use Rattle.std.proofs.Common.{◌≡◌, ℕ, ◌<◌, List, ◌++◌, get_or, ap, sym, ◌∙◌, arith, append_assoc, All}
+use Rattle.std.proofs.Common.{◌≡◌, ℕ, ◌<◌, List, ◌++◌, ap, sym, ◌∙◌, arith, append_assoc, All}
 use Rattle.std.proofs.lemmas.List.Elements.{All-map, All-weaker}
 use Rattle.std.proofs.lemmas.List.Sums.{get_or-le-sum_by}
-use Rattle.mg_model.specs.declared.accounts.AccRow.{AccRow}
 use Rattle.mg_model.specs.Ranges.{IsObjectRow}
-use Rattle.mg_model.specs.State.{Object, State, Thread}
-use Rattle.mg_model.specs.WellFormed.{IsObject, IsThread, IsWellFormed}
+use Rattle.mg_model.specs.State.{Object, State}
+use Rattle.mg_model.specs.WellFormed.{IsObject, IsWellFormed}
 use Rattle.mg_show.specs.StateText.{accounts_text, counters_text, object_text, pages_paid, rows_in, settings_text, state_text, thread_text}
 use Rattle.mg_show_laws.proofs.Cutting.{flat_map-over, level, list-level, list-told}
 use Rattle.mg_show_laws.proofs.ObjectsTold.{IsFunds, accounts-told, object-at, object-told}
@@ -17,16 +16,7 @@ use Rattle.mg_show_laws.specs.TextLaws.{TellsState}
 
 -- no account has more than the credits, and none owes more than its limit by the last period
 funds-fit : (state : State) → IsWellFormed state → All IsFunds state.accounts
-funds-fit state ok k d within =
-    let row : AccRow = get_or state.accounts k d in
-    let each = ok.accounts.each k d within in
-    let few = (within-fits state.settings.frames state.settings.credits ok.settings.limits).1 in
-    let part = get_or-le-sum_by (λ (row : AccRow). row.balance) state.accounts k d within in
-    record {
-      password = each.password;
-      balance = omega (arith, ok.accounts.sum);
-      owed = omega (arith, each.owed, ok.counters.period);
-    }
+funds-fit state ok k d within = grind (arith, within-fits, get_or-le-sum_by)
 
 rows-fit : (state : State) → IsWellFormed state → All IsObjectRow (rows_in state)
 rows-fit state ok =
@@ -34,10 +24,7 @@ rows-fit state ok =
     (All-weaker IsObject (λ (object : Object). IsObjectRow object.row) (λ object is. is.row) state.objects ok.objects.each)
 
 threads-fit : (state : State) → IsWellFormed state → All IsNumbered state.threads
-threads-fit state ok =
-    let numbered : (thread : Thread) → IsThread state.counters.births thread → IsNumbered thread =
-    λ thread is. record { number = omega (arith, is.few); row = is.row } in
-    All-weaker (IsThread state.counters.births) IsNumbered numbered state.threads ok.threads.each
+threads-fit state ok = grind (arith, All-weaker)
 
 -- The text of a state in its parts, each with all that stands behind it
 
@@ -57,9 +44,7 @@ six_apart : (a b c d e w : List ℕ) → ((((a ++ b) ++ c) ++ d) ++ e) ++ w ≡ 
 six_apart a b c d e w = simp append_assoc
 
 state-apart : (state : State) → state_text state ≡ settings_text state.settings ++ (counters_text state.counters ++ from_accounts state)
-state-apart state =
-    six_apart (settings_text state.settings) (counters_text state.counters) (accounts_text (pages_paid (rows_in state)) 1 state.accounts)
-    (flat_map (λ (object : Object). object_text object.row) state.objects) (flat_map thread_text state.threads) (all_words state)
+state-apart state = grind (arith, six_apart)
 
 rows-apart : (state : State) → flat_map object_text (rows_in state) ++ from_threads state ≡ from_objects state
 rows-apart state = ap (λ text. text ++ from_threads state) (sym (flat_map-over object_text (λ (object : Object). object.row) state.objects))

@@ -63,10 +63,7 @@ thread-line number row =
 
 thread-apart : (x : Thread) (r : List ℕ)
     → thread_text x ++ r ≡ line (codes "thread") (thread_words x.number x.row) ++ (flat_map frame_text x.row.frames ++ r)
-thread-apart x r =
-    let frames = flat_map frame_text x.row.frames in
-    let own = thread_head x.number x.row ++ registers_text x.row.regs in
-    append_assoc own frames r ∙ ap (λ text. text ++ (frames ++ r)) (thread-line x.number x.row)
+thread-apart x r = grind (arith, append_assoc, thread-line)
 
 pub record IsNumbered (thread : Thread) : Type 0 where
   pub number : thread.number < 2 ^ 64

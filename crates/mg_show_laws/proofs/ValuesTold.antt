@@ -1,13 +1,12 @@
 -- Values as words: no two have one text, and no text has a blank.
 use Rattle.std.specs.Prelude.{◌==◌, codes, filter, ◌&&◌, if◌then◌else◌}
 use Rattle.std.specs.Fmt.{decimal, digit_glyph, digits, digits_onto}
-use Rattle.std.proofs.Common.{◌≡◌, ℕ, zero, suc, ◌+◌, ◌/◌, ◌%◌, ◌^◌, ◌<◌, ◌≤◌, Bool, true, false, eqb, leb, List, [], ◌∷◌, ◌++◌, Some, get_or, map, refl, ap, sym, subst, ◌∙◌, arith, All}
+use Rattle.std.proofs.Common.{◌≡◌, ℕ, zero, suc, ◌+◌, ◌/◌, ◌%◌, ◌^◌, ◌<◌, ◌≤◌, Bool, true, false, eqb, leb, List, [], ◌∷◌, ◌++◌, Some, get_or, map, refl, ap, sym, ◌∙◌, arith, All}
 use Rattle.std.proofs.lemmas.Bool.{agree_below_at, and_parts, cond_both, eqb-true, leb-true}
 use Rattle.std.proofs.lemmas.Bool.Decides.{nat_tests}
 use Rattle.std.proofs.lemmas.Fmt.{decimal_injective}
 use Rattle.std.proofs.lemmas.List.{append_cancel_left}
 use Rattle.std.proofs.lemmas.List.Elements.{All-head, All-tail}
-use Rattle.mg_model.specs.declared.limits.TheConstants.{NEVER as never}
 use Rattle.mg_model.specs.declared.threads.Fault.TheVariants.{Align, Denied, Opcode}
 use Rattle.mg_model.specs.declared.threads.ThrState.{ThrState}
 use Rattle.mg_model.specs.declared.threads.ThrState.TheVariants.{Faulted, Ready, Stopped}
@@ -15,7 +14,7 @@ use Rattle.mg_model.specs.Print.{fault_text, hex_digit, hex_text, spaced}
 use Rattle.mg_model.specs.Ranges.{IsWord}
 use Rattle.mg_model.specs.Words.{number_of}
 use Rattle.mg_text.specs.NumberLemmas.{Digits, High, decimal-digits, high-append, number_of-hex}
-use Rattle.mg_show.specs.StateText.{lettered, rights_text, seed_text, step_text, thread_state_text, until_text}
+use Rattle.mg_show.specs.StateText.{rights_text, seed_text, step_text, thread_state_text, until_text}
 use Rattle.mg_show_laws.proofs.Cutting.{AllHigh, cut}
 
 -- a text of known bytes has no blank, by computation
@@ -76,35 +75,21 @@ letters_of letters = map (λ (l : ℕ × ℕ). l.0) letters
 
 letters-high : (has : ℕ × ℕ → Bool) (letters : List (ℕ × ℕ)) → High (letters_of letters) → High (letters_of (filter has letters))
 letters-high has [] high = tt
-letters-high has (l ∷ letters) high =
-    let rest = letters-high has letters high.1 in
-    cond_both (has l) (l ∷ filter has letters) (filter has letters) (λ kept. High (letters_of kept)) (λ _. (high.0, rest)) (λ _. rest)
+letters-high has (l ∷ letters) high = grind (arith, (letters-high has letters high.1), cond_both)
 
 pub rights-high : (rights : ℕ) → High (rights_text rights)
-rights-high rights =
-    letters-high (λ (l : ℕ × ℕ). rights / l.1 % 2 == 1) lettered (high-from (codes "RWXDPO") refl)
+rights-high rights = grind (arith, letters-high, high-from)
 
 -- The end of a password
 
 no_digits : (n : ℕ) → n < 2 ^ 64 → codes "never" ≡ decimal n → ⊥
-no_digits n fits e =
-    let are : Digits (codes "never") = subst Digits (sym e) (decimal-digits n fits) in
-    let low : 110 ≤ 57 = are.0.1 in
-    absurd (omega arith)
+no_digits n fits e = grind (arith, decimal-digits)
 
 pub until-told : (m n : ℕ) → m < 2 ^ 64 → n < 2 ^ 64 → until_text m ≡ until_text n → m ≡ n
-until-told m n fits fits' =
-    cond_both (eqb m never) (codes "never") (decimal m) (λ text. text ≡ until_text n → m ≡ n)
-    (λ last.
-    cond_both (eqb n never) (codes "never") (decimal n) (λ text. codes "never" ≡ text → m ≡ n)
-    (λ last' _. eqb-true m never last ∙ sym (eqb-true n never last')) (λ _ e. absurd (no_digits n fits' e)))
-    (λ _.
-    cond_both (eqb n never) (codes "never") (decimal n) (λ text. decimal m ≡ text → m ≡ n)
-    (λ _ e. absurd (no_digits m fits (sym e))) (λ _ e. decimal_injective m n fits fits' e))
+until-told m n fits fits' = grind (arith, cond_both, eqb-true, no_digits, decimal_injective)
 
 pub until-high : (n : ℕ) → High (until_text n)
-until-high n =
-    cond_both (eqb n never) (codes "never") (decimal n) High (λ _. high-from (codes "never") refl) (λ _. decimal-high n)
+until-high n = grind (arith, cond_both, high-from, decimal-high)
 
 -- Steps of the tariff
 
@@ -187,9 +172,7 @@ state-back (Faulted Denied) words = refl
 state-back (Faulted Opcode) words = refl
 
 pub state-told : (x y : ThrState) (ws vs : List (List ℕ)) → state_words x ++ ws ≡ state_words y ++ vs → (x ≡ y) × (ws ≡ vs)
-state-told x y ws vs e =
-    let same : x ≡ y = sym (state-back x ws) ∙ ap state_of e ∙ state-back y vs in
-    (same, append_cancel_left (state_words x) ws vs (e ∙ ap (λ state. state_words state ++ vs) (sym same)))
+state-told x y ws vs e = grind (arith, state-back, append_cancel_left)
 
 pub state-high : (state : ThrState) → AllHigh (state_words state)
 state-high Ready = (high-from (codes "Ready") refl, tt)

@@ -39,40 +39,14 @@ nearer least more text near beyond = λ address word rest fits small e. let far 
 words-beyond : (least a : ℕ) (ws r : List ℕ) → least ≤ a → a + 8 * length ws < 2 ^ 60 → All IsWord ws → IsBeyond least r
     → IsBeyond least (words_text a ws ++ r)
 words-beyond least a [] r low high all beyond = beyond
-words-beyond least a (w ∷ ws) r low high all beyond =
-    let rest = words_text (a + 8) ws in
-    let small = All-head IsWord w ws all in
-    let further = words-beyond least (a + 8) ws r (omega arith) (omega arith) (All-tail IsWord w ws all) beyond in
-    cond_both (eqb w 0) [] (word_line a w) (λ text. IsBeyond least ((text ++ rest) ++ r)) (λ _. further)
-    (λ _ address word behind fits small' e.
-    let apart = sym (append_assoc (word_line a w) rest r) ∙ e in
-    let same = (word-told a address w word (rest ++ r) behind (omega arith) fits small small' apart).0 in
-    omega arith)
+words-beyond least a (w ∷ ws) r low high all beyond = grind (arith, (words-beyond least (a + 8) ws r (omega arith) (omega arith) (All-tail IsWord w ws all) beyond), All-head, All-tail, cond_both, append_assoc, word-told)
 
 -- one word more in front, where the texts behind it begin further on
 first-told : (a w v : ℕ) (ws vs rest rest' r s : List ℕ) → IsWord a → IsWord w → IsWord v
     → IsBeyond (a + 8) (rest ++ r) → IsBeyond (a + 8) (rest' ++ s)
     → (rest ++ r ≡ rest' ++ s → Same ws vs r s)
     → (cond (eqb w 0) [] (word_line a w) ++ rest) ++ r ≡ (cond (eqb v 0) [] (word_line a v) ++ rest') ++ s → Same (w ∷ ws) (v ∷ vs) r s
-first-told a w v ws vs rest rest' r s fits small small' beyond beyond' further =
-    let joined : w ≡ v → Same ws vs r s → Same (w ∷ ws) (v ∷ vs) r s = λ same others. (cc (same, others.0), others.1) in
-    let put = cond (eqb v 0) [] (word_line a v) in
-    cond_both (eqb w 0) [] (word_line a w) (λ text. (text ++ rest) ++ r ≡ (put ++ rest') ++ s → Same (w ∷ ws) (v ∷ vs) r s)
-    (λ none.
-    cond_both (eqb v 0) [] (word_line a v) (λ text. rest ++ r ≡ (text ++ rest') ++ s → Same (w ∷ ws) (v ∷ vs) r s)
-    (λ none' e. joined (eqb-true w 0 none ∙ sym (eqb-true v 0 none')) (further e))
-    (λ _ e.
-    let above : a + 8 ≤ a = beyond a v (rest' ++ s) fits small' (e ∙ append_assoc (word_line a v) rest' s) in
-    absurd (omega arith)))
-    (λ _.
-    cond_both (eqb v 0) [] (word_line a v) (λ text. (word_line a w ++ rest) ++ r ≡ (text ++ rest') ++ s → Same (w ∷ ws) (v ∷ vs) r s)
-    (λ _ e.
-    let above : a + 8 ≤ a = beyond' a w (rest ++ r) fits small (sym e ∙ append_assoc (word_line a w) rest r) in
-    absurd (omega arith))
-    (λ _ e.
-    let apart = sym (append_assoc (word_line a w) rest r) ∙ e ∙ append_assoc (word_line a v) rest' s in
-    let here = word-told a a w v (rest ++ r) (rest' ++ s) fits fits small small' apart in
-    joined here.1 (further here.2)))
+first-told a w v ws vs rest rest' r s fits small small' beyond beyond' further = grind (arith, cond_both, eqb-true, append_assoc, word-told)
 
 -- as many words from one address on, where what stands behind begins at the end or further on
 words-told : (a : ℕ) (ws vs r s : List ℕ) → length ws ≡ length vs → a + 8 * length ws < 2 ^ 60 → All IsWord ws → All IsWord vs
@@ -102,9 +76,7 @@ object_words object = words_text object.row.base object.words
 -- an object's words end where its pages do, and within 2^60
 object-end : (object : Object) → IsObject object
     → (object.row.base + 8 * length object.words ≡ 4096 * page_behind object.row) × (object.row.base + 8 * length object.words < 2 ^ 60)
-object-end object ok =
-    let place = ok.row.place in
-    (omega (arith, ok.long, place.aligned), omega (arith, ok.long, place.aligned, place.high))
+object-end object ok = grind arith
 
 -- the first object lies before the others
 before-others : (x : Object) (xs : List Object) → AllPairs IsBefore (x ∷ xs) → All (IsBefore x) xs
@@ -162,10 +134,7 @@ objects-told (x ∷ xs) (y ∷ ys) all all' apart apart' rows e =
 -- the text of words has the lowest level
 words-level : (a : ℕ) (ws r : List ℕ) → level r < 1 → level (words_text a ws ++ r) < 1
 words-level a [] r low = low
-words-level a (w ∷ ws) r low =
-    let rest = words_text (a + 8) ws in
-    let further = words-level (a + 8) ws r low in
-    cond_both (eqb w 0) [] (word_line a w) (λ text. level ((text ++ rest) ++ r) < 1) (λ _. further) (λ _. omega arith)
+words-level a (w ∷ ws) r low = grind (arith, (words-level (a + 8) ws r low), cond_both, level)
 
 pub objects-level : (objects : List Object) → level (flat_map object_words objects) < 1
 objects-level [] = omega arith
