@@ -23,7 +23,8 @@ use Rattle.mg_model.specs.declared.instructions.Instr.TheVariants as op
 use Rattle.mg_model.specs.Print.{hex_text, spaced}
 use Rattle.mg_model.specs.Ranges.{IsWord}
 use Rattle.mg_model.specs.Script.{decoded}
-use Rattle.mg_model.specs.Words.{is_newline, is_some_word, split_at}
+use Rattle.std.specs.List.{slice_split}
+use Rattle.mg_model.specs.Words.{is_newline, is_some_word}
 use Rattle.mg_script.specs.DecodedLemmas.{decoded-registers, decoded-word}
 use Rattle.mg_script.specs.Encoded.{HasRegisters, encoded}
 
@@ -192,14 +193,14 @@ room : (before : List Item) (w : ℕ) → words_in before < word_limit → behin
 room before w h = ap (λ v. if v then Ok (item.Word w) else Err TooLong) (lt-ltb (words_in before) word_limit h)
 
 lines-back : (before : List Item) (ws : List ℕ) → All IsWord ws → words_in before + length ws ≤ word_limit
-    → items_behind before (split_at is_newline (printed ws)) ≡ Ok (before ++ word_items ws)
+    → items_behind before (slice_split is_newline (printed ws)) ≡ Ok (before ++ word_items ws)
 unfolding word_items
 lines-back before [] fit few = refl
 lines-back before (w ∷ ws) fit few =
     let fits = All-head IsWord w ws fit in
     let back = word-back w fits in
     let read : behind before (line_reading (word_line w)) ≡ Ok (item.Word w) = ap (behind before) (word-reads w fits) ∙ room before w (omega arith) in
-    let rest = split_at is_newline (printed ws) in
+    let rest = slice_split is_newline (printed ws) in
     let counted = words_in-more before (item.Word w) in
     ap (items_behind before) (split-before is_newline (word_line w) 10 (printed ws) (line-misses is_newline newline_low refl (printed_words w).0 (printed_words w).1 back.high back.are) refl)
     ∙ ap (λ r. with_item (length before + 1) r (λ made. items_behind (before ++ made ∷ []) rest)) read
@@ -213,5 +214,5 @@ words-back all before n (w ∷ ws) = words-back all (before ++ w ∷ []) (n + 1)
 
 pub assembled-printed : (ws : List ℕ) → All IsWord ws → length ws ≤ 524288 → assembled (printed ws) ≡ Ok ws
 assembled-printed ws fit few =
-    ap (λ items. result_flatten (on_ok words_of items)) (sym (items-stepwise (split_at is_newline (printed ws))) ∙ lines-back [] ws fit (omega arith))
+    ap (λ items. result_flatten (on_ok words_of items)) (sym (items-stepwise (slice_split is_newline (printed ws))) ∙ lines-back [] ws fit (omega arith))
     ∙ sym (words-stepwise (word_items ws)) ∙ words-back (word_items ws) [] 1 ws

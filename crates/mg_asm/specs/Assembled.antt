@@ -1,6 +1,6 @@
 -- What a text assembles to.
 use Rattle.std.specs.Prelude.{ℕ, ◌+◌, ◌-◌, ◌*◌, ◌%◌, ◌^◌, nat_lt, Bool, false, List, [], ◌∷◌, map, take, flat_map, if◌then◌else◌, Option, Some, None, Result, Ok, Err, is_some}
-use Rattle.std.specs.List.{enumerate_from}
+use Rattle.std.specs.List.{enumerate_from, slice_split}
 use Rattle.std.specs.Option.{option_map_or, option_to_list}
 use Rattle.std.specs.Result.{ok_prefix, result_flatten}
 use Rattle.mg_asm.specs.declared.faults.AsmFault.{AsmFault}
@@ -12,7 +12,7 @@ use Rattle.mg_asm.specs.declared.items.Item.TheVariants as item
 use Rattle.mg_asm.specs.declared.names.Name.{Name}
 use Rattle.mg_asm.specs.Reading.{Reading, line_reading, on_ok}
 use Rattle.mg_model.specs.Script.{word_end}
-use Rattle.mg_model.specs.Words.{is_newline, same_bytes, split_at}
+use Rattle.mg_model.specs.Words.{is_newline, same_bytes}
 
 -- the most words that a text may have
 abbrev pub word_limit : ℕ
@@ -88,4 +88,4 @@ words_of items = on_ok (flat_map option_to_list) (all_given 1 (map (word_at item
 
 -- what a text assembles to: the words of the items of its lines, or its first fault
 abbrev pub assembled : List ℕ → Result (List ℕ) AsmFault
-assembled text = result_flatten (on_ok words_of (items_of (split_at is_newline text)))
+assembled text = result_flatten (on_ok words_of (items_of (slice_split is_newline text)))

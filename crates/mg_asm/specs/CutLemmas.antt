@@ -1,8 +1,7 @@
 -- The first piece of bytes, and the bytes after the cut.
 use Rattle.std.proofs.Common.{◌≡◌, ℕ, suc, ◌+◌, ◌-◌, ◌<◌, Bool, true, false, not, List, [], ◌∷◌, length, take, drop, refl, ap, arith, length-drop}
 use Rattle.std.proofs.lemmas.List.{take_all}
-use Rattle.std.specs.List.{prefix_len}
-use Rattle.mg_model.specs.Words.{split_at}
+use Rattle.std.specs.List.{prefix_len, slice_split}
 
 -- the number of bytes before the first cut
 abbrev before : (ℕ → Bool) → List ℕ → ℕ
@@ -11,35 +10,35 @@ before cuts bytes = prefix_len (λ b. not (cuts b)) bytes
 -- the pieces after the cut that these bytes begin with, if they begin with one
 abbrev behind_cut : (ℕ → Bool) → List ℕ → List (List ℕ)
 behind_cut cuts [] = []
-behind_cut cuts (b ∷ bytes) = split_at cuts bytes
+behind_cut cuts (b ∷ bytes) = slice_split cuts bytes
 
-byte_case : (cuts : ℕ → Bool) (b : ℕ) (xs : List ℕ) (v : Bool) → cuts b ≡ v → split_at cuts xs ≡ take (before cuts xs) xs ∷ behind_cut cuts (drop (before cuts xs) xs)
-    → split_at cuts (b ∷ xs) ≡ take (before cuts (b ∷ xs)) (b ∷ xs) ∷ behind_cut cuts (drop (before cuts (b ∷ xs)) (b ∷ xs))
+byte_case : (cuts : ℕ → Bool) (b : ℕ) (xs : List ℕ) (v : Bool) → cuts b ≡ v → slice_split cuts xs ≡ take (before cuts xs) xs ∷ behind_cut cuts (drop (before cuts xs) xs)
+    → slice_split cuts (b ∷ xs) ≡ take (before cuts (b ∷ xs)) (b ∷ xs) ∷ behind_cut cuts (drop (before cuts (b ∷ xs)) (b ∷ xs))
 byte_case cuts b xs true e ih = rw e refl
 byte_case cuts b xs false e ih =
     let s : 1 + before cuts xs ≡ suc (before cuts xs) = omega arith in
     rw (e, s, ih) refl
 
-split_at-cut : (cuts : ℕ → Bool) (xs : List ℕ) → split_at cuts xs ≡ take (before cuts xs) xs ∷ behind_cut cuts (drop (before cuts xs) xs)
-split_at-cut cuts [] = refl
-split_at-cut cuts (b ∷ xs) = byte_case cuts b xs (cuts b) refl (split_at-cut cuts xs)
+slice_split-cut : (cuts : ℕ → Bool) (xs : List ℕ) → slice_split cuts xs ≡ take (before cuts xs) xs ∷ behind_cut cuts (drop (before cuts xs) xs)
+slice_split-cut cuts [] = refl
+slice_split-cut cuts (b ∷ xs) = byte_case cuts b xs (cuts b) refl (slice_split-cut cuts xs)
 
 -- by the parts that the code has
 pub cut-none : (cuts : ℕ → Bool) (xs piece rest : List ℕ) (n : ℕ) → n ≡ prefix_len (λ b. not (cuts b)) xs → piece ≡ take n xs → rest ≡ drop n xs → rest ≡ []
-    → split_at cuts xs ≡ piece ∷ []
+    → slice_split cuts xs ≡ piece ∷ []
 cut-none cuts xs piece rest n counted front back none =
-    let at = split_at-cut cuts xs in
+    let at = slice_split-cut cuts xs in
     let gone = ap (behind_cut cuts) none in
     cc
 
-one_cut : (cuts : ℕ → Bool) (rest : List ℕ) → 0 < length rest → behind_cut cuts rest ≡ split_at cuts (drop 1 rest)
+one_cut : (cuts : ℕ → Bool) (rest : List ℕ) → 0 < length rest → behind_cut cuts rest ≡ slice_split cuts (drop 1 rest)
 one_cut cuts [] some = absurd (omega (arith, some))
 one_cut cuts (b ∷ rest) some = refl
 
 pub cut-some : (cuts : ℕ → Bool) (xs piece rest more : List ℕ) (n : ℕ) → n ≡ prefix_len (λ b. not (cuts b)) xs → piece ≡ take n xs → rest ≡ drop n xs
-    → 0 < length rest → more ≡ drop 1 rest → split_at cuts xs ≡ piece ∷ split_at cuts more
+    → 0 < length rest → more ≡ drop 1 rest → slice_split cuts xs ≡ piece ∷ slice_split cuts more
 cut-some cuts xs piece rest more n counted front back some next =
-    let at = split_at-cut cuts xs in
+    let at = slice_split-cut cuts xs in
     let found = one_cut cuts rest some in
     cc
 

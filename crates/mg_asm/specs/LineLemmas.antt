@@ -1,16 +1,16 @@
 -- A line of words as they are printed is read as those words.
 use Rattle.std.specs.Prelude.{◌≡◌, ℕ, ◌^◌, ◌<◌, ◌≤◌, ◌==◌, nat_lt, Bool, true, false, List, [], ◌∷◌, ◌++◌, length, filter, Some, None, if◌then◌else◌}
 use Rattle.std.specs.Fmt.{decimal}
-use Rattle.std.specs.List.{cons_option, filter_map}
+use Rattle.std.specs.List.{cons_option, filter_map, slice_split}
 use Rattle.std.specs.Option.{option_map_or}
 use Rattle.std.proofs.Common.{refl, ap, ◌∙◌, arith}
 use Rattle.std.proofs.lemmas.Bool.Decides.{nat_tests}
 use Rattle.std.proofs.lemmas.Fmt.{decimal_nonempty}
 use Rattle.std.proofs.lemmas.List.{append-nil}
-use Rattle.mg_model.specs.Abbreviations.{longest_line}
-use Rattle.mg_model.specs.Lines.{bad_line, call_line, is_among, is_note, line_of, line_of_words, lines, lone_words, spelled_line, thread_line}
+use Rattle.mg_model.specs.Abbreviations.{is_among, lone_words, longest_line}
+use Rattle.mg_model.specs.Lines.{bad_line, call_line, is_note, line_of, line_of_words, lines, spelled_line, thread_line}
 use Rattle.mg_model.specs.Print.{hex_text, spaced}
-use Rattle.mg_model.specs.Words.{is_blank, is_newline, is_some_word, number_of, split_at, words}
+use Rattle.mg_model.specs.Words.{is_blank, is_newline, is_some_word, number_of, words}
 use Rattle.mg_text.specs.NumberLemmas.{Digits, High, decimal-digits, digits-high, length-hex, number_of-back}
 
 -- no byte cuts
@@ -26,11 +26,11 @@ pub high-misses : (cuts : ℕ → Bool) → ((b : ℕ) → 45 ≤ b → cuts b �
 high-misses cuts low [] h = tt
 high-misses cuts low (b ∷ xs) h = (low b h.0, high-misses cuts low xs h.1)
 
-pub split-whole : (cuts : ℕ → Bool) (xs : List ℕ) → Misses cuts xs → split_at cuts xs ≡ xs ∷ []
+pub split-whole : (cuts : ℕ → Bool) (xs : List ℕ) → Misses cuts xs → slice_split cuts xs ≡ xs ∷ []
 split-whole cuts [] h = refl
 split-whole cuts (b ∷ xs) h = rw (h.0, split-whole cuts xs h.1) refl
 
-pub split-before : (cuts : ℕ → Bool) (xs : List ℕ) (b : ℕ) (ys : List ℕ) → Misses cuts xs → cuts b ≡ true → split_at cuts (xs ++ b ∷ ys) ≡ xs ∷ split_at cuts ys
+pub split-before : (cuts : ℕ → Bool) (xs : List ℕ) (b : ℕ) (ys : List ℕ) → Misses cuts xs → cuts b ≡ true → slice_split cuts (xs ++ b ∷ ys) ≡ xs ∷ slice_split cuts ys
 split-before cuts [] b ys h e = rw e refl
 split-before cuts (x ∷ xs) b ys h e = rw (h.0, split-before cuts xs b ys h.1 e) refl
 
@@ -46,8 +46,8 @@ AreWords [] = Unit {0}
 AreWords (t ∷ ts) = ((is_some_word t ≡ true) × High t) × AreWords ts
 
 pub split-spaced : (cuts : ℕ → Bool) → ((b : ℕ) → 45 ≤ b → cuts b ≡ false) → cuts 32 ≡ true → (t : List ℕ) (ts : List (List ℕ)) → High t → AreWords ts
-    → split_at cuts (t ++ spaced ts) ≡ t ∷ ts
-split-spaced cuts low space t [] h are = ap (split_at cuts) (append-nil t) ∙ split-whole cuts t (high-misses cuts low t h)
+    → slice_split cuts (t ++ spaced ts) ≡ t ∷ ts
+split-spaced cuts low space t [] h are = ap (slice_split cuts) (append-nil t) ∙ split-whole cuts t (high-misses cuts low t h)
 split-spaced cuts low space t (u ∷ us) h are =
     split-before cuts t 32 (u ++ spaced us) (high-misses cuts low t h) space ∙ ap (λ (v : List (List ℕ)). t ∷ v) (split-spaced cuts low space u us are.0.1 are.1)
 

@@ -1,6 +1,6 @@
 -- What a list of words, a number a line, is read as.
 use Rattle.std.specs.Prelude.{ℕ, nat_lt, List, [], ◌∷◌, length, map, take, flat_map, if◌then◌else◌, Option, Some, None, Result, Ok, Err}
-use Rattle.std.specs.List.{enumerate_from}
+use Rattle.std.specs.List.{enumerate_from, slice_split}
 use Rattle.std.specs.Option.{option_to_list}
 use Rattle.std.specs.Result.{ok_prefix}
 use Rattle.mg_asm.specs.declared.faults.AsmFault.{AsmFault}
@@ -9,7 +9,7 @@ use Rattle.mg_asm.specs.declared.faults.AsmKind.TheVariants.{Number, Operands, T
 use Rattle.mg_asm.specs.Assembled.{all_given, word_limit}
 use Rattle.mg_asm.specs.Reading.{from, on_ok, one}
 use Rattle.mg_asm.specs.Tokens.{line_tokens}
-use Rattle.mg_model.specs.Words.{is_newline, number_of, split_at}
+use Rattle.mg_model.specs.Words.{is_newline, number_of}
 
 -- a line has nothing, or one number
 abbrev pub listed_word : List (List ℕ) → Result (Option ℕ) AsmKind
@@ -34,4 +34,4 @@ abbrev pub listed_lines : List (List ℕ) → Result (List ℕ) AsmFault
 listed_lines lines = on_ok (flat_map option_to_list) (all_given 1 (map (listed_at lines) (enumerate_from 0 lines)))
 
 abbrev pub listed : List ℕ → Result (List ℕ) AsmFault
-listed text = listed_lines (split_at is_newline text)
+listed text = listed_lines (slice_split is_newline text)

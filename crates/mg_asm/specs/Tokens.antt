@@ -1,9 +1,10 @@
 -- From the bytes of a line to its words, and from a word to what it spells.
 use Rattle.std.specs.Prelude.{ℕ, ◌-◌, ◌^◌, ◌==◌, ◌&&◌, ◌||◌, nat_le, nat_lt, Bool, false, List, [], ◌∷◌, length, take, filter, slice_index, if◌then◌else◌, Option, Some, None}
-use Rattle.std.specs.List.{list_all}
+use Rattle.std.specs.List.{list_all, slice_split}
 use Rattle.mg_asm.specs.declared.names.Name.{Name}
 use Rattle.mg_model.specs.Bytes.{padded_to}
-use Rattle.mg_model.specs.Words.{and_then, below_word, is_some_word, number_of, split_at, value_of_digits}
+use Rattle.mg_model.specs.Abbreviations.{below_word}
+use Rattle.mg_model.specs.Words.{and_then, is_some_word, number_of, value_of_digits}
 
 -- a space or a tab
 abbrev pub is_gap : ℕ → Bool
@@ -19,11 +20,11 @@ first_piece (piece ∷ pieces) = piece
 
 -- the words of bytes without a note
 abbrev pub tokens : List ℕ → List (List ℕ)
-tokens bytes = filter is_some_word (split_at is_gap bytes)
+tokens bytes = filter is_some_word (slice_split is_gap bytes)
 
 -- the words of a line
 abbrev pub line_tokens : List ℕ → List (List ℕ)
-line_tokens line = tokens (first_piece (split_at begins_note line))
+line_tokens line = tokens (first_piece (slice_split begins_note line))
 
 abbrev pub is_letter : ℕ → Bool
 is_letter b = (nat_le 65 b && nat_le b 90) || (nat_le 97 b && nat_le b 122)

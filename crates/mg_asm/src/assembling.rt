@@ -4,7 +4,8 @@ ghost use Rattle.std.specs.Option.{option_to_list};
 ghost use Rattle.mg_asm.specs.Assembled.{assembled, behind, distance, items_of, made_at, size, words_in, words_of};
 ghost use Rattle.mg_asm.specs.Labels.{AreLabels};
 ghost use Rattle.mg_asm.specs.declared.items.Item.{Item};
-ghost use Rattle.mg_model.specs.Words.{is_newline, split_at};
+ghost use Rattle.std.specs.List.{slice_split};
+ghost use Rattle.mg_model.specs.Words.{is_newline};
 
 use crate::faults::{AsmFault, AsmKind};
 use crate::items::Item;
@@ -28,9 +29,9 @@ pub fn assemble(alloc: Global, text: &[u8]) -> Result<Vec<u64>, AsmFault>
 
 /// The items of a text's lines, and the places of its labels.
 fn items(alloc: Global, text: &[u8]) -> Result<(Vec<Item>, Labels), AsmFault>
-    ensures items { IfOk result (λ p. items_of (split_at is_newline text.now) ≡ Ok p.0.items) }
+    ensures items { IfOk result (λ p. items_of (slice_split is_newline text.now) ≡ Ok p.0.items) }
     ensures labels { IfOk result (λ p. AreLabels p.1 p.0.items) }
-    ensures fault { IfErr result (λ fault. fault ≢ AsmFault.Memory → items_of (split_at is_newline text.now) ≡ Err fault) }
+    ensures fault { IfErr result (λ fault. fault ≢ AsmFault.Memory → items_of (slice_split is_newline text.now) ≡ Err fault) }
 {
     let mut items = Vec::new(alloc);
     let mut labels = HashMap::new(alloc);

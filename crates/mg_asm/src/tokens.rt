@@ -1,9 +1,8 @@
 // The words of a line, and the lines of a text.
 ghost use Rattle.std.specs.Prelude.{◌≡◌, ◌≤◌, ◌<◌, ◌==◌, ◌∷◌, [], length, not, IfNone, IfSome};
-ghost use Rattle.std.specs.List.{prefix_len};
+ghost use Rattle.std.specs.List.{prefix_len, slice_split};
 ghost use Rattle.std.specs.Option.{option_map_or};
 ghost use Rattle.mg_asm.specs.Tokens.{is_gap, tokens};
-ghost use Rattle.mg_model.specs.Words.{split_at};
 
 /// The first word of these bytes, and the bytes after it. None if they have no word.
 pub fn next_token(bytes: &[u8]) -> Option<(&[u8], &[u8])>
@@ -43,7 +42,7 @@ fn gap(byte: u8) -> bool
 
 /// The bytes before the first `end`, and those after it, or None if there is no `end`.
 pub fn cut(bytes: &[u8], end: u8) -> (&[u8], Option<&[u8]>)
-    ensures pieces { split_at (λ b. b == end) bytes.now ≡ result.0.now ∷ option_map_or (λ rest. split_at (λ b. b == end) rest.now) result.1 [] }
+    ensures pieces { slice_split (λ b. b == end) bytes.now ≡ result.0.now ∷ option_map_or (λ rest. slice_split (λ b. b == end) rest.now) result.1 [] }
     ensures shorter { IfSome result.1 (λ rest. length rest.now < length bytes.now) }
 {
     let (piece, rest) = bytes.split_at(before(bytes, end));

@@ -8,13 +8,13 @@ use Rattle.mg_asm.specs.Reading.{on_ok}
 use Rattle.mg_asm.specs.Stored.{store_lines}
 use Rattle.mg_asm.specs.FaultText.{fault_line}
 use Rattle.mg_asm.specs.declared.faults.AsmFault.{AsmFault}
-use Rattle.mg_filter.specs.Whole.{OfWhole, TakesAtMost, TakesMore}
+use Rattle.mg_filter.specs.Whole.{OfWhole, TakesMore}
 use Rattle.mg_filter.specs.declared.status.Status.{Status}
 use Rattle.mg_filter.specs.declared.status.Status.TheVariants as status
 use Rattle.mg_asm_session.specs.declared.words.Command.{Command}
 use Rattle.mg_asm_session.specs.declared.words.Command.TheVariants.{Print, Store}
 use Rattle.mg_faults.specs.Faults.{Rose}
-use Rattle.mg_io.specs.Known.{AppendsPrefix}
+use Rattle.mg_io.specs.Known.{AppendsPrefix, TakesAtMost}
 use Rattle.mg_io.specs.declared.traits.Sink as sinks
 use Rattle.mg_io.specs.declared.traits.Source as sources
 

@@ -7,7 +7,8 @@ use Rattle.std.specs.Option.{option_map_or}
 use Rattle.mg_bank.specs.Bank.{credits_of}
 use Rattle.mg_model.specs.AccountLemmas.{IsRowOf, account_of-row, some_value}
 use Rattle.mg_model.specs.declared.accounts.AccRow.{AccRow}
-use Rattle.mg_model.specs.Bank.{account_of, balance_of, given_to, taken_from, with_account}
+use Rattle.mg_model.specs.Abbreviations.{with_account}
+use Rattle.mg_model.specs.Bank.{account_of, balance_of, credited, debited}
 
 -- the row of each number up to their count
 pub account_of-at : (accounts : List AccRow) (number : ℕ) (d : AccRow) → 1 ≤ number → number ≤ length accounts → account_of accounts number ≡ Some (get_or accounts (number - 1) d)
@@ -40,14 +41,14 @@ pub balance_of-row : (accounts : List AccRow) (number : ℕ) (row : AccRow) → 
 balance_of-row accounts number row is = ap (λ (o : Option AccRow). option_map_or (λ (r : AccRow). r.balance) o 0) is
 
 -- what is taken and given leaves as many accounts
-pub length-taken : (accounts : List AccRow) (number amount : ℕ) → length (taken_from accounts number amount) ≡ length accounts
+pub length-taken : (accounts : List AccRow) (number amount : ℕ) → length (debited accounts number amount) ≡ length accounts
 length-taken accounts number amount = at (account_of accounts number)
   where
     at : (o : Option AccRow) → length (option_map_or (λ (r : AccRow). with_account accounts number (record r { balance = r.balance - amount })) o accounts) ≡ length accounts
     at None = refl
     at (Some row) = length-set accounts (number - 1) (record row { balance = row.balance - amount })
 
-pub length-given : (accounts : List AccRow) (number amount : ℕ) → length (given_to accounts number amount) ≡ length accounts
+pub length-given : (accounts : List AccRow) (number amount : ℕ) → length (credited accounts number amount) ≡ length accounts
 length-given accounts number amount = at (account_of accounts number)
   where
     at : (o : Option AccRow) → length (option_map_or (λ (r : AccRow). with_account accounts number (record r { balance = r.balance + amount })) o accounts) ≡ length accounts

@@ -1,7 +1,8 @@
 // The bank.
 ghost use Rattle.std.specs.Prelude.{◌≡◌, ◌≤◌, ◌<◌, ◌+◌, ◌++◌, ◌∷◌, ◌==◌, [], ℕ, IfOk, if◌then◌else◌, IfSome, is_some, length, true, vec_capacity};
 ghost use Rattle.mg_bank.specs.Bank.{credits_of, pages_at};
-ghost use Rattle.mg_model.specs.Bank.{account_of, balance_of, opens, owed_by, with_account};
+ghost use Rattle.mg_model.specs.Abbreviations.{with_account};
+ghost use Rattle.mg_model.specs.Bank.{account_of, balance_of, opens, owed_by};
 ghost use Rattle.mg_model.specs.Limits.{account_limit, credit_limit};
 
 use crate::rows::{put, row_of};

@@ -2,7 +2,7 @@
 ghost use Rattle.std.specs.Prelude.{◌≡◌, ◌≤◌, ◌+◌, ◌++◌, ◌∷◌, [], IfOk, MatchOption, MatchResult, None, OnErr, OnOk, Some, is_some, length, true};
 ghost use Rattle.mg_bank.specs.Bank.{credits_of};
 ghost use Rattle.mg_bank.specs.Refusals.{MayOpen, MayPay, opening_refusal, paying_refusal};
-ghost use Rattle.mg_model.specs.Bank.{account_of, given_to, taken_from};
+ghost use Rattle.mg_model.specs.Bank.{account_of, credited, debited};
 
 use crate::bank::Bank;
 use crate::rows::{give, take};
@@ -54,7 +54,7 @@ impl Bank {
         ensures refusal { MatchResult result (λ _. opening_refusal self.old.accounts account password credits ≡ None) (λ word. opening_refusal self.old.accounts account password credits ≡ Some word) }
         ensures number { IfOk result (λ number. number ≡ length self.old.accounts + 1) }
         ensures may { OnOk result (MayOpen self.old.accounts account credits) }
-        ensures accounts { OnOk result (self.new.accounts ≡ taken_from self.old.accounts account credits ++ record { password = fresh; balance = credits; owed = 0 } ∷ []) }
+        ensures accounts { OnOk result (self.new.accounts ≡ debited self.old.accounts account credits ++ record { password = fresh; balance = credits; owed = 0 } ∷ []) }
         ensures count { OnOk result (length self.new.accounts ≡ length self.old.accounts + 1) }
         ensures sum { credits_of self.new.accounts ≡ credits_of self.old.accounts }
         ensures pages { self.new.pages ≡ self.old.pages }
@@ -80,7 +80,7 @@ impl Bank {
     pub fn pay(&mut self, from: u64, password: u64, to: u64, credits: u64) -> Result<(), Refusal>
         ensures refusal { MatchResult result (λ _. paying_refusal self.old.accounts from password to credits ≡ None) (λ word. paying_refusal self.old.accounts from password to credits ≡ Some word) }
         ensures may { OnOk result (MayPay self.old.accounts from to credits) }
-        ensures accounts { OnOk result (self.new.accounts ≡ given_to (taken_from self.old.accounts from credits) to credits) }
+        ensures accounts { OnOk result (self.new.accounts ≡ credited (debited self.old.accounts from credits) to credits) }
         ensures count { length self.new.accounts ≡ length self.old.accounts }
         ensures sum { credits_of self.new.accounts ≡ credits_of self.old.accounts }
         ensures pages { self.new.pages ≡ self.old.pages }

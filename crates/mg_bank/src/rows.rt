@@ -1,7 +1,8 @@
 // A list of accounts: account n is at place n - 1.
 ghost use Rattle.std.specs.Prelude.{◌≡◌, ◌≤◌, ◌+◌, IfSome, is_some, length, true};
 ghost use Rattle.mg_bank.specs.Bank.{credits_of};
-ghost use Rattle.mg_model.specs.Bank.{account_of, balance_of, given_to, taken_from, with_account};
+ghost use Rattle.mg_model.specs.Abbreviations.{with_account};
+ghost use Rattle.mg_model.specs.Bank.{account_of, balance_of, credited, debited};
 ghost use Rattle.mg_model.specs.Limits.{credit_limit};
 
 use mg_model::AccRow;
@@ -29,7 +30,7 @@ pub(crate) fn put(rows: &mut [AccRow], account: u64, row: AccRow)
 pub(crate) fn take(rows: &mut [AccRow], account: u64, amount: u64)
     requires there { is_some (account_of rows.old account) ≡ true }
     requires enough { amount ≤ balance_of rows.old account }
-    ensures rows { rows.new ≡ taken_from rows.old account amount }
+    ensures rows { rows.new ≡ debited rows.old account amount }
     ensures sum { credits_of rows.new + amount ≡ credits_of rows.old }
 {
     rows[(account - 1) as usize].balance -= amount;
@@ -39,7 +40,7 @@ pub(crate) fn take(rows: &mut [AccRow], account: u64, amount: u64)
 pub(crate) fn give(rows: &mut [AccRow], account: u64, amount: u64)
     requires there { is_some (account_of rows.old account) ≡ true }
     requires fits { credits_of rows.old + amount ≤ credit_limit }
-    ensures rows { rows.new ≡ given_to rows.old account amount }
+    ensures rows { rows.new ≡ credited rows.old account amount }
     ensures sum { credits_of rows.new ≡ credits_of rows.old + amount }
 {
     rows[(account - 1) as usize].balance += amount;

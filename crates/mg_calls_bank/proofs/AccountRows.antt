@@ -8,11 +8,12 @@ use Rattle.mg_model.specs.declared.replies.Refusal.{Refusal}
 use Rattle.mg_model.specs.declared.replies.Refusal.TheVariants.{Account, Credit, Limit}
 use Rattle.mg_model.specs.declared.replies.Reply.{Reply}
 use Rattle.mg_model.specs.declared.replies.Reply.TheVariants.{Done, Funds, No, Opened}
-use Rattle.mg_model.specs.Bank.{balance_of, given_to, opens, owed_by, pages_of, taken_from}
+use Rattle.mg_model.specs.Bank.{balance_of, credited, opens, owed_by, pages_of, debited}
 use Rattle.mg_model.specs.BankCalls.{balance, open_account, pay}
 use Rattle.mg_model.specs.Limits.{account_limit, draw_limit}
 use Rattle.mg_model.specs.ObjectCalls.{drawn, next_password}
-use Rattle.mg_model.specs.Refused.{Answer, first_refusal, unless_refused}
+use Rattle.mg_model.specs.Abbreviations.{unless_refused}
+use Rattle.mg_model.specs.Refused.{Answer, first_refusal}
 use Rattle.mg_model.specs.State.{Counters, Object, ObjectRow, State}
 use Rattle.mg_rent.specs.PaidLemmas.{paid-through, row_pages}
 use Rattle.mg_volume.specs.Held.{VolumeHeld}
@@ -31,10 +32,10 @@ opening_of accounts counters account password amount =
 -- what they do if none holds
 abbrev pub opened_of : State → ℕ → ℕ → Answer
 opened_of state account amount =
-    (record (drawn state) { accounts = taken_from state.accounts account amount ++ record { password = next_password state; balance = amount; owed = 0 } ∷ [] }, Opened (length state.accounts + 1) (next_password state))
+    (record (drawn state) { accounts = debited state.accounts account amount ++ record { password = next_password state; balance = amount; owed = 0 } ∷ [] }, Opened (length state.accounts + 1) (next_password state))
 
 abbrev pub paid_of : State → ℕ → ℕ → ℕ → Answer
-paid_of state account to amount = (record state { accounts = given_to (taken_from state.accounts account amount) to amount }, Done)
+paid_of state account to amount = (record state { accounts = credited (debited state.accounts account amount) to amount }, Done)
 
 pub account-is : (v : VolumeHeld) (image : List (List ℕ)) (account password amount : ℕ) (word : Option Refusal) → word ≡ opening_refusal v account password amount → open_account (now_of v image) account password amount ≡ unless_refused word (now_of v image) (opened_of (now_of v image) account amount)
 account-is v image account password amount word is =
@@ -53,17 +54,17 @@ drawn-accounts old mid now = sym (now_accounts mid []) ∙ ap (λ (s : State). s
 
 -- what is staged is the state after it
 pub opened : (state mid new : State) (accounts : List AccRow) (account amount number fresh : ℕ) → accounts ≡ state.accounts → number ≡ length state.accounts + 1 → fresh ≡ next_password state → mid ≡ drawn state
-    → new ≡ record mid { accounts = taken_from accounts account amount ++ record { password = fresh; balance = amount; owed = 0 } ∷ [] } → opened_of state account amount ≡ (new, Opened number fresh)
+    → new ≡ record mid { accounts = debited accounts account amount ++ record { password = fresh; balance = amount; owed = 0 } ∷ [] } → opened_of state account amount ≡ (new, Opened number fresh)
 opened state mid new accounts account amount number fresh same count fresh_is mid_is new_is =
-    ap (λ n. (record (drawn state) { accounts = taken_from state.accounts account amount ++ record { password = next_password state; balance = amount; owed = 0 } ∷ [] }, Opened n (next_password state))) (sym count)
-    ∙ ap (λ f. (record (drawn state) { accounts = taken_from state.accounts account amount ++ record { password = f; balance = amount; owed = 0 } ∷ [] }, Opened number f)) (sym fresh_is)
-    ∙ ap (λ (a : List AccRow). (record (drawn state) { accounts = taken_from a account amount ++ record { password = fresh; balance = amount; owed = 0 } ∷ [] }, Opened number fresh)) (sym same)
-    ∙ ap (λ (s : State). (record s { accounts = taken_from accounts account amount ++ record { password = fresh; balance = amount; owed = 0 } ∷ [] }, Opened number fresh)) (sym mid_is)
+    ap (λ n. (record (drawn state) { accounts = debited state.accounts account amount ++ record { password = next_password state; balance = amount; owed = 0 } ∷ [] }, Opened n (next_password state))) (sym count)
+    ∙ ap (λ f. (record (drawn state) { accounts = debited state.accounts account amount ++ record { password = f; balance = amount; owed = 0 } ∷ [] }, Opened number f)) (sym fresh_is)
+    ∙ ap (λ (a : List AccRow). (record (drawn state) { accounts = debited a account amount ++ record { password = fresh; balance = amount; owed = 0 } ∷ [] }, Opened number fresh)) (sym same)
+    ∙ ap (λ (s : State). (record s { accounts = debited accounts account amount ++ record { password = fresh; balance = amount; owed = 0 } ∷ [] }, Opened number fresh)) (sym mid_is)
     ∙ ap (λ (s : State). (s, Opened number fresh)) (sym new_is)
 
-pub paid : (state new : State) (accounts : List AccRow) (account to amount : ℕ) → accounts ≡ state.accounts → new ≡ record state { accounts = given_to (taken_from accounts account amount) to amount } → paid_of state account to amount ≡ (new, Done)
+pub paid : (state new : State) (accounts : List AccRow) (account to amount : ℕ) → accounts ≡ state.accounts → new ≡ record state { accounts = credited (debited accounts account amount) to amount } → paid_of state account to amount ≡ (new, Done)
 paid state new accounts account to amount same new_is =
-    ap (λ (a : List AccRow). (record state { accounts = given_to (taken_from a account amount) to amount }, Done)) (sym same) ∙ ap (λ (s : State). (s, Done)) (sym new_is)
+    ap (λ (a : List AccRow). (record state { accounts = credited (debited a account amount) to amount }, Done)) (sym same) ∙ ap (λ (s : State). (s, Done)) (sym new_is)
 
 -- what is known of an account that is opened
 abbrev funds_of : State → ℕ → Answer

@@ -8,7 +8,8 @@ use Rattle.mg_model.specs.declared.replies.Reply.TheVariants.{Collected, No}
 use Rattle.mg_model.specs.Bank.{rate_now, rent_accounts, rent_paid}
 use Rattle.mg_model.specs.BankCalls.{rent}
 use Rattle.mg_model.specs.Limits.{period_limit}
-use Rattle.mg_model.specs.Refused.{Answer, unless_refused}
+use Rattle.mg_model.specs.Abbreviations.{unless_refused}
+use Rattle.mg_model.specs.Refused.{Answer}
 use Rattle.mg_model.specs.State.{Counters, State}
 use Rattle.mg_model.specs.WellFormed.{IsAccount, IsWellFormed}
 use Rattle.mg_rent.specs.Charging.{OweAtMost}

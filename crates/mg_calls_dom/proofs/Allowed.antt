@@ -12,7 +12,7 @@ use Rattle.mg_disk.specs.Disk.{Image}
 use Rattle.mg_laws.specs.Backing.{BackedAllows, OpeningBacks}
 use Rattle.mg_model.specs.declared.rights.Right.{Right}
 use Rattle.mg_model.specs.declared.seats.Seat.{Seat}
-use Rattle.mg_model.specs.Access.{allowed, at, covers, domain_of, entries_under, holds}
+use Rattle.mg_model.specs.Access.{allowed, at, covers, domain_of, pairs_under, holds}
 use Rattle.mg_model.specs.Backed.{IsBacked}
 use Rattle.mg_model.specs.State.{Counters, Object, ObjectRow, State}
 use Rattle.mg_model.specs.WellFormed.{IsWellFormed}
@@ -55,9 +55,9 @@ module _ (state : State) (t a : ℕ) (sought : Sought) (found : find (λ (r : Ob
   pub opened-backed : (via : ℕ) → IsWellFormed state → OpeningBacks → IsOpenedBy state sought (domain_of state t) via → IsBacked state (record { thread = t; base = sought.object.base; right = sought.right; via = via })
   opened-backed via formed backs is =
       let (object, there, same) = found-object (at state.objects a) sought.object (sym (find-rows (λ (r : ObjectRow). covers r a) state.objects) ∙ found) in
-      let opens : list_any (λ (entry : ℕ × ℕ). entry.0 == object.row.base && holds state.counters.period object.row entry.1 sought.right) (entries_under state.objects state.counters.period is.slot) ≡ true =
-      ap (λ (r : ObjectRow). list_any (λ (entry : ℕ × ℕ). entry.0 == r.base && holds state.counters.period r entry.1 sought.right) (entries_under state.objects state.counters.period is.slot)) same
-      ∙ ap (λ p. list_any (λ (entry : ℕ × ℕ). entry.0 == sought.object.base && holds p sought.object entry.1 sought.right) (entries_under state.objects p is.slot)) period
+      let opens : list_any (λ (entry : ℕ × ℕ). entry.0 == object.row.base && holds state.counters.period object.row entry.1 sought.right) (pairs_under state.objects state.counters.period is.slot) ≡ true =
+      ap (λ (r : ObjectRow). list_any (λ (entry : ℕ × ℕ). entry.0 == r.base && holds state.counters.period r entry.1 sought.right) (pairs_under state.objects state.counters.period is.slot)) same
+      ∙ ap (λ p. list_any (λ (entry : ℕ × ℕ). entry.0 == sought.object.base && holds p sought.object entry.1 sought.right) (pairs_under state.objects p is.slot)) period
       ∙ is.opened in
       let backed = backs state t a sought.right object is.slot formed there is.among opens in
       subst (λ b. IsBacked state (record { thread = t; base = b; right = sought.right; via = via })) (ap (λ (r : ObjectRow). r.base) same)

@@ -19,14 +19,14 @@ use Rattle.mg_model.specs.declared.replies.Reply.TheVariants.{Count, No}
 use Rattle.mg_model.specs.declared.rights.Right.TheVariants.{P}
 use Rattle.mg_model.specs.declared.seats.Seat.{Seat}
 use Rattle.mg_model.specs.declared.slots.Slot.{Slot}
-use Rattle.mg_model.specs.Abbreviations.{entered_slots}
+use Rattle.mg_model.specs.Abbreviations.{entered_slots, unless_refused}
 use Rattle.mg_model.specs.Access.{allowed, last_slots, thread_of}
-use Rattle.mg_model.specs.Accesses.{words_of}
+use Rattle.mg_model.specs.Accesses.{line_words}
 use Rattle.mg_model.specs.Backed.{KeepsBacked, by_thread}
 use Rattle.mg_model.specs.Domains.{frames_of, kept_from, last_back, pdx, ret, with_thread}
 use Rattle.mg_model.specs.Limits.{frame_limit, slot_limit}
 use Rattle.mg_model.specs.ObjectCalls.{is_aligned, is_entry, row_at}
-use Rattle.mg_model.specs.Refused.{Answer, first_refusal, unless_refused}
+use Rattle.mg_model.specs.Refused.{Answer, first_refusal}
 use Rattle.mg_model.specs.State.{CallFrame, ObjectRow, State, Thread, ThreadRow}
 use Rattle.mg_model.specs.Step.{step}
 use Rattle.mg_model.specs.Threads.{is_thread}
@@ -95,7 +95,7 @@ module _ (state : State) (t a mask : ℕ) where
   neither false = refl
 
   -- it has no word of its own
-  pub no-words : words_of state (record { thread = t; call = call.Pdx a mask }) ≡ 0
+  pub no-words : line_words state (record { thread = t; call = call.Pdx a mask }) ≡ 0
   no-words = neither (is_thread state t)
 
   -- when it is done it disturbs, and ends the seats of its thread alone

@@ -11,23 +11,23 @@ use Rattle.mg_calls_dom.specs.declared.lists.Sought.{Sought}
 use Rattle.mg_model.specs.declared.rights.Right.{Right}
 use Rattle.mg_model.specs.declared.rights.Right.TheVariants.{R}
 use Rattle.mg_model.specs.declared.slots.Slot.{Slot}
-use Rattle.mg_model.specs.Access.{at, based_at, capabilities, covers, entries_of, holds, reaches}
+use Rattle.mg_model.specs.Access.{at, based_at, capabilities, covers, pairs_of, holds, reaches}
 use Rattle.mg_model.specs.State.{Object, ObjectRow, State}
 
 -- a slot whose base has no object opens nothing
 pub slot-none : (state : State) (sought : Sought) (slot : Slot) → find (λ (r : ObjectRow). r.base == slot.base) (map (λ (o : Object). o.row) state.objects) ≡ None → slot_opens state sought slot ≡ false
 slot-none state sought slot none =
     let gone = found-none (based_at state.objects slot.base) (sym (find-rows (λ (r : ObjectRow). r.base == slot.base) state.objects) ∙ none) in
-    ap (λ (o : Option Object). list_any (λ entry. opens sought entry) (option_map_or (λ (clist : Object). if holds sought.period clist.row slot.password R then entries_of clist.words else []) o [])) gone
+    ap (λ (o : Option Object). list_any (λ entry. opens sought entry) (option_map_or (λ (clist : Object). if holds sought.period clist.row slot.password R then pairs_of clist.words else []) o [])) gone
 
 -- one whose base has one opens what the words of that one list, if it holds the slot's password with R
 pub slot-some : (state : State) (sought : Sought) (slot : Slot) (row : ObjectRow) → find (λ (r : ObjectRow). r.base == slot.base) (map (λ (o : Object). o.row) state.objects) ≡ Some row
-    → slot_opens state sought slot ≡ list_any (λ entry. opens sought entry) (if holds sought.period row slot.password R then entries_of (words_based state.objects slot.base) else [])
+    → slot_opens state sought slot ≡ list_any (λ entry. opens sought entry) (if holds sought.period row slot.password R then pairs_of (words_based state.objects slot.base) else [])
 slot-some state sought slot row found =
     let (object, is, same) = found-object (based_at state.objects slot.base) row (sym (find-rows (λ (r : ObjectRow). r.base == slot.base) state.objects) ∙ found) in
-    ap (λ (o : Option Object). list_any (λ entry. opens sought entry) (option_map_or (λ (clist : Object). if holds sought.period clist.row slot.password R then entries_of clist.words else []) o [])) is
-    ∙ ap (λ (r : ObjectRow). list_any (λ entry. opens sought entry) (if holds sought.period r slot.password R then entries_of object.words else [])) same
-    ∙ ap (λ (o : Option Object). list_any (λ entry. opens sought entry) (if holds sought.period row slot.password R then entries_of (option_map_or (λ (x : Object). x.words) o []) else [])) (sym is)
+    ap (λ (o : Option Object). list_any (λ entry. opens sought entry) (option_map_or (λ (clist : Object). if holds sought.period clist.row slot.password R then pairs_of clist.words else []) o [])) is
+    ∙ ap (λ (r : ObjectRow). list_any (λ entry. opens sought entry) (if holds sought.period r slot.password R then pairs_of object.words else [])) same
+    ∙ ap (λ (o : Option Object). list_any (λ entry. opens sought entry) (if holds sought.period row slot.password R then pairs_of (option_map_or (λ (x : Object). x.words) o []) else [])) (sym is)
 
 reaches-nowhere : (state : State) (slots : List Slot) (a : ℕ) (right : Right) → at state.objects a ≡ None → reaches state.objects state.counters.period slots a right ≡ false
 reaches-nowhere state slots a right none =

@@ -11,7 +11,8 @@ use Rattle.mg_model.specs.declared.slots.Slot.{Slot}
 use Rattle.mg_model.specs.Access.{last_slots, thread_of}
 use Rattle.mg_model.specs.Domains.{apdadd, apddel, with_last_slots, with_slots}
 use Rattle.mg_model.specs.Limits.{slot_limit}
-use Rattle.mg_model.specs.Refused.{first_refusal, unless_refused}
+use Rattle.mg_model.specs.Abbreviations.{unless_refused}
+use Rattle.mg_model.specs.Refused.{first_refusal}
 use Rattle.mg_model.specs.State.{State, Thread, ThreadRow}
 use Rattle.mg_calls_dom.specs.ThreadLemmas.{slots-of}
 

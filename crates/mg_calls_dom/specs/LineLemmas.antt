@@ -4,7 +4,7 @@ use Rattle.std.proofs.Common.{arith, refl, ap, ◌∙◌}
 use Rattle.std.proofs.lemmas.Bool.{eq-eqb}
 use Rattle.mg_laws.specs.Costs.{SearchesKeepRules}
 use Rattle.mg_model.specs.declared.calls.Line.{Line}
-use Rattle.mg_model.specs.Accesses.{Access, accesses, words_of}
+use Rattle.mg_model.specs.Accesses.{Access, accesses, line_words}
 use Rattle.mg_model.specs.Kept.{KeepsKeys, KeepsLine, KeepsRules, Searches, Validates, access_limit, is_served, line_limit, searches_limit}
 use Rattle.mg_model.specs.Keys.{Key, is_elsewhere, seat_of, taken}
 use Rattle.mg_model.specs.State.{State}
@@ -12,7 +12,7 @@ use Rattle.mg_model.specs.Threads.{is_thread}
 use Rattle.mg_model.specs.Warmth.{failing, is_disturbing}
 
 -- a line that was answered
-pub keeps_line : (state : State) (line : Line) (kept kept' : Key → Bool) (steps steps' words : ℕ) → KeepsRules state (accesses state line) kept kept' words → steps' ≡ steps + words_of state line + words
+pub keeps_line : (state : State) (line : Line) (kept kept' : Key → Bool) (steps steps' words : ℕ) → KeepsRules state (accesses state line) kept kept' words → steps' ≡ steps + line_words state line + words
     → KeepsLine state line kept kept' steps steps'
 keeps_line state line kept kept' steps steps' words rules count = record {
   keys = λ quiet. rules.keys;
@@ -22,7 +22,7 @@ keeps_line state line kept kept' steps steps' words rules count = record {
 
 -- the same of one that may have dropped keys after its accesses, if it disturbs
 pub drops_line : (state : State) (line : Line) (kept kept' : Key → Bool) (steps steps' words : ℕ) → (is_disturbing state line ≡ false → KeepsKeys state (accesses state line) kept kept') → words ≤ searches_limit kept state (accesses state line)
-    → steps' ≡ steps + words_of state line + words → KeepsLine state line kept kept' steps steps'
+    → steps' ≡ steps + line_words state line + words → KeepsLine state line kept kept' steps steps'
 drops_line state line kept kept' steps steps' words keys few count = record { keys = keys; least = omega arith; most = omega arith }
 
 -- accesses that make none leave all

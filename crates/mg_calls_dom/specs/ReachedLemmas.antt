@@ -9,7 +9,8 @@ use Rattle.mg_calls_dom.specs.Searching.{allowed_row, reached_row}
 use Rattle.mg_disk.specs.Disk.{Image}
 use Rattle.mg_model.specs.declared.rights.Right.{Right}
 use Rattle.mg_model.specs.Access.{allowed, at, capabilities, domain_of, holds, last_slots, thread_of}
-use Rattle.mg_model.specs.ObjectCalls.{no_row, row_at}
+use Rattle.mg_model.specs.Abbreviations.{no_row}
+use Rattle.mg_model.specs.ObjectCalls.{row_at}
 use Rattle.mg_model.specs.State.{Object, ObjectRow, State, Thread}
 use Rattle.mg_model.specs.Threads.{is_thread}
 use Rattle.mg_volume.specs.Held.{VolumeHeld}

@@ -9,7 +9,7 @@ use Rattle.mg_model.specs.declared.rights.Right.{Right}
 use Rattle.mg_model.specs.declared.slots.Slot.{Slot}
 use Rattle.mg_model.specs.Accesses.{Access, word_access}
 use Rattle.mg_model.specs.Threads.{is_thread}
-use Rattle.mg_model.specs.Access.{allowed, at, based_at, covers, entries_under, holds, reaches}
+use Rattle.mg_model.specs.Access.{allowed, at, based_at, covers, pairs_under, holds, reaches}
 use Rattle.mg_model.specs.ObjectCalls.{is_aligned}
 use Rattle.mg_model.specs.Refused.{first_refusal}
 use Rattle.mg_model.specs.State.{Object, ObjectRow, State}
@@ -35,7 +35,7 @@ opens sought entry = entry.0 == sought.object.base && holds sought.period sought
 
 -- whether the capability list of a slot opens it
 abbrev pub slot_opens : State → Sought → Slot → Bool
-slot_opens state sought slot = list_any (λ entry. opens sought entry) (entries_under state.objects sought.period slot)
+slot_opens state sought slot = list_any (λ entry. opens sought entry) (pairs_under state.objects sought.period slot)
 
 -- one of these slots opens it, by the capability list with this base
 pub record IsOpenedBy (state : State) (sought : Sought) (slots : List Slot) (via : ℕ) : Type 0 where

@@ -9,7 +9,7 @@ use Rattle.mg_model.specs.declared.calls.Call.{Call}
 use Rattle.mg_model.specs.declared.calls.Line.{Line}
 use Rattle.mg_model.specs.declared.replies.Reply.{Reply}
 use Rattle.mg_model.specs.declared.seats.Seat.{Seat}
-use Rattle.mg_model.specs.Accesses.{accesses, words_of}
+use Rattle.mg_model.specs.Accesses.{accesses, line_words}
 use Rattle.mg_model.specs.FewSlots.{HasFewSlots}
 use Rattle.mg_model.specs.Kept.{KeepsLine, KeepsRules}
 use Rattle.mg_model.specs.Turn.{thread_call}
@@ -24,7 +24,7 @@ module _ {D E : Type 0} (facts : Ghosts D) (old new : VolumeHeld) (seats seats' 
   pub read_call :
       (t : ℕ) (made : Call) (reply : Reply) → HasFewSlots reply → ForSome (facts.seen before) (λ image. thread_call (now_of old image) t made ≡ (now_of old image, reply)) → ForSome (facts.seen before) (λ image. AllBacked (now_of new image) seats')
       → ForSome (facts.seen before) (λ image. KeepsRules (now_of old image) (accesses (now_of old image) (record { thread = t; call = made })) (λ key. is_kept seats key) (λ key. is_kept seats' key) (steps' - steps))
-      → ForSome (facts.seen before) (λ image. words_of (now_of old image) (record { thread = t; call = made }) ≡ 0) → Reads facts old new before after steps steps' → CallReads {E = E} facts (of_call t made) (Ok reply) old new seats seats' before after steps steps'
+      → ForSome (facts.seen before) (λ image. line_words (now_of old image) (record { thread = t; call = made }) ≡ 0) → Reads facts old new before after steps steps' → CallReads {E = E} facts (of_call t made) (Ok reply) old new seats seats' before after steps steps'
   read_call t made reply few answers backed rules own run =
       let line : Line = record { thread = t; call = made } in
       let keeps : ForSome (facts.seen before) (λ image. KeepsLine (now_of old image) line (λ key. is_kept seats key) (λ key. is_kept seats' key) steps steps') = λ image told.

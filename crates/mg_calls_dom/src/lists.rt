@@ -5,7 +5,7 @@ ghost use Rattle.std.specs.Option.{ForSome};
 ghost use Rattle.mg_calls_dom.specs.Searching as searching;
 ghost use Rattle.mg_calls_dom.specs.Searching.{IsOpenedBy};
 ghost use Rattle.mg_disk.specs.Stops.{CountRose};
-ghost use Rattle.mg_model.specs.Access.{domain_of, entries_of};
+ghost use Rattle.mg_model.specs.Access.{domain_of, pairs_of};
 ghost use Rattle.mg_model.specs.Limits.{page_size, search_limit};
 ghost use Rattle.mg_volume.specs.Pairs.{ArePlaces, IsNextPair, words_looked_at};
 ghost use Rattle.mg_volume.specs.Calls.{IsSoundOn, Reads};
@@ -83,7 +83,7 @@ fn list_opens<D: Disk, L: Ledger>(
     requires sound { IsSoundOn D.Disk volume.old disk.old }
     requires held { IsSome (find (λ row. row.base == list) (objects_in volume.old)) }
     requires page { has_page volume.old (list / page_size) ≡ true }
-    ensures opens { IfOk result (λ found. ForSome (D.seen disk.old) (λ image. found ≡ list_any (λ entry. searching.opens sought.now entry) (entries_of (searching.words_based (now_of volume.old image).objects list)))) }
+    ensures opens { IfOk result (λ found. ForSome (D.seen disk.old) (λ image. found ≡ list_any (λ entry. searching.opens sought.now entry) (pairs_of (searching.words_based (now_of volume.old image).objects list)))) }
     ensures at_most_511_read { steps.new ≤ steps.old + 511 }
     ensures reads { Reads D.Disk volume.old volume.new disk.old disk.new steps.old steps.new }
     ensures cause { OnErr result (CountRose D.Disk disk.old disk.new) }

@@ -13,7 +13,7 @@ use Rattle.mg_model.specs.declared.replies.Reply.TheVariants.{No}
 use Rattle.mg_model.specs.declared.rights.Right.{Right}
 use Rattle.mg_model.specs.declared.seats.Seat.{Seat}
 use Rattle.mg_model.specs.Access.{allowed}
-use Rattle.mg_model.specs.Accesses.{Access, accesses, words_of}
+use Rattle.mg_model.specs.Accesses.{Access, accesses, line_words}
 use Rattle.mg_model.specs.Backed.{KeepsBacked, by_via, ended_by_call}
 use Rattle.mg_model.specs.Kept.{KeepsKeys, KeepsLine, KeepsRules, Searches, Validates, access_limit, line_limit, searches_limit}
 use Rattle.mg_model.specs.Keys.{Key}
@@ -37,7 +37,7 @@ no_words false = refl
 
 pub record IsLine (state : State) (t : ℕ) (made : Call) : Type 0 where
   pub those : accesses state (record { thread = t; call = made }) ≡ (if is_thread state t then access_of t made ∷ [] else [])
-  pub words : words_of state (record { thread = t; call = made }) ≡ 0
+  pub words : line_words state (record { thread = t; call = made }) ≡ 0
   pub answer : step state (record { thread = t; call = made }) ≡ of_thread state t (thread_call state t made)
   pub disturbing : disturbs state t made ≡ true
 

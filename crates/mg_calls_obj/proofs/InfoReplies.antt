@@ -5,13 +5,14 @@ use Rattle.mg_calls_dom.specs.Searching.{allowed_row}
 use Rattle.mg_model.specs.declared.replies.Refusal.TheVariants.{Denied}
 use Rattle.mg_model.specs.declared.replies.Reply.TheVariants.{No}
 use Rattle.mg_model.specs.declared.rights.Right.{Right}
-use Rattle.mg_model.specs.ObjectCalls.{about, any_allowed, info, row_at}
-use Rattle.mg_model.specs.Refused.{row}
+use Rattle.mg_model.specs.Abbreviations.{any_allowed}
+use Rattle.mg_model.specs.ObjectCalls.{about, info, row_at}
+use Rattle.mg_model.specs.Refused.{checked}
 use Rattle.mg_model.specs.State.{ObjectRow, State}
 
 module _ (state : State) (t a : ℕ) where
-  by_any : (v : Bool) → any_allowed state t a ≡ v → info state t a ≡ row state ((not v, Denied) ∷ []) (state, about (row_at state a))
-  by_any v any = ap (λ b. row state ((not b, Denied) ∷ []) (state, about (row_at state a))) any
+  by_any : (v : Bool) → any_allowed state t a ≡ v → info state t a ≡ checked state ((not v, Denied) ∷ []) (state, about (row_at state a))
+  by_any v any = ap (λ b. checked state ((not b, Denied) ∷ []) (state, about (row_at state a))) any
 
   pub info-denied : any_allowed state t a ≡ false → info state t a ≡ (state, No Denied)
   info-denied none = by_any false none

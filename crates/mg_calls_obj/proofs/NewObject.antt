@@ -13,7 +13,8 @@ use Rattle.mg_model.specs.Bank.{opens, owed_by, used}
 use Rattle.mg_model.specs.Limits.{draw_limit, object_limit, object_page_limit}
 use Rattle.mg_model.specs.ObjectCalls.{create, drawn, next_password}
 use Rattle.mg_model.specs.Objects.{lowest_free, new_object, with_object}
-use Rattle.mg_model.specs.Refused.{Answer, first_refusal, unless_refused}
+use Rattle.mg_model.specs.Abbreviations.{unless_refused}
+use Rattle.mg_model.specs.Refused.{Answer, first_refusal}
 use Rattle.mg_model.specs.Settings.{Settings}
 use Rattle.mg_model.specs.State.{Counters, Object, ObjectRow, State}
 use Rattle.mg_volume.specs.Held.{VolumeHeld}

@@ -11,7 +11,7 @@ use Rattle.mg_model.specs.declared.calls.Line.{Line}
 use Rattle.mg_model.specs.declared.rights.Right.{Right}
 use Rattle.mg_model.specs.declared.seats.Seat.{Seat}
 use Rattle.mg_model.specs.Access.{allowed}
-use Rattle.mg_model.specs.Accesses.{Access, tried, words_of}
+use Rattle.mg_model.specs.Accesses.{Access, tried, line_words}
 use Rattle.mg_model.specs.Kept.{Searches, Validates, access_limit, searches_limit}
 use Rattle.mg_model.specs.Keys.{Key}
 use Rattle.mg_model.specs.State.{State, Thread}
@@ -97,7 +97,7 @@ pub gone-since : (a b : VolumeHeld) (t : ℕ) → Keeps a b → find (λ (thread
 gone-since a b t keeps gone = ap (λ threads. find (λ (thread : Thread). thread.number == t) threads) (same_threads a b keeps) ∙ gone
 
 -- an `info` has no word of its own
-pub no-words : (state : State) (t a : ℕ) → (let line : Line = record { thread = t; call = call.Info a } in words_of state line) ≡ 0
+pub no-words : (state : State) (t a : ℕ) → (let line : Line = record { thread = t; call = call.Info a } in line_words state line) ≡ 0
 no-words state t a = by_thread (is_thread state t)
   where
     by_thread : (v : Bool) → (let n : ℕ = if v then 0 else 0 in n) ≡ 0

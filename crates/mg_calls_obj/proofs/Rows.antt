@@ -13,7 +13,8 @@ use Rattle.mg_model.specs.Bank.{opens, owed_by}
 use Rattle.mg_model.specs.Limits.{never, password_limit}
 use Rattle.mg_model.specs.ObjectCalls.{all_drawn, delete, drawn, entry, ext, extension_of, has_password, is_entry, is_past, next_password, pwadd, pwdel, recharge, row_at, with_entry}
 use Rattle.mg_model.specs.Objects.{with_row, without_object}
-use Rattle.mg_model.specs.Refused.{Answer, first_refusal, row, unless_refused}
+use Rattle.mg_model.specs.Abbreviations.{unless_refused}
+use Rattle.mg_model.specs.Refused.{Answer, first_refusal, checked}
 use Rattle.mg_model.specs.State.{ObjectRow, State}
 use Rattle.mg_volume.specs.Held.{VolumeHeld}
 use Rattle.mg_volume.specs.Meaning.{accounts_in}
@@ -79,7 +80,7 @@ module _ (state : State) (t a : ℕ) (object : ObjectRow) (named : row_at state 
   -- `delete`
   pub delete-is : allowed state t a D ≡ true → delete state t a ≡ (record state { objects = without_object object.base state.objects }, Done)
   delete-is may =
-      ap (λ m. row state ((not m, Denied) ∷ []) (record state { objects = without_object (row_at state a).base state.objects }, Done)) may
+      ap (λ m. checked state ((not m, Denied) ∷ []) (record state { objects = without_object (row_at state a).base state.objects }, Done)) may
       ∙ ap (λ (r : ObjectRow). (record state { objects = without_object r.base state.objects }, Done)) named
 
   module _ (may : allowed state t a O ≡ true) where
@@ -89,7 +90,7 @@ module _ (state : State) (t a : ℕ) (object : ObjectRow) (named : row_at state 
 
     -- `pwdel`
     abbrev by_has : Bool → Bool → Answer → Answer
-    by_has m has done = row state ((not m, Denied) ∷ (not has, NoPassword) ∷ []) done
+    by_has m has done = checked state ((not m, Denied) ∷ (not has, NoPassword) ∷ []) done
 
     pub pwdel-is : (password : ℕ) (has : Bool) → list_any (λ pw. has_password password pw) object.passwords ≡ has → pwdel state t a password ≡ by_has true has (changed state object (without_password password), Done)
     pwdel-is password has is =
@@ -98,7 +99,7 @@ module _ (state : State) (t a : ℕ) (object : ObjectRow) (named : row_at state 
 
     -- `pwadd`
     abbrev by_past : Bool → Bool → Bool → Answer → Answer
-    by_past m past limit done = row state ((not m, Denied) ∷ (past, Past) ∷ (limit, Limit) ∷ []) done
+    by_past m past limit done = checked state ((not m, Denied) ∷ (past, Past) ∷ (limit, Limit) ∷ []) done
 
     pub pwadd-is :
         (rights : ℕ) (until : Option ℕ) (past limit : Bool) → is_past state.counters.period until ≡ past → (nat_le password_limit (length object.passwords) || all_drawn state) ≡ limit
@@ -111,7 +112,7 @@ module _ (state : State) (t a : ℕ) (object : ObjectRow) (named : row_at state 
 
     -- `entry`
     abbrev by_place : Bool → Bool → Bool → Answer → Answer
-    by_place m outside crowded done = row state ((not m, Denied) ∷ (outside, Range) ∷ (crowded, Limit) ∷ []) done
+    by_place m outside crowded done = checked state ((not m, Denied) ∷ (outside, Range) ∷ (crowded, Limit) ∷ []) done
 
     pub entry-is :
         (off address : ℕ) (outside crowded : Bool) → address ≡ object.base + off → is_outside object off ≡ outside → is_crowded object address ≡ crowded
@@ -125,7 +126,7 @@ module _ (state : State) (t a : ℕ) (object : ObjectRow) (named : row_at state 
 
     -- `ext`
     pub ext-is : (clist password : ℕ) → ext state t a clist password ≡ (changed state object (λ r. record r { extension = extension_of clist password }), Done)
-    ext-is clist password = of_owner (λ m r. row state ((not m, Denied) ∷ []) (changed state r (λ o. record o { extension = extension_of clist password }), Done))
+    ext-is clist password = of_owner (λ m r. checked state ((not m, Denied) ∷ []) (changed state r (λ o. record o { extension = extension_of clist password }), Done))
 
     -- `recharge`
     pub recharge-is :
@@ -133,6 +134,6 @@ module _ (state : State) (t a : ℕ) (object : ObjectRow) (named : row_at state 
         → recharge state t a account password ≡ unless_refused word state (changed state object (λ r. record r { account = account }), Done)
     recharge-is v account password word accounts is =
         let done : ObjectRow → Answer = λ r. (changed state r (λ o. record o { account = account }), Done) in
-        of_owner (λ m r. row state ((not m, Denied) ∷ (not (opens state.accounts account password), Account) ∷ (nat_lt 0 (owed_by state.accounts account), Debt) ∷ []) (done r))
+        of_owner (λ m r. checked state ((not m, Denied) ∷ (not (opens state.accounts account password), Account) ∷ (nat_lt 0 (owed_by state.accounts account), Debt) ∷ []) (done r))
         ∙ ap (λ l. unless_refused (first_refusal ((not (opens l account password), Account) ∷ (nat_lt 0 (owed_by l account), Debt) ∷ [])) state (done object)) accounts
         ∙ ap (λ w. unless_refused w state (done object)) (sym is)

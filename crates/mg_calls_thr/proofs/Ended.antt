@@ -7,7 +7,8 @@ use Rattle.mg_model.specs.declared.replies.Refusal.TheVariants.{NoThread, NotYou
 use Rattle.mg_model.specs.declared.replies.Reply.TheVariants.{Done, No}
 use Rattle.mg_model.specs.declared.threads.ThrState.TheVariants.{Ready}
 use Rattle.mg_model.specs.Domains.{with_thread}
-use Rattle.mg_model.specs.Refused.{Answer, first_refusal, unless_refused}
+use Rattle.mg_model.specs.Abbreviations.{unless_refused}
+use Rattle.mg_model.specs.Refused.{Answer, first_refusal}
 use Rattle.mg_model.specs.State.{State, Thread, ThreadRow}
 use Rattle.mg_model.specs.Threads.{end_thread, resume}
 

@@ -18,13 +18,13 @@ use Rattle.mg_model.specs.declared.replies.Reply.TheVariants.{Count, No}
 use Rattle.mg_model.specs.declared.rights.Right.TheVariants.{X}
 use Rattle.mg_model.specs.declared.seats.Seat.{Seat}
 use Rattle.mg_model.specs.declared.slots.Slot.{Slot}
-use Rattle.mg_model.specs.Abbreviations.{free_number}
+use Rattle.mg_model.specs.Abbreviations.{free_number, unless_refused}
 use Rattle.mg_model.specs.Access.{allowed, domain_of, last_slots, thread_of}
-use Rattle.mg_model.specs.Accesses.{words_of}
+use Rattle.mg_model.specs.Accesses.{line_words}
 use Rattle.mg_model.specs.Backed.{KeepsBacked, by_none}
 use Rattle.mg_model.specs.Limits.{birth_limit, thread_limit}
 use Rattle.mg_model.specs.ObjectCalls.{is_aligned}
-use Rattle.mg_model.specs.Refused.{Answer, unless_refused}
+use Rattle.mg_model.specs.Refused.{Answer}
 use Rattle.mg_model.specs.State.{Counters, State, Thread, ThreadRow}
 use Rattle.mg_model.specs.Threads.{birth_of, is_thread, make_thread, new_thread, with_new_thread}
 use Rattle.mg_model.specs.Turn.{thread_call}
@@ -83,7 +83,7 @@ module _ (state : State) (t pc : ℕ) where
         ∙ ap (λ (s : State). (s, Count number)) (sym new_is)
 
   -- the line has no word of its own
-  pub no-words : words_of state (record { thread = t; call = call.Thread pc }) ≡ 0
+  pub no-words : line_words state (record { thread = t; call = call.Thread pc }) ≡ 0
   no-words = neither (is_thread state t)
     where
       neither : (v : Bool) → (let n : ℕ = if v then 0 else 0 in n) ≡ 0

@@ -6,11 +6,10 @@ use Rattle.std.proofs.lemmas.List.{drop_at, take_at}
 use Rattle.std.proofs.lemmas.List.Folds.{list_all-append}
 use Rattle.std.proofs.Math.Bool.{and-true}
 use Rattle.std.proofs.Math.Nat.{mul-suc}
-use Rattle.mg_model.specs.Abbreviations.{table_of}
+use Rattle.mg_model.specs.Abbreviations.{table_entries, table_of, whole_table}
 use Rattle.mg_model.specs.Bytes.{are_zeros, numbers_at}
 use Rattle.mg_model.specs.Layout.{table_block, table_blocks}
 use Rattle.mg_model.specs.Replay.{block_of}
-use Rattle.mg_model.specs.Volume.{table_entries, whole_table}
 use Rattle.mg_check.specs.TableTold.{AreEntries, HasRest, IsTable, entries, entry_in, table_entry}
 
 module _ (entry : ℕ → ℕ) where

@@ -4,7 +4,8 @@ use Rattle.std.proofs.Common.{refl, sym, ap, ◌∙◌, arith, ⊎_elim}
 use Rattle.std.proofs.lemmas.Bool.{cases_eq}
 use Rattle.std.proofs.lemmas.List.{append-nil}
 use Rattle.mg_model.specs.Spelling.{Read}
-use Rattle.mg_model.specs.Volume.{live_rows, with_live}
+use Rattle.mg_model.specs.Abbreviations.{with_live}
+use Rattle.mg_model.specs.Volume.{live_rows}
 use Rattle.mg_model.specs.Words.{and_then}
 use Rattle.mg_check.specs.TableRows.{AreLive, NotSpelled}
 

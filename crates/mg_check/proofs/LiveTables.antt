@@ -7,7 +7,7 @@ use Rattle.std.proofs.Common.{refl, ap, ◌∙◌, arith}
 use Rattle.std.proofs.lemmas.List.{append-nil, length-append}
 use Rattle.std.proofs.lemmas.List.Sums.{sum_by-cons}
 use Rattle.mg_model.specs.State.{ObjectRow}
-use Rattle.mg_model.specs.Volume.{with_live}
+use Rattle.mg_model.specs.Abbreviations.{with_live}
 use Rattle.mg_check.specs.RowsRead.{live_from}
 use Rattle.mg_check.specs.Rules.{place_of, places_of}
 use Rattle.mg_check.specs.Tables.{count_in, is_paid, pages_in}

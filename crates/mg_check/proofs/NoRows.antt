@@ -5,7 +5,7 @@ use Rattle.std.specs.Prelude.{◌≡◌, ℕ, false, List, drop, if◌then◌els
 use Rattle.std.specs.Option.{option_map_or}
 use Rattle.std.proofs.Common.{refl, ap, ◌∙◌}
 use Rattle.mg_model.specs.declared.accounts.AccRow.{AccRow}
-use Rattle.mg_model.specs.Abbreviations.{account_row_bytes, object_row_bytes, thread_row_bytes}
+use Rattle.mg_model.specs.Abbreviations.{account_row_bytes, fitting, object_row_bytes, thread_row_bytes, whole_table}
 use Rattle.mg_model.specs.Bytes.{are_zeros}
 use Rattle.mg_model.specs.Layout.{globals_block}
 use Rattle.mg_model.specs.Limits.{account_limit, thread_limit, object_limit}
@@ -13,7 +13,7 @@ use Rattle.mg_model.specs.Replay.{block_of}
 use Rattle.mg_model.specs.Settings.{Settings}
 use Rattle.mg_model.specs.Spelling.{account_read, globals_read, object_read, thread_read}
 use Rattle.mg_model.specs.State.{Counters, ObjectRow, ThreadRow}
-use Rattle.mg_model.specs.Volume.{Damaged, Rows, VolumeRead, fitting, has_no_gap, live_rows, rows_of, state_spelled, whole_table}
+use Rattle.mg_model.specs.Volume.{Damaged, Rows, VolumeRead, has_no_gap, live_rows, rows_of, state_spelled}
 use Rattle.mg_model.specs.VolumeLemmas.{rows_from, rows_with}
 use Rattle.mg_check.specs.RowsTold.{HasNoState, NoCounters}
 use Rattle.mg_check.specs.TableTold.{HasRest}

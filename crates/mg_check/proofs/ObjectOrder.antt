@@ -15,7 +15,8 @@ use Rattle.mg_model.specs.Bank.{used}
 use Rattle.mg_model.specs.Objects.{page_behind, page_of, with_object}
 use Rattle.mg_model.specs.Ranges.{IsObjectRow}
 use Rattle.mg_model.specs.State.{Object, ObjectRow}
-use Rattle.mg_model.specs.Volume.{are_apart, is_page_of, object_spelled, objects_spelled}
+use Rattle.mg_model.specs.Abbreviations.{is_page_of}
+use Rattle.mg_model.specs.Volume.{are_apart, object_spelled, objects_spelled}
 use Rattle.mg_check.specs.RowsRead.{AreInRange}
 use Rattle.mg_check.specs.Spans.{IsSome, apart_from, is_in, ordered_from}
 use Rattle.mg_check.specs.Rules.{AreSpans, place_of, places_of}

@@ -18,7 +18,7 @@ use Rattle.mg_check.specs.Spans.{apart_from, is_in}
 use Rattle.mg_check.specs.Tables.{is_paid, pages_in}
 use Rattle.mg_disk.specs.Disk.{Image}
 use Rattle.mg_model.specs.declared.accounts.AccRow.{AccRow}
-use Rattle.mg_model.specs.Abbreviations.{account_row_bytes, accounts_spelled, object_row_bytes, thread_row_bytes, threads_spelled}
+use Rattle.mg_model.specs.Abbreviations.{account_row_bytes, accounts_spelled, fitting, is_page_of, object_row_bytes, thread_row_bytes, threads_spelled, whole_table}
 use Rattle.mg_model.specs.Layout.{globals_block}
 use Rattle.mg_model.specs.Limits.{account_limit, thread_limit, object_limit}
 use Rattle.mg_model.specs.Replay.{block_of}
@@ -26,7 +26,7 @@ use Rattle.mg_model.specs.Settings.{Settings}
 use Rattle.mg_model.specs.Spelling.{account_read, globals_read, object_read, thread_read}
 use Rattle.mg_model.specs.State.{Object, ObjectRow, Thread, ThreadRow}
 use Rattle.mg_model.specs.Tests.{all_distinct}
-use Rattle.mg_model.specs.Volume.{Damaged, Is, accounts_fit, begins_with_first, bound_pages, fitting, has_no_gap, is_page_of, objects_fit, objects_spelled, replayed_volume, rows_of, state_fits, table_fits, threads_fit, whole_table}
+use Rattle.mg_model.specs.Volume.{Damaged, Is, accounts_fit, begins_with_first, bound_pages, has_no_gap, objects_fit, objects_spelled, replayed_volume, rows_of, state_fits, table_fits, threads_fit}
 use Rattle.mg_model.specs.VolumeLemmas.{rows-read, rows_with}
 
 all_same : {X : Type 0} (p q : X → Bool) → ((x : X) → p x ≡ q x) → (xs : List X) → list_all p xs ≡ list_all q xs

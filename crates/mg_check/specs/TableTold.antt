@@ -1,10 +1,9 @@
 -- What is read of the frame table.
 use Rattle.std.specs.Prelude.{◌≡◌, ℕ, zero, suc, ◌+◌, ◌-◌, ◌*◌, ◌/◌, ◌%◌, min, true, false, List, [], ◌∷◌, drop}
-use Rattle.mg_model.specs.Abbreviations.{table_of}
+use Rattle.mg_model.specs.Abbreviations.{table_of, whole_table}
 use Rattle.mg_model.specs.Bytes.{are_zeros, number_at}
 use Rattle.mg_model.specs.Layout.{table_block}
 use Rattle.mg_model.specs.Replay.{block_of}
-use Rattle.mg_model.specs.Volume.{whole_table}
 
 -- entry i of the table in its block
 abbrev pub entry_in : List ℕ → ℕ → ℕ

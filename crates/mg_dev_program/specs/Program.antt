@@ -8,7 +8,7 @@ use Rattle.mg_mirror_session.specs.Commands.{mirror_of}
 use Rattle.mg_mirror_session.specs.Headline.{MirrorKeeps, NoMirrorKeeps, session_over}
 use Rattle.mg_model.specs.Words.{same_bytes}
 use Rattle.mg_serve.specs.declared.status.Status.{Status}
-use Rattle.mg_serve.specs.Sessions.{DiskUse, SinkUse, SourceUse, disk_use}
+use Rattle.mg_serve.specs.Sessions.{DiskUse, SinkUse, SourceUse, use_of}
 use Rattle.mg_io.specs.Arguments.{arguments}
 use Rattle.mg_volume_session.specs.Headline.{Session, session_of}
 use Rattle.mg_window.specs.Attached.{Attached}
@@ -40,5 +40,5 @@ pub record Did {D E S K : Type 0} (words : List (String Global)) (result : Statu
   pub mirror : is_mirror (arguments words) ≡ true →
       (alone : Option Side) × OverMirror words result alone left right i o steps steps'
   pub devices : is_mirror (arguments words) ≡ false → AfterReads left.facts left.old (λ found.
-      RanDevices words windows windows' (session_of 1 result (disk_use left.facts found left.new) i o steps steps'))
+      RanDevices words windows windows' (session_of 1 result (use_of left.facts found left.new) i o steps steps'))
       × (right.new ≡ right.old)

@@ -3,7 +3,7 @@ ghost use Rattle.std.specs.Prelude.{◌≡◌, codes};
 ghost use Rattle.mg_console.specs.Programs.{AfterReads, EndsAs, ThenReads};
 ghost use Rattle.mg_disk.specs.Stops.{WritesNothing};
 ghost use Rattle.mg_model.specs.Words.{same_bytes};
-ghost use Rattle.mg_serve.specs.Sessions.{code_of, disk_use, sink_use, source_use};
+ghost use Rattle.mg_serve.specs.Sessions.{code_of, use_of};
 ghost use Rattle.mg_io.specs.Arguments.{arguments};
 ghost use Rattle.mg_volume_session.specs.Headline.{session_of};
 ghost use Rattle.mg_window.specs.Attached.{seen};
@@ -57,8 +57,8 @@ pub fn carry_out<
     steps: &mut Steps<L>,
 ) -> Ended<D, E>
     ensures { EndsAs code_of (λ status. ThenReads D.Disk (λ left'. ThenReads E.Disk (λ right'. Did words.now status
-        (disk_use D.Disk left left') (disk_use E.Disk right right') (source_use S.Source source.old source.new)
-        (sink_use K.Sink sink.old sink.new)
+        (use_of D.Disk left left') (use_of E.Disk right right') (use_of S.Source source.old source.new)
+        (use_of K.Sink sink.old sink.new)
         (seen T.held windows.old) (seen T.held windows.new) steps.old steps.new) result.right) result.left) result.code }
 {
     let ran = command(rt, words, left, right, source, sink, windows, steps);
@@ -96,8 +96,8 @@ fn command<R: AllocGlobal + Eprint, T: Device, D: Disk, E: Disk, S: Source, K: S
     windows: &mut Windows<T>,
     steps: &mut Steps<L>,
 ) -> (Status, Option<Side>, D, E)
-    ensures { Did words.now result.0 (disk_use D.Disk left result.2) (disk_use E.Disk right result.3)
-        (source_use S.Source source.old source.new) (sink_use K.Sink sink.old sink.new)
+    ensures { Did words.now result.0 (use_of D.Disk left result.2) (use_of E.Disk right result.3)
+        (use_of S.Source source.old source.new) (use_of K.Sink sink.old sink.new)
         (seen T.held windows.old) (seen T.held windows.new) steps.old steps.new }
 {
     if is_mirror(words) {
@@ -119,8 +119,8 @@ fn over_mirror<D: Disk, E: Disk, S: Source, K: Sink, L: Ledger>(
     sink: &mut K,
     steps: &mut Steps<L>,
 ) -> (Status, Option<Side>, D, E)
-    ensures { OverMirror words.now result.0 result.1 (disk_use D.Disk left result.2) (disk_use E.Disk right result.3)
-        (source_use S.Source source.old source.new) (sink_use K.Sink sink.old sink.new) steps.old steps.new }
+    ensures { OverMirror words.now result.0 result.1 (use_of D.Disk left result.2) (use_of E.Disk right result.3)
+        (use_of S.Source source.old source.new) (use_of K.Sink sink.old sink.new) steps.old steps.new }
 {
     top_mirror(alloc, words, left, right, source, sink, steps)
 }
@@ -136,8 +136,8 @@ fn on_devices<R: AllocGlobal + Eprint, T: Device, D: Disk, S: Source, K: Sink, L
     steps: &mut Steps<L>,
 ) -> Status
     ensures { AfterReads D.Disk disk.old (λ found. RanDevices words.now (seen T.held windows.old) (seen T.held windows.new)
-        (session_of 1 result (disk_use D.Disk found disk.new)
-        (source_use S.Source source.old source.new) (sink_use K.Sink sink.old sink.new) steps.old steps.new)) }
+        (session_of 1 result (use_of D.Disk found disk.new)
+        (use_of S.Source source.old source.new) (use_of K.Sink sink.old sink.new) steps.old steps.new)) }
 {
     let asked = read_words(words).unwrap_or_default();
     report_bases(rt, word(words, 0), asked.as_slice(), disk);
@@ -154,8 +154,8 @@ fn with_devices<T: Device, D: Disk, S: Source, K: Sink, L: Ledger>(
     steps: &mut Steps<L>,
 ) -> Status
     ensures { RanDevices words.now (seen T.held windows.old) (seen T.held windows.new)
-        (session_of 1 result (disk_use D.Disk disk.old disk.new)
-        (source_use S.Source source.old source.new) (sink_use K.Sink sink.old sink.new) steps.old steps.new) }
+        (session_of 1 result (use_of D.Disk disk.old disk.new)
+        (use_of S.Source source.old source.new) (use_of K.Sink sink.old sink.new) steps.old steps.new) }
 {
     top_dev_of(alloc, words, disk, source, sink, windows, steps)
 }

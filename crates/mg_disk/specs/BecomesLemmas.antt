@@ -1,6 +1,5 @@
 -- Lemmas on what reads give before and after.
-use Rattle.std.specs.Prelude.{◌≡◌, ℕ, IsSomeAnd, Option, None, Some, is_some, option_map}
-use Rattle.std.specs.Option.{ForSome}
+use Rattle.std.specs.Prelude.{◌≡◌, ℕ, Option, None, Some, option_map}
 use Rattle.std.proofs.Common.{refl, subst, sym}
 use Rattle.mg_disk.specs.Disk.{Image, SameBut, SeenBut}
 use Rattle.mg_disk.specs.Stops.{Becomes}
@@ -12,31 +11,6 @@ none_some : (a : Image) → ◌≡◌ {A = Option Image} None (Some a) → ⊥
 none_some a is = cc
 
 module _ (R : Image → Image → Type 0) where
-  -- each image that reads gave has one that they give
-  pub becomes-forth : (told now : Option Image) → Becomes R told now → ForSome told (λ a. IsSomeAnd now (R a))
-  becomes-forth None now is a at = absurd (none_some a at)
-  becomes-forth (Some x) None is a at = absurd is
-  becomes-forth (Some x) (Some y) is a at = subst (λ i. R i y) (some_inj x a at) is
-
-  -- and the other way round
-  pub becomes-back : (told now : Option Image) → Becomes R told now → ForSome now (λ b. IsSomeAnd told (λ a. R a b))
-  becomes-back told None is b at = absurd (none_some b at)
-  becomes-back None (Some y) is b at = absurd is
-  becomes-back (Some x) (Some y) is b at = subst (R x) (some_inj y b at) is
-
-  pub becomes-tells : (told now : Option Image) → Becomes R told now → is_some now ≡ is_some told
-  becomes-tells None None is = refl
-  becomes-tells None (Some y) is = absurd is
-  becomes-tells (Some x) None is = absurd is
-  becomes-tells (Some x) (Some y) is = refl
-
-  -- from what is known of each image that reads gave
-  pub becomes-from : (told now : Option Image) → is_some now ≡ is_some told → ForSome told (λ a. IsSomeAnd now (R a)) → Becomes R told now
-  becomes-from None None same each = tt
-  becomes-from None (Some y) same each = absurd cc
-  becomes-from (Some x) None same each = each x refl
-  becomes-from (Some x) (Some y) same each = each x refl
-
   -- the image that reads gave, of one that they give
   pub becomes-of : (told now : Option Image) (b : Image) → Becomes R told now → now ≡ Some b → (a : Image) × (told ≡ Some a) × R a b
   becomes-of told None b is at = absurd (none_some b at)

@@ -3,7 +3,7 @@ use Rattle.std.proofs.Common.{◌≡◌, ℕ, ◌+◌, ◌-◌, ◌<◌, suc, Li
 use Rattle.mg_document.specs.declared.faults.ReplyFault.TheVariants.{At}
 use Rattle.mg_document.specs.declared.faults.ReplyKind.TheVariants.{Missing, NoWord}
 use Rattle.mg_document.specs.Replies.{bytes_behind, with_told, word_told}
-use Rattle.mg_model.specs.Bytes.{word_bytes}
+use Rattle.mg_model.specs.Abbreviations.{word_bytes}
 
 -- a count that is not at its end
 left_more : (count k : ℕ) → k < count → count - k ≡ suc (count - (k + 1))

@@ -1,10 +1,10 @@
 -- Lemmas that a crate above cites too. None of them is part of a statement.
 use Rattle.std.proofs.Common.{◌≡◌, ℕ, Bool, true, false, if◌then◌else◌, List, [], ◌∷◌, refl}
 use Rattle.mg_model.specs.Ended.{all_but_last}
-use Rattle.mg_model.specs.Words.{onto_first, split_at}
+use Rattle.std.specs.List.{onto_first, slice_split}
 
 -- there is always a piece, so one before it is not the last
-pub not_last : (cuts : ℕ → Bool) (piece bytes : List ℕ) → all_but_last (piece ∷ split_at cuts bytes) ≡ piece ∷ all_but_last (split_at cuts bytes)
+pub not_last : (cuts : ℕ → Bool) (piece bytes : List ℕ) → all_but_last (piece ∷ slice_split cuts bytes) ≡ piece ∷ all_but_last (slice_split cuts bytes)
 not_last cuts piece [] = refl
 not_last cuts piece (b ∷ bytes) = by_cut (cuts b)
   where
@@ -12,6 +12,6 @@ not_last cuts piece (b ∷ bytes) = by_cut (cuts b)
     by_first [] = refl
     by_first (p ∷ pieces) = refl
 
-    by_cut : (v : Bool) → all_but_last (piece ∷ (if v then [] ∷ split_at cuts bytes else onto_first b (split_at cuts bytes))) ≡ piece ∷ all_but_last (if v then [] ∷ split_at cuts bytes else onto_first b (split_at cuts bytes))
+    by_cut : (v : Bool) → all_but_last (piece ∷ (if v then [] ∷ slice_split cuts bytes else onto_first b (slice_split cuts bytes))) ≡ piece ∷ all_but_last (if v then [] ∷ slice_split cuts bytes else onto_first b (slice_split cuts bytes))
     by_cut true = refl
-    by_cut false = by_first (split_at cuts bytes)
+    by_cut false = by_first (slice_split cuts bytes)

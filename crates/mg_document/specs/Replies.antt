@@ -4,13 +4,14 @@ use Rattle.mg_document.specs.declared.faults.ReplyFault.{ReplyFault}
 use Rattle.mg_document.specs.declared.faults.ReplyFault.TheVariants.{At}
 use Rattle.mg_document.specs.declared.faults.ReplyKind.TheVariants.{Missing, NoWord}
 use Rattle.mg_document.specs.Documents.{words_for}
-use Rattle.mg_model.specs.Bytes.{word_bytes}
+use Rattle.mg_model.specs.Abbreviations.{word_bytes}
 use Rattle.mg_model.specs.Ended.{all_but_last}
-use Rattle.mg_model.specs.Words.{and_then, hex_part, is_newline, number_of, split_at}
+use Rattle.std.specs.List.{slice_split}
+use Rattle.mg_model.specs.Words.{and_then, hex_part, is_newline, number_of}
 
 -- the replies that a newline ends
 abbrev pub ended : List ℕ → List (List ℕ)
-ended bytes = all_but_last (split_at is_newline bytes)
+ended bytes = all_but_last (slice_split is_newline bytes)
 
 -- the bytes after "ok ", if the reply begins so
 abbrev pub ok_part : List ℕ → Option (List ℕ)

@@ -13,10 +13,11 @@ use Rattle.mg_asm.specs.LineLemmas.{high-misses, misses-append, newline_low, spl
 use Rattle.mg_text.specs.NumberLemmas.{hex-high, number_of-hex}
 use Rattle.mg_document_session.proofs.Stored.{IsRoomy, loads-tell, stores-hold, value_lines}
 use Rattle.mg_model.specs.declared.replies.Reply.TheVariants.{Value}
-use Rattle.mg_model.specs.Bytes.{number_at, numbers_at, padded_to, word_bytes, words_bytes}
+use Rattle.mg_model.specs.Abbreviations.{word_bytes}
+use Rattle.mg_model.specs.Bytes.{number_at, numbers_at, padded_to, words_bytes}
 use Rattle.mg_model.specs.BytesLemmas.{length-padded_to}
 use Rattle.mg_model.specs.Ended.{all_but_last}
-use Rattle.mg_model.specs.Print.{hex_text, reply_line, reply_text, text}
+use Rattle.mg_model.specs.Print.{hex_text, replies_text, reply_line, reply_text}
 use Rattle.mg_model.specs.Ranges.{IsWord}
 use Rattle.mg_model.specs.State.{Object}
 use Rattle.mg_model.specs.Step.{after}
@@ -140,6 +141,6 @@ comes-back trip more =
     let count = sym (length-document trip.bytes) in
     let loaded = subst (λ (n : ℕ). AllOk behind (load_calls trip.reader trip.address n)) count trip.loaded in
     let tell : replies trip ≡ value_lines ws =
-    ap (λ n. text behind (load_calls trip.reader trip.address n)) count ∙ loads-tell behind trip.reader trip.address ws hold loaded in
+    ap (λ n. replies_text behind (load_calls trip.reader trip.address n)) count ∙ loads-tell behind trip.reader trip.address ws hold loaded in
     let few = trip.few in
     ap (λ v. bytes_told (v ++ more)) tell ∙ document-told trip.bytes more trip.small (omega (arith, few))

@@ -18,8 +18,8 @@ use Rattle.mg_model.specs.Abbreviations.{word_in}
 use Rattle.mg_model.specs.Access.{allowed, at, covers}
 use Rattle.mg_model.specs.ObjectCalls.{is_aligned}
 use Rattle.mg_model.specs.Objects.{with_word, word_at}
-use Rattle.mg_model.specs.Print.{reply_line, text}
-use Rattle.mg_model.specs.Refused.{Answer, row}
+use Rattle.mg_model.specs.Print.{replies_text, reply_line}
+use Rattle.mg_model.specs.Refused.{Answer, checked}
 use Rattle.mg_model.specs.State.{Object, ObjectRow, State}
 use Rattle.mg_model.specs.Step.{after, step}
 use Rattle.mg_model.specs.Threads.{is_thread}
@@ -139,7 +139,7 @@ allowed-found state t a right may =
 
 -- a line of a thread that requires one right at a word
 abbrev answer_by : Bool → Bool → Bool → State → Answer → Answer
-answer_by lives aligned may state done = if lives then row state ((not aligned, Align) ∷ (not may, Denied) ∷ []) done else (state, No NoThread)
+answer_by lives aligned may state done = if lives then checked state ((not aligned, Align) ∷ (not may, Denied) ∷ []) done else (state, No NoThread)
 
 pub record WasDone (is_at_word is_allowed : Bool) (answer done : Answer) : Type 0 where
   pub aligned : is_at_word ≡ true
@@ -222,11 +222,11 @@ abbrev pub value_lines : List ℕ → List ℕ
 value_lines [] = []
 value_lines (w ∷ ws) = reply_line (Value w) ++ value_lines ws
 
-pub loads-tell : (state : State) (t a : ℕ) (ws : List ℕ) → HasWords state.objects a ws → AllOk state (load_calls t a (length ws)) → text state (load_calls t a (length ws)) ≡ value_lines ws
+pub loads-tell : (state : State) (t a : ℕ) (ws : List ℕ) → HasWords state.objects a ws → AllOk state (load_calls t a (length ws)) → replies_text state (load_calls t a (length ws)) ≡ value_lines ws
 loads-tell state t a [] has ok = refl
 loads-tell state t a (w ∷ ws) has ok =
     let loaded = ok-loaded state t a ok.0 in
     let rest = load_calls t (a + 8) (length ws) in
-    ap (λ (x : Answer). reply_line x.1 ++ text x.0 rest) loaded
-    ∙ ap (λ v. reply_line (Value v) ++ text state rest) has.0
+    ap (λ (x : Answer). reply_line x.1 ++ replies_text x.0 rest) loaded
+    ∙ ap (λ v. reply_line (Value v) ++ replies_text state rest) has.0
     ∙ ap (λ v. reply_line (Value w) ++ v) (loads-tell state t (a + 8) ws has.1 (subst (λ (s : State). AllOk s rest) (ap (λ (x : Answer). x.0) loaded) ok.1))

@@ -6,14 +6,14 @@ use Rattle.mg_document.specs.Asked.{get_calls, get_text, put_calls, put_text}
 use Rattle.mg_document.specs.Documents.{byte_limit}
 use Rattle.mg_document.specs.Replies.{bytes_told}
 use Rattle.mg_document.specs.FaultText.{fault_line}
-use Rattle.mg_filter.specs.Whole.{OfWhole, TakesAtMost, TakesMore}
+use Rattle.mg_filter.specs.Whole.{OfWhole, TakesMore}
 use Rattle.mg_document_session.specs.Trips.{Trip, replies}
 use Rattle.mg_filter.specs.declared.status.Status.{Status}
 use Rattle.mg_filter.specs.declared.status.Status.TheVariants as status
 use Rattle.mg_document_session.specs.declared.words.Command.{Command}
 use Rattle.mg_document_session.specs.declared.words.Command.TheVariants.{Bytes, Get, Put}
 use Rattle.mg_faults.specs.Faults.{Rose}
-use Rattle.mg_io.specs.Known.{AppendsPrefix}
+use Rattle.mg_io.specs.Known.{AppendsPrefix, TakesAtMost}
 use Rattle.mg_io.specs.declared.traits.Sink as sinks
 use Rattle.mg_io.specs.declared.traits.Source as sources
 use Rattle.mg_model.specs.Lines.{lines}

@@ -7,7 +7,7 @@ use Rattle.mg_model.specs.declared.calls.Line.{Line}
 use Rattle.mg_model.specs.declared.replies.Reply.{Reply}
 use Rattle.mg_model.specs.declared.replies.Reply.TheVariants.{No}
 use Rattle.mg_model.specs.Lines.{lines}
-use Rattle.mg_model.specs.Print.{text}
+use Rattle.mg_model.specs.Print.{replies_text}
 use Rattle.mg_model.specs.State.{State}
 use Rattle.mg_model.specs.Step.{after, step}
 use Rattle.mg_model.specs.WellFormed.{IsWellFormed}
@@ -43,7 +43,7 @@ pub record Trip : Type 0 where
 -- the replies to the loads
 abbrev pub replies : Trip → List ℕ
 replies trip =
-    text (after trip.state (put_calls trip.thread trip.address trip.bytes)) (get_calls trip.reader trip.address (length trip.bytes))
+    replies_text (after trip.state (put_calls trip.thread trip.address trip.bytes)) (get_calls trip.reader trip.address (length trip.bytes))
 
 -- the replies give what was stored, whatever follows them
 abbrev pub ComesBack : (List ℕ → Result (List ℕ) ReplyFault) → Type 0

@@ -1,7 +1,8 @@
 // What a command makes of its input.
 ghost use Rattle.std.specs.Prelude.{◌≡◌, ◌≢◌, Err, IfErr, IfOk, Ok};
 ghost use Rattle.mg_document.specs.declared.faults.ReplyFault.TheVariants as fault;
-ghost use Rattle.mg_filter.specs.Whole.{TakesAtMost, TakesMore};
+ghost use Rattle.mg_io.specs.Known.{TakesAtMost};
+ghost use Rattle.mg_filter.specs.Whole.{TakesMore};
 ghost use Rattle.mg_document_session.specs.Commands.{HasPlace};
 ghost use Rattle.mg_document_session.specs.Headline.{IsCalls, LeavesSource, OfInput, became, limit_of};
 ghost use Rattle.mg_faults.specs.Faults.{Rose};

@@ -5,9 +5,6 @@ use Rattle.std.specs.Prelude.{ℕ, ◌+◌, ◌<◌, ◌≤◌, ◌≡◌, List,
 abbrev pub OfWhole : Option (List ℕ) → Option (List ℕ) → (List ℕ → Type 0) → Type 0
 OfWhole left left' P = IfSome left (λ text. (left' ≡ Some []) × P text)
 
--- at most `limit` bytes were taken, or more
-abbrev pub TakesAtMost : ℕ → Option (List ℕ) → Option (List ℕ) → Type 0
-TakesAtMost limit left left' = IfSome left (λ text. IsSomeAnd left' (λ rest. length text ≤ limit + length rest))
-
+-- more than `limit` bytes were taken
 abbrev pub TakesMore : ℕ → Option (List ℕ) → Option (List ℕ) → Type 0
 TakesMore limit left left' = IfSome left (λ text. IsSomeAnd left' (λ rest. limit + length rest < length text))

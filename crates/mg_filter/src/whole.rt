@@ -1,6 +1,7 @@
 // Reading a source whole.
 ghost use Rattle.std.specs.Prelude.{◌≡◌, ◌≢◌, Err, IfOk};
-ghost use Rattle.mg_filter.specs.Whole.{OfWhole, TakesAtMost, TakesMore};
+ghost use Rattle.mg_io.specs.Known.{TakesAtMost};
+ghost use Rattle.mg_filter.specs.Whole.{OfWhole, TakesMore};
 ghost use Rattle.mg_faults.specs.Faults.{Rose};
 
 use mg_io::{PIECE, Source};

@@ -6,7 +6,7 @@ use Rattle.mg_model.specs.declared.replies.Refusal.{Refusal}
 use Rattle.mg_model.specs.declared.replies.Refusal.TheVariants as refusal
 use Rattle.mg_model.specs.declared.replies.Reply.{Reply}
 use Rattle.mg_model.specs.declared.replies.Reply.TheVariants as reply
-use Rattle.mg_model.specs.Refused.{refusal_number}
+use Rattle.mg_model.specs.Abbreviations.{refusal_number}
 use Rattle.mg_gen.specs.Tallies.{CountsAddUp, WordsAreInRows, row_of, tally_of}
 
 -- the sum over k rows from a on

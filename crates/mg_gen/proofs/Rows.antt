@@ -2,7 +2,7 @@
 use Rattle.std.proofs.Common.{◌≡◌, ℕ, zero, suc, ◌+◌, ◌<◌, List, [], ◌∷◌, ◌++◌, length, get_or, take, ap, sym, ◌∙◌, add-one, append_assoc, arith}
 use Rattle.std.proofs.lemmas.List.{append-nil, get_or-map}
 use Rattle.mg_model.specs.declared.replies.Refusal.TheVariants as refusal
-use Rattle.mg_model.specs.Refused.{refusal_text}
+use Rattle.mg_model.specs.Abbreviations.{refusal_text}
 use Rattle.mg_gen.specs.Summary.{refusals}
 use Rattle.mg_gen.specs.Tallies.{count_line, count_lines, row_words}
 

@@ -6,10 +6,11 @@ use Rattle.std.proofs.lemmas.Bool.{le-ltb}
 use Rattle.std.proofs.lemmas.Bool.Decides.{nat_tests}
 use Rattle.std.proofs.lemmas.List.{append-nil}
 use Rattle.mg_model.specs.declared.calls.Line.{Line}
-use Rattle.mg_model.specs.Abbreviations.{longest_line}
-use Rattle.mg_model.specs.Lines.{bad_line, call_line, is_among, is_note, line_of, line_of_words, lone_words, spelled_line, thread_line}
+use Rattle.mg_model.specs.Abbreviations.{is_among, lone_words, longest_line}
+use Rattle.mg_model.specs.Lines.{bad_line, call_line, is_note, line_of, line_of_words, spelled_line, thread_line}
 use Rattle.mg_model.specs.Print.{spaced}
-use Rattle.mg_model.specs.Words.{is_blank, is_some_word, number_of, split_at, words}
+use Rattle.std.specs.List.{slice_split}
+use Rattle.mg_model.specs.Words.{is_blank, is_some_word, number_of, words}
 use Rattle.mg_gen.specs.Generated.{call_text}
 use Rattle.mg_gen.proofs.Numbers.{IsWord, decimal-word}
 use Rattle.mg_text.specs.NumberLemmas.{Digits, High, decimal-digits, number_of-back}
@@ -21,16 +22,16 @@ abbrev pub AreWords : List (List ℕ) → Type 0
 AreWords [] = Unit {0}
 AreWords (t ∷ ts) = IsWord t × AreWords ts
 
-split-whole : (xs : List ℕ) → High xs → split_at is_blank xs ≡ xs ∷ []
+split-whole : (xs : List ℕ) → High xs → slice_split is_blank xs ≡ xs ∷ []
 split-whole [] h = refl
 split-whole (b ∷ xs) h = rw (blank_low b h.0, split-whole xs h.1) refl
 
-split-before : (xs ys : List ℕ) → High xs → split_at is_blank (xs ++ 32 ∷ ys) ≡ xs ∷ split_at is_blank ys
+split-before : (xs ys : List ℕ) → High xs → slice_split is_blank (xs ++ 32 ∷ ys) ≡ xs ∷ slice_split is_blank ys
 split-before [] ys h = refl
 split-before (x ∷ xs) ys h = rw (blank_low x h.0, split-before xs ys h.1) refl
 
-split-spaced : (t : List ℕ) (ts : List (List ℕ)) → High t → AreWords ts → split_at is_blank (t ++ spaced ts) ≡ t ∷ ts
-split-spaced t [] h are = ap (split_at is_blank) (append-nil t) ∙ split-whole t h
+split-spaced : (t : List ℕ) (ts : List (List ℕ)) → High t → AreWords ts → slice_split is_blank (t ++ spaced ts) ≡ t ∷ ts
+split-spaced t [] h are = ap (slice_split is_blank) (append-nil t) ∙ split-whole t h
 split-spaced t (u ∷ us) h are = split-before t (u ++ spaced us) h ∙ ap (λ (v : List (List ℕ)). t ∷ v) (split-spaced u us are.0.high are.1)
 
 all-words : (ts : List (List ℕ)) → AreWords ts → filter is_some_word ts ≡ ts

@@ -6,7 +6,7 @@ use Rattle.mg_model.specs.declared.replies.Refusal.{Refusal}
 use Rattle.mg_model.specs.declared.replies.Refusal.TheVariants as refusal
 use Rattle.mg_model.specs.declared.replies.Reply.{Reply}
 use Rattle.mg_model.specs.declared.replies.Reply.TheVariants as reply
-use Rattle.mg_model.specs.Refused.{refusal_number, refusal_text}
+use Rattle.mg_model.specs.Abbreviations.{refusal_number, refusal_text}
 use Rattle.mg_model.specs.Words.{same_bytes}
 use Rattle.mg_gen.specs.Summary.{counted_as, word_line}
 use Rattle.mg_gen.specs.Tallies.{CountsAreTold, count_line, count_lines, row_of, row_words, tally_of}

@@ -6,7 +6,7 @@ use Rattle.mg_model.specs.declared.replies.Refusal.TheVariants as refusal
 use Rattle.mg_model.specs.declared.replies.Reply.{Reply}
 use Rattle.mg_model.specs.declared.replies.Reply.TheVariants as reply
 use Rattle.mg_model.specs.Print.{spaced}
-use Rattle.mg_model.specs.Refused.{refusal_text}
+use Rattle.mg_model.specs.Abbreviations.{refusal_text}
 use Rattle.mg_model.specs.Words.{same_bytes}
 
 -- The refusals, in the order of their numbers from 1 on.

@@ -6,7 +6,7 @@ use Rattle.mg_model.specs.declared.replies.Refusal.{Refusal}
 use Rattle.mg_model.specs.declared.replies.Reply.{Reply}
 use Rattle.mg_model.specs.declared.replies.Reply.TheVariants as reply
 use Rattle.mg_model.specs.Print.{spaced}
-use Rattle.mg_model.specs.Refused.{refusal_number, refusal_text}
+use Rattle.mg_model.specs.Abbreviations.{refusal_number, refusal_text}
 use Rattle.mg_gen.specs.Summary.{refusals, summary_text}
 
 -- the row in which a reply is counted: that of its refusal's number, and 0 if it is ok

@@ -1,11 +1,15 @@
 -- What takes and puts do to the bytes left and the bytes taken, if those are told, and how this adds up over a run of calls.
-use Rattle.std.specs.Prelude.{◌≡◌, ℕ, List, [], ◌++◌, Option, Some, None}
+use Rattle.std.specs.Prelude.{◌≡◌, ◌≤◌, ◌+◌, ℕ, List, [], ◌++◌, length, Option, Some, None, IfSome, IsSomeAnd}
 use Rattle.std.specs.Io.KnownBytes.{Appends, Keeps, Consumes}
 use Rattle.std.proofs.Common.{refl, sym, ap, ◌∙◌, append_assoc, append-nil}
 
 -- some first bytes of the text were taken, and no others
 abbrev pub AppendsPrefix : Option (List ℕ) → Option (List ℕ) → List ℕ → Type 0
 AppendsPrefix old new text = (put more : List ℕ) × (put ++ more ≡ text) × Appends old new put
+
+-- at most this many bytes were taken of what was left
+abbrev pub TakesAtMost : ℕ → Option (List ℕ) → Option (List ℕ) → Type 0
+TakesAtMost limit left left' = IfSome left (λ input. IsSomeAnd left' (λ rest. length input ≤ limit + length rest))
 
 -- one text is taken after another
 pub Appends-then : (a b c : Option (List ℕ)) (p q : List ℕ) → Appends a b p → Appends b c q → Appends a c (p ++ q)

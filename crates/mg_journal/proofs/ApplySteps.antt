@@ -5,7 +5,8 @@ use Rattle.std.proofs.lemmas.Bool.{eq-eqb, or_left, or_right}
 use Rattle.std.proofs.lemmas.List.{map-append, take_more}
 use Rattle.mg_disk.specs.Disk.{Image, block_at}
 use Rattle.mg_model.specs.Layout.{segment_body}
-use Rattle.mg_model.specs.Replay.{body_count, home_of, writes_from, writes_since, written}
+use Rattle.mg_model.specs.Abbreviations.{writes_from, writes_since}
+use Rattle.mg_model.specs.Replay.{body_count, home_of, written}
 use Rattle.mg_journal.specs.Applied.{filled, nth_body, nth_home}
 use Rattle.mg_journal.specs.Contents.{names}
 use Rattle.mg_journal.specs.Places.{places_from, places_since}

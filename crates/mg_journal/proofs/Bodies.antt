@@ -7,7 +7,8 @@ use Rattle.std.proofs.lemmas.List.{append-nil}
 use Rattle.std.proofs.lemmas.List.Elements.{All-head, All-tail}
 use Rattle.mg_disk.specs.Disk.{Image}
 use Rattle.mg_model.specs.Layout.{body_limit, globals_block, segment_body}
-use Rattle.mg_model.specs.Replay.{body_count, home_of, homes_fit, is_open, segment_fits, segments_fit, writes_from}
+use Rattle.mg_model.specs.Abbreviations.{segments_fit, writes_from}
+use Rattle.mg_model.specs.Replay.{body_count, home_of, homes_fit, is_open, segment_fits}
 use Rattle.mg_journal.specs.Contents.{bodies_fit, bodies_of}
 use Rattle.mg_journal.specs.Places.{IsPlace, places_from, places_of, places_since}
 use Rattle.mg_journal.specs.SegmentLemmas.{each-fits, fits-each}

@@ -6,7 +6,8 @@ use Rattle.std.proofs.lemmas.Bool.{and_parts, both_ways, cases_Bool, cases_eq, c
 use Rattle.std.proofs.lemmas.List.{ext_get_or}
 use Rattle.mg_disk.specs.Disk.{Image, SameBut, block_at, only_place}
 use Rattle.mg_model.specs.Layout.{globals_block, segment_count, segment_gate}
-use Rattle.mg_model.specs.Replay.{homes_fit, is_open, replay, segment_fits, segments_fit, writes_of, writes_since, written}
+use Rattle.mg_model.specs.Abbreviations.{segments_fit, writes_since}
+use Rattle.mg_model.specs.Replay.{homes_fit, is_open, replay, segment_fits, writes_of, written}
 use Rattle.mg_journal.specs.Contents.{ClosedBelow, InJournal, names}
 use Rattle.mg_journal.specs.JournalLemmas.{open_writes, replay-some, replayed-fits, replayed-is, same_gate, same_wider}
 use Rattle.mg_journal.specs.SegmentLemmas.{IsAlike, all-write, alike-gates, alike-whole, each-fits, fits-closed, fits-each, fits-open, writes-closed, writes-open, writes_since-none, writes_since-split}

@@ -7,7 +7,8 @@ use Rattle.std.proofs.lemmas.List.{get_or-set_other, get_or-set_same, length-set
 use Rattle.std.proofs.lemmas.List.Folds.{find-append}
 use Rattle.mg_disk.specs.Disk.{Image, block_at}
 use Rattle.mg_model.specs.Layout.{segment_count}
-use Rattle.mg_model.specs.Replay.{replay, writes_since, written}
+use Rattle.mg_model.specs.Abbreviations.{writes_since}
+use Rattle.mg_model.specs.Replay.{replay, written}
 use Rattle.mg_journal.proofs.ApplySteps.{filled_since}
 use Rattle.mg_journal.specs.Applied.{filled}
 use Rattle.mg_journal.specs.JournalLemmas.{replayed-is}

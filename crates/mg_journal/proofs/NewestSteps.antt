@@ -8,7 +8,8 @@ use Rattle.std.proofs.lemmas.List.{append-nil, ext_get_or, reverse-append}
 use Rattle.std.proofs.lemmas.List.Folds.{find-append}
 use Rattle.mg_disk.specs.Disk.{Image, block_at}
 use Rattle.mg_model.specs.Layout.{body_limit, segment_body, segment_count, segment_gate, segment_index}
-use Rattle.mg_model.specs.Replay.{block_of, body_count, homes_fit, is_open, segment_fits, segments_fit, writes_from, written}
+use Rattle.mg_model.specs.Abbreviations.{segments_fit, writes_from}
+use Rattle.mg_model.specs.Replay.{block_of, body_count, homes_fit, is_open, segment_fits, written}
 use Rattle.mg_journal.proofs.ApplySteps.{filled_since}
 use Rattle.mg_journal.proofs.Bodies.{places-closed, places-open}
 use Rattle.mg_journal.proofs.Lookups.{held_is, value_held, written_at}

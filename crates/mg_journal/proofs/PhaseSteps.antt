@@ -7,7 +7,8 @@ use Rattle.mg_disk.specs.Disk.{HasBlocks, Image, InRange, SameBut, SeenBut, bloc
 use Rattle.mg_disk.specs.Stops.{Becomes}
 use Rattle.mg_model.specs.Bytes.{number_at}
 use Rattle.mg_model.specs.Layout.{body_limit, segment_body, segment_count, segment_index}
-use Rattle.mg_model.specs.Replay.{body_count, home_of, writes_from}
+use Rattle.mg_model.specs.Abbreviations.{writes_from}
+use Rattle.mg_model.specs.Replay.{body_count, home_of}
 use Rattle.mg_journal.specs.JournalLemmas.{same_wider}
 use Rattle.mg_journal.specs.Phases.{HoldsWrites, IsBehind}
 use Rattle.mg_journal.specs.Staged.{IsRunOf, bytes_of, home_at}

@@ -2,7 +2,8 @@
 use Rattle.std.specs.Prelude.{◌≡◌, ◌+◌, ◌≤◌, ◌<◌, ◌==◌, ◌&&◌, ◌||◌, nat_le, ℕ, Bool, false, List, [], ◌∷◌, option_map}
 use Rattle.mg_disk.specs.Disk.{Image, SameBut, SeenBut}
 use Rattle.mg_model.specs.Layout.{body_limit, globals_block, segment_count, segment_gate}
-use Rattle.mg_model.specs.Replay.{block_of, body_count, homes_fit, is_open, replay, writes_from, written}
+use Rattle.mg_model.specs.Abbreviations.{writes_from}
+use Rattle.mg_model.specs.Replay.{block_of, body_count, homes_fit, is_open, replay, written}
 
 -- the segments' own blocks
 abbrev pub InJournal : ℕ → Type 0

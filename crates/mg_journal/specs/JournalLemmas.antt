@@ -5,7 +5,8 @@ use Rattle.std.proofs.lemmas.Bool.{and_parts, both_ways, cases_Bool, cases_eq}
 use Rattle.std.proofs.lemmas.List.{append-nil}
 use Rattle.mg_disk.specs.Disk.{Image, SameBut, SeenBut, block_at, only_place}
 use Rattle.mg_model.specs.Layout.{body_limit, gate_open, segment_count, segment_gate}
-use Rattle.mg_model.specs.Replay.{body_count, homes_fit, is_open, replay, segment_fits, segments_fit, writes_of, writes_since, written}
+use Rattle.mg_model.specs.Abbreviations.{segments_fit, writes_since}
+use Rattle.mg_model.specs.Replay.{body_count, homes_fit, is_open, replay, segment_fits, writes_of, written}
 use Rattle.mg_journal.specs.Contents.{InClosed, InJournal, NewContents, SameContents, bodies_fit, bodies_of, names}
 use Rattle.mg_journal.specs.SegmentLemmas.{IsAlike, all-fit, all-write, alike-closed, alike-whole, each-fits, fits-closed, fits-open, same-bodies_fit, same-bodies_of, writes-closed, writes-open, writes_since-none, writes_since-split}
 use Rattle.mg_journal.specs.WrittenLemmas.{written-append, written_same}

@@ -4,7 +4,7 @@ use Rattle.std.specs.Option.{ForSome}
 use Rattle.mg_disk.specs.Disk.{Image}
 use Rattle.mg_disk.specs.declared.disk.Disk.{Ghosts}
 use Rattle.mg_model.specs.Layout.{globals_block, segment_count}
-use Rattle.mg_model.specs.Replay.{segments_fit}
+use Rattle.mg_model.specs.Abbreviations.{segments_fit}
 use Rattle.mg_journal.specs.Newest.{HasLast}
 use Rattle.mg_journal.specs.Places.{places_since}
 

@@ -2,7 +2,8 @@
 use Rattle.std.specs.Prelude.{◌≡◌, ◌⊎◌, ◌≤◌, ◌<◌, ℕ, true, false, List, Some}
 use Rattle.mg_disk.specs.Disk.{Image, SameBut, only_place}
 use Rattle.mg_model.specs.Layout.{segment_count, segment_gate}
-use Rattle.mg_model.specs.Replay.{is_open, replay, segments_fit, written}
+use Rattle.mg_model.specs.Abbreviations.{segments_fit}
+use Rattle.mg_model.specs.Replay.{is_open, replay, written}
 use Rattle.mg_journal.specs.Applied.{filled}
 use Rattle.mg_journal.specs.Contents.{InJournal, SameContents, names}
 use Rattle.mg_journal.specs.JournalLemmas.{open_writes}

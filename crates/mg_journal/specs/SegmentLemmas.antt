@@ -5,7 +5,8 @@ use Rattle.std.proofs.lemmas.Bool.{and_from, and_left, and_parts, cases_Bool, ca
 use Rattle.mg_disk.specs.Disk.{Image}
 use Rattle.mg_model.specs.Bytes.{number_at}
 use Rattle.mg_model.specs.Layout.{body_limit, gate_open, segment_body, segment_gate, segment_index}
-use Rattle.mg_model.specs.Replay.{block_of, body_count, home_of, homes_fit, is_open, segment_fits, segments_fit, writes_from, writes_of, writes_since}
+use Rattle.mg_model.specs.Abbreviations.{segments_fit, writes_from, writes_since}
+use Rattle.mg_model.specs.Replay.{block_of, body_count, home_of, homes_fit, is_open, segment_fits, writes_of}
 use Rattle.mg_journal.specs.Contents.{bodies_fit, bodies_of}
 
 -- a replay takes the same from segment s

@@ -1,7 +1,7 @@
 // Writes that wait for a commit.
 ghost use Rattle.std.specs.Prelude.{◌≡◌, ◌==◌, ◌<◌, ◌≤◌, ◌⊎◌, ◌+◌, [], ◌∷◌, ◌++◌, IfOk, IfSome, IsSome, MatchOption, None, Some, drop, is_some, length, position, slice_set, true};
 ghost use Rattle.std.specs.List.{splice};
-ghost use Rattle.mg_model.specs.Bytes.{word_bytes};
+ghost use Rattle.mg_model.specs.Abbreviations.{word_bytes};
 ghost use Rattle.mg_model.specs.Layout.{block_size, body_limit};
 ghost use Rattle.mg_journal.specs.Staged.{IsRunOf, are_once, bytes_of, goes_to, home_at, staged, waiting};
 

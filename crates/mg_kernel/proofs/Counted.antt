@@ -8,7 +8,7 @@ use Rattle.mg_model.specs.declared.calls.Call.TheVariants as call
 use Rattle.mg_model.specs.declared.calls.Line.{Line}
 use Rattle.mg_model.specs.declared.replies.Refusal.TheVariants.{NoThread}
 use Rattle.mg_model.specs.declared.replies.Reply.TheVariants.{No}
-use Rattle.mg_model.specs.Accesses.{accesses, accesses_of, call_accesses, call_words, words_by, words_of}
+use Rattle.mg_model.specs.Accesses.{accesses, accesses_of, call_accesses, call_words, words_by, line_words}
 use Rattle.mg_model.specs.Kept.{KeepsKeys, KeepsLine, line_limit, searches_limit}
 use Rattle.mg_model.specs.Keys.{Key}
 use Rattle.mg_model.specs.Refused.{Answer}
@@ -26,7 +26,7 @@ pub no-keys : (state : State) (kept kept' : Key → Bool) → ((key : Key) → k
 no-keys state kept kept' same = record { stays = λ key was own. same key ∙ was; comes = λ key first. cc }
 
 -- and a line like that
-pub still-line : (state : State) (line : Line) (kept : Key → Bool) (steps : ℕ) → accesses state line ≡ [] → words_of state line ≡ 0 → KeepsLine state line kept kept steps steps
+pub still-line : (state : State) (line : Line) (kept : Key → Bool) (steps : ℕ) → accesses state line ≡ [] → line_words state line ≡ 0 → KeepsLine state line kept kept steps steps
 still-line state line kept steps none own = record {
   keys = λ quiet. subst (λ those. KeepsKeys state those kept kept) (sym none) (no-keys state kept kept (λ key. refl));
   least = omega arith;
@@ -54,7 +54,7 @@ module _ (state : State) (t : ℕ) (made : Call) (of : IsOfThread state t made) 
   pub line-call : (kept kept' : Key → Bool) (steps steps' : ℕ) → is_thread state t ≡ true → KeepsLine state line kept kept' steps steps' → KeepsCall state t made kept kept' steps steps'
   line-call kept kept' steps steps' lives keeps =
       let those : accesses state line ≡ call_accesses state t made = of.accesses ∙ ap (λ v. if v then call_accesses state t made else []) lives in
-      let own : words_of state line ≡ call_words state t made = of.words ∙ ap (λ v. if v then call_words state t made else 0) lives in
+      let own : line_words state line ≡ call_words state t made = of.words ∙ ap (λ v. if v then call_words state t made else 0) lives in
       let answer : step_of state t made ≡ thread_call state t made = of.answer ∙ ap (λ v. if v then thread_call state t made else (state, No NoThread)) lives in
       let limit : searches_limit kept state (accesses state line) ≡ searches_limit kept state (call_accesses state t made) = ap (λ xs. searches_limit kept state xs) those in
       let least = keeps.least in
@@ -67,7 +67,7 @@ module _ (state : State) (t : ℕ) (made : Call) (of : IsOfThread state t made) 
 
   pub limit-call : (kept : Key → Bool) (steps steps' : ℕ) → is_thread state t ≡ true → steps' ≤ steps + line_limit kept state line → steps' ≤ steps + call_limit kept state t made
   limit-call kept steps steps' lives few =
-      let own : words_of state line ≡ call_words state t made = of.words ∙ ap (λ v. if v then call_words state t made else 0) lives in
+      let own : line_words state line ≡ call_words state t made = of.words ∙ ap (λ v. if v then call_words state t made else 0) lives in
       let limit : searches_limit kept state (accesses state line) ≡ searches_limit kept state (call_accesses state t made) =
       ap (λ xs. searches_limit kept state xs) (of.accesses ∙ ap (λ v. if v then call_accesses state t made else []) lives) in
       omega arith
@@ -76,7 +76,7 @@ module _ (state : State) (t : ℕ) (made : Call) (of : IsOfThread state t made) 
   pub call-line : (kept kept' : Key → Bool) (steps steps' : ℕ) → is_thread state t ≡ true → KeepsCall state t made kept kept' steps steps' → KeepsLine state line kept kept' steps steps'
   call-line kept kept' steps steps' lives called =
       let those : accesses state line ≡ call_accesses state t made = of.accesses ∙ ap (λ v. if v then call_accesses state t made else []) lives in
-      let own : words_of state line ≡ call_words state t made = of.words ∙ ap (λ v. if v then call_words state t made else 0) lives in
+      let own : line_words state line ≡ call_words state t made = of.words ∙ ap (λ v. if v then call_words state t made else 0) lives in
       let answer : step_of state t made ≡ thread_call state t made = of.answer ∙ ap (λ v. if v then thread_call state t made else (state, No NoThread)) lives in
       let limit : searches_limit kept state (accesses state line) ≡ searches_limit kept state (call_accesses state t made) = ap (λ xs. searches_limit kept state xs) those in
       let least = called.least in
@@ -89,7 +89,7 @@ module _ (state : State) (t : ℕ) (made : Call) (of : IsOfThread state t made) 
 
   pub limit-line : (kept : Key → Bool) (steps steps' : ℕ) → is_thread state t ≡ true → steps' ≤ steps + call_limit kept state t made → steps' ≤ steps + line_limit kept state line
   limit-line kept steps steps' lives few =
-      let own : words_of state line ≡ call_words state t made = of.words ∙ ap (λ v. if v then call_words state t made else 0) lives in
+      let own : line_words state line ≡ call_words state t made = of.words ∙ ap (λ v. if v then call_words state t made else 0) lives in
       let limit : searches_limit kept state (accesses state line) ≡ searches_limit kept state (call_accesses state t made) =
       ap (λ xs. searches_limit kept state xs) (of.accesses ∙ ap (λ v. if v then call_accesses state t made else []) lives) in
       omega arith

@@ -14,12 +14,12 @@ use Rattle.mg_model.specs.declared.replies.Reply.TheVariants.{No, Turned}
 use Rattle.mg_model.specs.declared.rights.Right.TheVariants.{X}
 use Rattle.mg_model.specs.Abbreviations.{is_allowed}
 use Rattle.mg_model.specs.Access.{thread_of}
-use Rattle.mg_model.specs.Accesses.{Access, accesses, call_accesses, call_words, turn_accesses, turn_words, turning, words_of}
+use Rattle.mg_model.specs.Accesses.{Access, accesses, call_accesses, call_words, turn_accesses, turn_words, turning, line_words}
 use Rattle.mg_model.specs.Domains.{row_of}
 use Rattle.mg_model.specs.Kept.{KeepsKeys, KeepsLine, access_limit, is_known, is_served, line_limit, searches_limit}
 use Rattle.mg_model.specs.Keys.{Key, has_seat, key_of}
 use Rattle.mg_model.specs.Limits.{search_limit}
-use Rattle.mg_model.specs.Refused.{row}
+use Rattle.mg_model.specs.Refused.{checked}
 use Rattle.mg_model.specs.State.{State, Thread, ThreadRow}
 use Rattle.mg_model.specs.Step.{of_thread, step}
 use Rattle.mg_model.specs.Turn.{after_of, picked, run_next, thread_is_ready, turn, turn_state}
@@ -111,14 +111,14 @@ turn-of state t thread found ready = ap (λ v. if v then thread_of state t else 
 turn-ok : (state : State) (t : ℕ) (thread : Thread) → thread_of state t ≡ Some thread → thread_is_ready state t ≡ true → is_ok (of_thread state t (turn state t)).1 ≡ true
 turn-ok state t thread found ready =
     ap (λ o. is_ok (if is_some o then turn state t else (state, No NoThread)).1) found
-    ∙ ap (λ v. is_ok (row state ((not v, NotReady) ∷ []) (turn_state state t, Turned (after_of (turn_state state t) t))).1) ready
+    ∙ ap (λ v. is_ok (checked state ((not v, NotReady) ∷ []) (turn_state state t, Turned (after_of (turn_state state t) t))).1) ready
 
 -- when a line is answered ok and disturbs nothing, its turn is calm
 calm-turn : (ok disturbing calm : Bool) → ok ≡ true → disturbing ≡ not calm → (ok && disturbing) ≡ false → calm ≡ true
 calm-turn ok disturbing true is not quiet = refl
 calm-turn ok disturbing false is not quiet = absurd (false≢true (cc))
 
-module _ (state : State) (line : Line) (thread : Thread) (those : accesses state line ≡ turn_accesses state thread) (own : words_of state line ≡ turn_words state thread) where
+module _ (state : State) (line : Line) (thread : Thread) (those : accesses state line ≡ turn_accesses state thread) (own : line_words state line ≡ turn_words state thread) where
   keeps-line : (kept kept' : Key → Bool) (steps steps' : ℕ) → (is_disturbing state line ≡ false → is_calm_turn state (Some thread) ≡ true) → KeepsTurn state thread kept kept' steps steps' → KeepsLine state line kept kept' steps steps'
   keeps-line kept kept' steps steps' calm keeps =
       let limit = ap (λ xs. searches_limit kept state xs) those in
@@ -141,7 +141,7 @@ module _ (state : State) (t : ℕ) (thread : Thread) (found : thread_of state t 
   turn-accesses : accesses state turns ≡ turn_accesses state thread
   turn-accesses = ap (λ o. option_map_or (λ x. turn_accesses state x) o []) (turn-of state t thread found ready)
 
-  turn-words : words_of state turns ≡ turn_words state thread
+  turn-words : line_words state turns ≡ turn_words state thread
   turn-words = ap (λ o. option_map_or (λ x. turn_words state x) o 0) (turn-of state t thread found ready)
 
   pub turn-line : (kept kept' : Key → Bool) (steps steps' : ℕ) → KeepsTurn state thread kept kept' steps steps' → KeepsLine state turns kept kept' steps steps'
@@ -176,7 +176,7 @@ module _ (state : State) (u : ℕ) (thread : Thread) (runs : picked state ≡ So
   next-accesses : accesses state nexts ≡ turn_accesses state thread
   next-accesses = ap (λ o. option_map_or (λ x. turn_accesses state x) o []) runs
 
-  next-words : words_of state nexts ≡ turn_words state thread
+  next-words : line_words state nexts ≡ turn_words state thread
   next-words = ap (λ o. option_map_or (λ x. turn_words state x) o 0) runs
 
   pub next-line : (kept kept' : Key → Bool) (steps steps' : ℕ) → KeepsTurn state thread kept kept' steps steps' → KeepsLine state nexts kept kept' steps steps'

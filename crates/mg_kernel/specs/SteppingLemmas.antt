@@ -10,7 +10,7 @@ use Rattle.mg_model.specs.declared.calls.Line.{Line}
 use Rattle.mg_model.specs.declared.replies.Reply.{Reply}
 use Rattle.mg_model.specs.Keys.{Key}
 use Rattle.mg_model.specs.Kept.{KeepsLine, KeepsWarm, line_limit}
-use Rattle.mg_model.specs.Print.{reply_line, text}
+use Rattle.mg_model.specs.Print.{replies_text, reply_line}
 use Rattle.mg_model.specs.Refused.{Answer}
 use Rattle.mg_model.specs.State.{State}
 use Rattle.mg_model.specs.Step.{after, step}
@@ -47,9 +47,9 @@ pub warm-same : (past : List Event) (k k' : Kernel) → seats_in k' ≡ seats_in
 warm-same past k k' same warm = record { each = λ key is. same_keys k k' same key ∙ warm.each key is }
 
 -- what is said and kept from a line on
-pub answers_line : (s now : State) (line : Line) (reply : Reply) → step s line ≡ (now, reply) → AnswersLine (text s) (after s) (text now) (after now) line reply
+pub answers_line : (s now : State) (line : Line) (reply : Reply) → step s line ≡ (now, reply) → AnswersLine (replies_text s) (after s) (replies_text now) (after now) line reply
 answers_line s now line reply is = record {
-  says = λ ls. ap (λ (v : Answer). reply_line v.1 ++ text v.0 ls) is;
+  says = λ ls. ap (λ (v : Answer). reply_line v.1 ++ replies_text v.0 ls) is;
   none = refl;
   keeps = λ ls. ap (λ (v : Answer). after v.0 ls) is;
 }
@@ -72,11 +72,11 @@ pub stepped_same : (k k' : Kernel) → seats_in k' ≡ seats_in k → (old : Ker
 stepped_same k k' seats old first ls n n' st = record { warm = warm-same (events [] (now_of old first) ls) k k' seats st.warm; spent = st.spent }
 
 -- a commit leaves what is said and kept
-pub commits : (s : State) (k' : Kernel) (told : Option Image) → Holds s k' told → Commits (text s) (after s) (λ image. text (now_of k' image)) (λ image. after (now_of k' image)) told
+pub commits : (s : State) (k' : Kernel) (told : Option Image) → Holds s k' told → Commits (replies_text s) (after s) (λ image. replies_text (now_of k' image)) (λ image. after (now_of k' image)) told
 commits s k' told h = record {
   image = h.image;
   seen = h.is;
   spelled = h.kept;
-  says = λ ls. ap (λ v. text v ls) h.now;
+  says = λ ls. ap (λ v. replies_text v ls) h.now;
   keeps = λ ls. ap (λ v. after v ls) h.now;
 }

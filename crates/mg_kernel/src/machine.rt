@@ -10,7 +10,7 @@ use std::sync::ledger::Ledger;
 
 impl Machine for Kernel {
     ghost use Rattle.mg_kernel.specs.Meaning as kernels;
-    ghost use Rattle.mg_model.specs.Print.{text};
+    ghost use Rattle.mg_model.specs.Print.{replies_text};
     ghost use Rattle.mg_model.specs.Step.{after};
     ghost use Rattle.mg_kernel.specs.Stepping.{IsSpent, IsStepped};
 
@@ -22,7 +22,7 @@ impl Machine for Kernel {
 
     ghost StandsOn = { λ D facts k d. kernels.StandsOn facts k d };
 
-    ghost said = { λ k image. text (kernels.now_of k image) };
+    ghost said = { λ k image. replies_text (kernels.now_of k image) };
 
     ghost kept = { λ k image. after (kernels.now_of k image) };
 

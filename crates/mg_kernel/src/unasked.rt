@@ -24,30 +24,33 @@ pub(crate) fn unasked(volume: &mut Volume, cache: &mut VCache, thread: u64, call
 {
     match *call {
         Call::Create {
-            pages,
-            account,
-            password,
+            n: pages,
+            acc: account,
+            pw: password,
         } => create(volume, pages, account, password),
-        Call::Apdadd { clist, password } => apdadd(volume, cache, thread, clist, password),
-        Call::Apddel { index } => apddel(volume, cache, thread, index),
+        Call::Apdadd {
+            cb: clist,
+            cpw: password,
+        } => apdadd(volume, cache, thread, clist, password),
+        Call::Apddel { i: index } => apddel(volume, cache, thread, index),
         Call::Apdlist => apdlist(volume, thread),
         Call::Ret => ret(volume, cache, thread),
-        Call::End { thread: ended } => end(volume, cache, thread, ended),
-        Call::Resume { thread: resumed } => resume(volume, thread, resumed),
+        Call::End { i: ended } => end(volume, cache, thread, ended),
+        Call::Resume { i: resumed } => resume(volume, thread, resumed),
         Call::Account {
-            account: payer,
-            password,
-            amount,
+            acc: payer,
+            pw: password,
+            n: amount,
         } => account(volume, payer, password, amount),
         Call::Pay {
-            account: payer,
-            password,
+            acc: payer,
+            pw: password,
             to,
-            amount,
+            n: amount,
         } => pay(volume, payer, password, to, amount),
         Call::Balance {
-            account: payer,
-            password,
+            acc: payer,
+            pw: password,
         } => balance(volume, payer, password),
         _ => unreachable!(),
     }

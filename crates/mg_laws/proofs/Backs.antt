@@ -9,10 +9,11 @@ use Rattle.mg_model.specs.declared.replies.Refusal.{Refusal}
 use Rattle.mg_model.specs.declared.rights.Right.{Right}
 use Rattle.mg_model.specs.declared.seats.Seat.{Seat}
 use Rattle.mg_model.specs.declared.slots.Slot.{Slot}
-use Rattle.mg_model.specs.Access.{based_at, covers, domain_of, entries_from, entries_of, holds, last_slots}
-use Rattle.mg_model.specs.Backed.{IsBacked, KeepsBacked, by_none, by_word, entries_at, held_at}
+use Rattle.mg_model.specs.Abbreviations.{pairs_from, unless_refused}
+use Rattle.mg_model.specs.Access.{based_at, covers, domain_of, pairs_of, holds, last_slots}
+use Rattle.mg_model.specs.Backed.{IsBacked, KeepsBacked, by_none, by_word, pairs_at, held_at}
 use Rattle.mg_model.specs.Objects.{with_row, with_word}
-use Rattle.mg_model.specs.Refused.{Answer, unless_refused}
+use Rattle.mg_model.specs.Refused.{Answer}
 use Rattle.mg_model.specs.State.{Object, ObjectRow, State, Thread}
 
 -- each of these slots is among those
@@ -27,7 +28,7 @@ KeepsHeld old new base = (password : ℕ) (right : Right) → held_at old base p
 -- password that gives the right
 pub record KeepsParts (old new : State) (seat : Seat) : Type 0 where
   pub slots : KeepsSlots (domain_of old seat.thread) (domain_of new seat.thread)
-  pub entries : entries_at new seat.via ≡ entries_at old seat.via
+  pub entries : pairs_at new seat.via ≡ pairs_at old seat.via
   pub opened : KeepsHeld old new seat.via
   pub held : KeepsHeld old new seat.base
 
@@ -55,16 +56,16 @@ pub none-backed : (ended : Seat → Bool) (old new : State) → KeepsBacked by_n
 none-backed ended old new keeps = λ seat stays backed. keeps seat refl backed
 
 -- a word from word 512 on is no part of a capability list
-entries_from-set : (words : List ℕ) (i value j n : ℕ) → 2 * (j + n) + 2 ≤ i → entries_from (slice_set words i value) j n ≡ entries_from words j n
-entries_from-set words i value j zero high = refl
-entries_from-set words i value j (suc n) high =
+pairs_from-set : (words : List ℕ) (i value j n : ℕ) → 2 * (j + n) + 2 ≤ i → pairs_from (slice_set words i value) j n ≡ pairs_from words j n
+pairs_from-set words i value j zero high = refl
+pairs_from-set words i value j (suc n) high =
     let first : slice_index (slice_set words i value) (2 + 2 * j) ≡ slice_index words (2 + 2 * j) = get_or-set_other words i (2 + 2 * j) value 0 (omega arith) in
     let second : slice_index (slice_set words i value) (3 + 2 * j) ≡ slice_index words (3 + 2 * j) = get_or-set_other words i (3 + 2 * j) value 0 (omega arith) in
-    let rest : entries_from (slice_set words i value) (j + 1) n ≡ entries_from words (j + 1) n = entries_from-set words i value (j + 1) n (omega arith) in
+    let rest : pairs_from (slice_set words i value) (j + 1) n ≡ pairs_from words (j + 1) n = pairs_from-set words i value (j + 1) n (omega arith) in
     rw (first, second, rest) refl
 
-entries_of-set : (words : List ℕ) (i value : ℕ) → 512 ≤ i → entries_of (slice_set words i value) ≡ entries_of words
-entries_of-set words i value high = grind (arith, get_or-set_other, entries_from-set)
+pairs_of-set : (words : List ℕ) (i value : ℕ) → 512 ≤ i → pairs_of (slice_set words i value) ≡ pairs_of words
+pairs_of-set words i value high = grind (arith, get_or-set_other, pairs_from-set)
 
 -- the object with another word, if it has the address
 abbrev stored : ℕ → ℕ → Object → Object
@@ -73,8 +74,8 @@ stored address value object = cond (covers object.row address) (record object { 
 stored-row : (address value : ℕ) (object : Object) → (stored address value object).row ≡ object.row
 stored-row address value object = cond_both (covers object.row address) _ _ (λ (x : Object). x.row ≡ object.row) (λ _. refl) (λ _. refl)
 
-stored-entries : (address value via : ℕ) (object : Object) → (leb via address && ltb address (via + 4096)) ≡ false → object.row.base ≡ via → entries_of (stored address value object).words ≡ entries_of object.words
-stored-entries address value via object beyond same = grind (arith, cond_both, leb-true, and_parts, entries_of-set, and_from, le-leb, ltb-false)
+stored-entries : (address value via : ℕ) (object : Object) → (leb via address && ltb address (via + 4096)) ≡ false → object.row.base ≡ via → pairs_of (stored address value object).words ≡ pairs_of object.words
+stored-entries address value via object beyond same = grind (arith, cond_both, leb-true, and_parts, pairs_of-set, and_from, le-leb, ltb-false)
 
 pub with_word-backed : (state : State) (address value : ℕ) → KeepsBacked (by_word address) state (record state { objects = with_word state.objects address value })
 with_word-backed state address value seat beyond = grind (arith, pass-map, stored-row, backed_from, read-map, stored-entries, eqb-true)
@@ -96,7 +97,7 @@ TakesNone period x change base = x ≡ base → (row : ObjectRow) (password : �
 with_row-held : (state new : State) (x base : ℕ) (change : ObjectRow → ObjectRow) → new.objects ≡ with_row x change state.objects → new.counters.period ≡ state.counters.period → ((row : ObjectRow) → (change row).base ≡ row.base) → TakesNone state.counters.period x change base → KeepsHeld state new base
 with_row-held state new x base change objects period same none password right there = grind (arith, pass-map, rewritten-base, cond_both, eqb-true)
 
-with_row-entries : (state new : State) (x base : ℕ) (change : ObjectRow → ObjectRow) → new.objects ≡ with_row x change state.objects → ((row : ObjectRow) → (change row).base ≡ row.base) → entries_at new base ≡ entries_at state base
+with_row-entries : (state new : State) (x base : ℕ) (change : ObjectRow → ObjectRow) → new.objects ≡ with_row x change state.objects → ((row : ObjectRow) → (change row).base ≡ row.base) → pairs_at new base ≡ pairs_at state base
 with_row-entries state new x base change objects same = grind (arith, read-map, rewritten-base, rewritten-words)
 
 -- a change of the row with base x that keeps its base keeps a seat if it takes no password away from the seat's list or object

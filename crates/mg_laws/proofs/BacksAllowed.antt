@@ -14,8 +14,8 @@ use Rattle.mg_model.specs.declared.rights.Right.{Right}
 use Rattle.mg_model.specs.declared.rights.Right.TheVariants.{R}
 use Rattle.mg_model.specs.declared.seats.Seat.{Seat}
 use Rattle.mg_model.specs.declared.slots.Slot.{Slot}
-use Rattle.mg_model.specs.Access.{allowed, at, based_at, covers, domain_of, entries_of, entries_under, holds}
-use Rattle.mg_model.specs.Backed.{IsBacked, by_word, entries_at, held_at}
+use Rattle.mg_model.specs.Access.{allowed, at, based_at, covers, domain_of, pairs_of, pairs_under, holds}
+use Rattle.mg_model.specs.Backed.{IsBacked, by_word, pairs_at, held_at}
 use Rattle.mg_model.specs.State.{Object, State}
 use Rattle.mg_model.specs.WellFormed.{IsBefore, IsObject, IsWellFormed}
 
@@ -36,15 +36,15 @@ held-found : (state : State) (base password : ℕ) (right : Right) (object : Obj
 held-found state base password right object found = ap (λ (o : Option Object). option_map_or (λ (x : Object). holds state.counters.period x.row password right) o false) found
 
 -- what a slot gives if its password opens the list: the entries of the list
-opened_of : (o : Option Object) (test : Object → Bool) → option_map_or test o false ≡ true → option_map_or (λ (x : Object). if test x then entries_of x.words else []) o [] ≡ option_map_or (λ (x : Object). entries_of x.words) o []
+opened_of : (o : Option Object) (test : Object → Bool) → option_map_or test o false ≡ true → option_map_or (λ (x : Object). if test x then pairs_of x.words else []) o [] ≡ option_map_or (λ (x : Object). pairs_of x.words) o []
 opened_of None test never = absurd (false≢true never)
 opened_of (Some x) test opens = cond-true _ _ _ opens
 
-entries-opened : (state : State) (slot : Slot) → held_at state slot.base slot.password R ≡ true → entries_under state.objects state.counters.period slot ≡ entries_at state slot.base
+entries-opened : (state : State) (slot : Slot) → held_at state slot.base slot.password R ≡ true → pairs_under state.objects state.counters.period slot ≡ pairs_at state slot.base
 entries-opened state slot opened = opened_of (based_at state.objects slot.base) (λ (x : Object). holds state.counters.period x.row slot.password R) opened
 
 -- if a slot gives any entry, its password opens the list
-opens_of : (o : Option Object) (test : Object → Bool) (entry : ℕ × ℕ) → Contains (option_map_or (λ (x : Object). if test x then entries_of x.words else []) o []) entry → option_map_or test o false ≡ true
+opens_of : (o : Option Object) (test : Object → Bool) (entry : ℕ × ℕ) → Contains (option_map_or (λ (x : Object). if test x then pairs_of x.words else []) o []) entry → option_map_or test o false ≡ true
 opens_of None test entry among = let within = among.1 in absurd (omega arith)
 opens_of (Some x) test entry among = grind arith
 
@@ -60,7 +60,7 @@ abbrev is_for : State → Object → Right → ℕ × ℕ → Bool
 is_for state object right entry = eqb entry.0 object.row.base && holds state.counters.period object.row entry.1 right
 
 allowed-any : (state : State) (t address : ℕ) (right : Right) (object : Object) → at state.objects address ≡ Some object →
-    allowed state t address right ≡ list_any (λ slot. list_any (is_for state object right) (entries_under state.objects state.counters.period slot)) (domain_of state t)
+    allowed state t address right ≡ list_any (λ slot. list_any (is_for state object right) (pairs_under state.objects state.counters.period slot)) (domain_of state t)
 allowed-any state t address right object there = grind (arith, any-flat_map)
 
 pub backed-allows : BackedAllows allowed
@@ -68,12 +68,12 @@ backed-allows state seat address object formed backed there same =
     let slot = backed.slot in
     let found : based_at state.objects seat.base ≡ Some object = ap (λ (b : ℕ). based_at state.objects b) (sym same) ∙ at-based state address object formed there in
     let opened : held_at state slot.base slot.password R ≡ true = ap (λ (b : ℕ). held_at state b slot.password R) backed.via ∙ backed.opened in
-    let entries : entries_under state.objects state.counters.period slot ≡ entries_at state seat.via = entries-opened state slot opened ∙ ap (λ (b : ℕ). entries_at state b) backed.via in
+    let entries : pairs_under state.objects state.counters.period slot ≡ pairs_at state seat.via = entries-opened state slot opened ∙ ap (λ (b : ℕ). pairs_at state b) backed.via in
     let held : holds state.counters.period object.row backed.entry.1 seat.right ≡ true = sym (held-found state seat.base backed.entry.1 seat.right object found) ∙ backed.held in
     let passes : is_for state object seat.right backed.entry ≡ true = and_from _ _ (eq-eqb _ _ (backed.base ∙ sym same)) held in
     allowed-any state seat.thread address seat.right object there
-    ∙ any-contains (λ (s : Slot). list_any (is_for state object seat.right) (entries_under state.objects state.counters.period s)) (domain_of state seat.thread) slot backed.slots
-    (ap (λ (es : List (ℕ × ℕ)). list_any (is_for state object seat.right) es) entries ∙ any-contains (is_for state object seat.right) (entries_at state seat.via) backed.entry backed.entries passes)
+    ∙ any-contains (λ (s : Slot). list_any (is_for state object seat.right) (pairs_under state.objects state.counters.period s)) (domain_of state seat.thread) slot backed.slots
+    (ap (λ (es : List (ℕ × ℕ)). list_any (is_for state object seat.right) es) entries ∙ any-contains (is_for state object seat.right) (pairs_at state seat.via) backed.entry backed.entries passes)
 
 -- a slot whose list opens the object backs a seat for it
 pub opening-backs : OpeningBacks
@@ -82,7 +82,7 @@ opening-backs state t address right object slot formed there among opens =
 
 pub allowed-backed : AllowedIsBacked allowed
 allowed-backed state t address right object formed there may =
-    let any = Any-from_list_any (λ slot. list_any (is_for state object right) (entries_under state.objects state.counters.period slot)) (domain_of state t) (sym (allowed-any state t address right object there) ∙ may) in
+    let any = Any-from_list_any (λ slot. list_any (is_for state object right) (pairs_under state.objects state.counters.period slot)) (domain_of state t) (sym (allowed-any state t address right object there) ∙ may) in
     let slot : Slot = any.1 in
     (slot.base, opening-backs state t address right object slot formed there (any.0, any.2, any.3) any.4)
 

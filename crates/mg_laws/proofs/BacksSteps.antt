@@ -26,18 +26,18 @@ use Rattle.mg_model.specs.declared.seats.Seat.{Seat}
 use Rattle.mg_model.specs.declared.threads.Fault.{Fault}
 use Rattle.mg_model.specs.declared.threads.Fault.TheVariants as fault
 use Rattle.mg_model.specs.declared.threads.ThrState.TheVariants.{Faulted}
-use Rattle.mg_model.specs.Abbreviations.{advanced}
+use Rattle.mg_model.specs.Abbreviations.{advanced, refusal_number}
 use Rattle.mg_model.specs.Access.{allowed, thread_of}
 use Rattle.mg_model.specs.Accesses.{turning}
 use Rattle.mg_model.specs.Backed.{KeepsBacked, by_none, by_thread, by_word, ended_by_call, ended_by_instruction, ended_by_turn, ended_of}
 use Rattle.mg_model.specs.Domains.{pdx, ret, row_of}
 use Rattle.mg_model.specs.Objects.{with_word, word_at}
-use Rattle.mg_model.specs.Refused.{Answer, refusal_number}
+use Rattle.mg_model.specs.Refused.{Answer}
 use Rattle.mg_model.specs.Script.{decoded, jumped, operand, register, with_register}
 use Rattle.mg_model.specs.State.{State, Thread, ThreadRow}
 use Rattle.mg_model.specs.Step.{of_thread, step, step_of}
 use Rattle.mg_model.specs.Threads.{is_thread}
-use Rattle.mg_model.specs.Turn.{faulted, is_ready, picked, put_row, ready_above, run, run_next, run_word, seen, spelled, thread_call, thread_is_ready, turn, turn_state, turned, unless_faulted, values_of, with_registers}
+use Rattle.mg_model.specs.Turn.{faulted, is_ready, picked, put_row, ready_above, run, run_next, run_word, with_answer, script_call, thread_call, thread_is_ready, turn, turn_state, turned, unless_faulted, values_of, with_registers}
 use Rattle.mg_model.specs.WellFormed.{IsThread, IsWellFormed}
 
 pub call-backed : CallsKeepBacked (λ state t made. (thread_call state t made).0)
@@ -78,9 +78,9 @@ unless_faulted-backed ended state t address may done keeps =
     (λ _. cond_both (not may) _ _ (KeepsBacked ended state) (λ _. at_fault fault.Denied) (λ _. keeps))
 
 -- a call by a script, and what its thread sees of the answer
-seen-backed : (ended : Seat → Bool) (old : State) (t : ℕ) (on_ok : Reply → ThreadRow → ThreadRow) (answer : Answer) → ((said : Reply) (row : ThreadRow) → (on_ok said row).frames ≡ row.frames) → KeepsBacked ended old answer.0 → KeepsBacked ended old (seen t on_ok answer)
-seen-backed ended old t on_ok (state, reply.No word) same keeps = last-backed ended old state _ keeps (frames-backed state t (λ thread. with_register thread 0 (refusal_number word)) (λ row is. refl))
-seen-backed ended old t on_ok (state, said) same keeps = last-backed ended old state _ keeps (frames-backed state t (on_ok said) (λ row is. same said row))
+with_answer-backed : (ended : Seat → Bool) (old : State) (t : ℕ) (on_ok : Reply → ThreadRow → ThreadRow) (answer : Answer) → ((said : Reply) (row : ThreadRow) → (on_ok said row).frames ≡ row.frames) → KeepsBacked ended old answer.0 → KeepsBacked ended old (with_answer t on_ok answer)
+with_answer-backed ended old t on_ok (state, reply.No word) same keeps = last-backed ended old state _ keeps (frames-backed state t (λ thread. with_register thread 0 (refusal_number word)) (λ row is. refl))
+with_answer-backed ended old t on_ok (state, said) same keeps = last-backed ended old state _ keeps (frames-backed state t (on_ok said) (λ row is. same said row))
 
 with_registers-frames : (row : ThreadRow) (k : ℕ) (values : List ℕ) → (with_registers row k values).frames ≡ row.frames
 with_registers-frames row k [] = refl
@@ -120,19 +120,19 @@ module _ (state : State) (t : ℕ) (row : ThreadRow) (formed : IsWellFormed stat
   run-backed (op.Pdx a b) =
       let mask : ℕ = register row b in
       let mid : State = put_row state t (advanced row) in
-      seen-backed (by_thread t) state t (λ _ entered. with_register entered 0 0) (cond (ltb 255 mask) (mid, reply.No refusal.Syntax) (pdx mid t (register row a) mask)) (λ _ _. refl)
+      with_answer-backed (by_thread t) state t (λ _ entered. with_register entered 0 0) (cond (ltb 255 mask) (mid, reply.No refusal.Syntax) (pdx mid t (register row a) mask)) (λ _ _. refl)
       (cond_both (ltb 255 mask) (mid, reply.No refusal.Syntax) (pdx mid t (register row a) mask) (λ (answer : Answer). KeepsBacked (by_thread t) state answer.0)
       (λ _. none-backed (by_thread t) state mid (put-backed (advanced row) refl))
       (λ _. then-backed (by_thread t) _ (pdx-backed mid t (register row a) mask)))
   run-backed op.Ret =
       let mid : State = put_row state t (advanced row) in
-      seen-backed (by_thread t) state t (λ _ returned. returned) (ret mid t) (λ _ _. refl) (then-backed (by_thread t) _ (ret-backed mid t))
+      with_answer-backed (by_thread t) state t (λ _ returned. returned) (ret mid t) (λ _ _. refl) (then-backed (by_thread t) _ (ret-backed mid t))
   run-backed op.Yield = put-backed _ refl
   run-backed op.Sys =
       let mid : State = put_row state t (advanced row) in
-      let ended : Seat → Bool = ended_by_call state t (spelled row) in
-      seen-backed ended state t (λ said caller. with_registers caller 0 (0 ∷ values_of said)) (thread_call mid t (spelled row)) (λ said r. with_registers-frames r 0 (0 ∷ values_of said))
-      (then-backed ended _ (subst (λ (e : Seat → Bool). KeepsBacked e mid (thread_call mid t (spelled row)).0) (same_ended state mid t (spelled row) refl) (call-backed mid t (spelled row) before_formed)))
+      let ended : Seat → Bool = ended_by_call state t (script_call row) in
+      with_answer-backed ended state t (λ said caller. with_registers caller 0 (0 ∷ values_of said)) (thread_call mid t (script_call row)) (λ said r. with_registers-frames r 0 (0 ∷ values_of said))
+      (then-backed ended _ (subst (λ (e : Seat → Bool). KeepsBacked e mid (thread_call mid t (script_call row)).0) (same_ended state mid t (script_call row) refl) (call-backed mid t (script_call row) before_formed)))
 
   word-backed : (o : Option Instr) → KeepsBacked (ended_by_instruction state t row o) state (run_word state t row o)
   word-backed None = faulted-backed state t fault.Opcode

@@ -11,13 +11,13 @@ use Rattle.mg_laws.proofs.KeepsRows.{changed, changed-number, domain_of-row, row
 use Rattle.mg_laws.proofs.KeepsThreads.{find-with_new_thread, find-without, free_number-free}
 use Rattle.mg_model.specs.declared.seats.Seat.{Seat}
 use Rattle.mg_model.specs.declared.slots.Slot.{Slot}
-use Rattle.mg_model.specs.Abbreviations.{free_number}
+use Rattle.mg_model.specs.Abbreviations.{born, free_number}
 use Rattle.mg_model.specs.Access.{domain_of, last_slots, thread_of}
 use Rattle.mg_model.specs.Backed.{IsBacked, KeepsBacked, by_each, by_none, by_thread}
 use Rattle.mg_model.specs.BankCalls.{open_account, pay, rent}
 use Rattle.mg_model.specs.Domains.{apdadd, apddel, pdx, ret, row_of, with_last_slots, with_thread}
 use Rattle.mg_model.specs.State.{CallFrame, State, Thread, ThreadRow}
-use Rattle.mg_model.specs.Threads.{birth_of, born, end_thread, make_thread, new_thread, resume, with_new_thread}
+use Rattle.mg_model.specs.Threads.{birth_of, end_thread, make_thread, new_thread, resume, with_new_thread}
 use Rattle.mg_model.specs.WellFormed.{IsWellFormed}
 
 -- A change of a thread's row keeps the slots of each thread if it keeps those of the row that the number finds.

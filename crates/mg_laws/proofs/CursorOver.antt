@@ -13,17 +13,17 @@ use Rattle.mg_model.specs.declared.replies.Refusal.{Refusal}
 use Rattle.mg_model.specs.declared.replies.Reply.{Reply}
 use Rattle.mg_model.specs.declared.replies.Reply.TheVariants as reply
 use Rattle.mg_model.specs.declared.threads.ThrState.TheVariants.{Ready}
-use Rattle.mg_model.specs.Abbreviations.{advanced, free_number}
+use Rattle.mg_model.specs.Abbreviations.{advanced, born, free_number, unless_refused}
 use Rattle.mg_model.specs.Access.{domain_of}
-use Rattle.mg_model.specs.Bank.{balance_of, given_to, owed_by, pages_of, taken_from}
+use Rattle.mg_model.specs.Bank.{balance_of, credited, owed_by, pages_of, debited}
 use Rattle.mg_model.specs.Domains.{pdx, ret, row_of, with_slots, with_thread}
 use Rattle.mg_model.specs.Limits.{never}
 use Rattle.mg_model.specs.ObjectCalls.{about, drawn, extension_of, has_password, next_password, row_at, with_entry, with_row_at}
 use Rattle.mg_model.specs.Objects.{lowest_free, new_object, with_object, with_word, without_object, word_at}
-use Rattle.mg_model.specs.Refused.{Answer, unless_refused}
+use Rattle.mg_model.specs.Refused.{Answer}
 use Rattle.mg_model.specs.State.{State, Thread, ThreadRow}
-use Rattle.mg_model.specs.Threads.{birth_of, born, new_thread, with_new_thread}
-use Rattle.mg_model.specs.Turn.{put_row, run, run_word, seen, spelled, thread_call, turn_state, turned, unless_faulted, values_of, with_registers}
+use Rattle.mg_model.specs.Threads.{birth_of, new_thread, with_new_thread}
+use Rattle.mg_model.specs.Turn.{put_row, run, run_word, with_answer, script_call, thread_call, turn_state, turned, unless_faulted, values_of, with_registers}
 
 module _ (n : ℕ) where
   abbrev C : State → State
@@ -61,17 +61,17 @@ module _ (n : ℕ) where
   call-over state t (call.Thread pc) = row-over state _ (record (born state) { threads = with_new_thread (new_thread (free_number state.threads) (state.counters.births + 1) (birth_of state t) pc (domain_of state t)) state.threads }, reply.Count (free_number state.threads))
   call-over state t (call.End i) = row-over state _ (record state { threads = filter (λ (x : Thread). not (eqb x.number i)) state.threads }, reply.Done)
   call-over state t (call.Resume i) = row-over state _ (with_thread state i (λ (r : ThreadRow). record r { state = Ready }), reply.Done)
-  call-over state t (call.Account account password amount) = row-over state _ (record (drawn state) { accounts = taken_from state.accounts account amount ++ record { password = next_password state; balance = amount; owed = 0 } ∷ [] }, reply.Opened (length state.accounts + 1) (next_password state))
-  call-over state t (call.Pay account password to amount) = row-over state _ (record state { accounts = given_to (taken_from state.accounts account amount) to amount }, reply.Done)
+  call-over state t (call.Account account password amount) = row-over state _ (record (drawn state) { accounts = debited state.accounts account amount ++ record { password = next_password state; balance = amount; owed = 0 } ∷ [] }, reply.Opened (length state.accounts + 1) (next_password state))
+  call-over state t (call.Pay account password to amount) = row-over state _ (record state { accounts = credited (debited state.accounts account amount) to amount }, reply.Done)
   call-over state t (call.Balance account password) = row-over state _ (state, reply.Funds (balance_of state.accounts account) (owed_by state.accounts account) (pages_of state.objects account))
   call-over state t call.Turn = refl
   call-over state t call.Next = refl
   call-over state t call.Rent = refl
   call-over state t call.Bad = refl
 
-  seen-over : (t : ℕ) (on_ok : Reply → ThreadRow → ThreadRow) (after : Answer) → seen t on_ok (moved after) ≡ C (seen t on_ok after)
-  seen-over t on_ok (state, reply.No word) = refl
-  seen-over t on_ok (state, other) = refl
+  with_answer-over : (t : ℕ) (on_ok : Reply → ThreadRow → ThreadRow) (after : Answer) → with_answer t on_ok (moved after) ≡ C (with_answer t on_ok after)
+  with_answer-over t on_ok (state, reply.No word) = refl
+  with_answer-over t on_ok (state, other) = refl
 
   faulted-over : (state : State) (t address : ℕ) (may : Bool) (done : State) → unless_faulted (C state) t address may (C done) ≡ C (unless_faulted state t address may done)
   faulted-over state t address may done = grind arith
@@ -79,12 +79,12 @@ module _ (n : ℕ) where
   run-over : (state : State) (t here : ℕ) (thread : ThreadRow) (instr : Instr) → run (C state) t here thread instr ≡ C (run state t here thread instr)
   run-over state t here thread (op.Load a b i) = grind (arith, faulted-over)
   run-over state t here thread (op.Store a b i) = grind (arith, faulted-over)
-  run-over state t here thread (op.Pdx a b) = grind (arith, cond_both, pdx-over, seen-over)
-  run-over state t here thread op.Ret = grind (arith, ret-over, seen-over)
+  run-over state t here thread (op.Pdx a b) = grind (arith, cond_both, pdx-over, with_answer-over)
+  run-over state t here thread op.Ret = grind (arith, ret-over, with_answer-over)
   run-over state t here thread op.Sys =
       let before = put_row state t thread in
       let told : Reply → ThreadRow → ThreadRow = λ said caller. with_registers caller 0 (0 ∷ values_of said) in
-      ap (seen t told) (call-over before t (spelled thread)) ∙ seen-over t told (thread_call before t (spelled thread))
+      ap (with_answer t told) (call-over before t (script_call thread)) ∙ with_answer-over t told (thread_call before t (script_call thread))
   run-over state t here thread other = refl
 
   word-over : (state : State) (t : ℕ) (thread : ThreadRow) (o : Option Instr) → run_word (C state) t thread o ≡ C (run_word state t thread o)

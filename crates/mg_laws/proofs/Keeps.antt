@@ -1,7 +1,8 @@
 -- What a row of the table of calls keeps: a refused call leaves the state, so a fact that its effect keeps is kept.
 use Rattle.std.specs.Prelude.{◌≡◌, Option, Some, None, refl}
 use Rattle.mg_model.specs.declared.replies.Refusal.{Refusal}
-use Rattle.mg_model.specs.Refused.{Answer, unless_refused}
+use Rattle.mg_model.specs.Abbreviations.{unless_refused}
+use Rattle.mg_model.specs.Refused.{Answer}
 use Rattle.mg_model.specs.State.{State}
 use Rattle.mg_model.specs.WellFormed.{IsWellFormed}
 

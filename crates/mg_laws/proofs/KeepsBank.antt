@@ -5,14 +5,14 @@ use Rattle.std.proofs.lemmas.List.{length_push}
 use Rattle.std.proofs.lemmas.List.Elements.{All-push, All-weaker}
 use Rattle.std.proofs.lemmas.List.Sums.{sum_by_push}
 use Rattle.mg_model.specs.declared.accounts.AccRow.{AccRow}
-use Rattle.mg_model.specs.Bank.{account_of, all_charged, balance_of, given_to, opens, pages_of, rate_now, rent_accounts, rent_paid, taken_from}
+use Rattle.mg_model.specs.Bank.{account_of, all_charged, balance_of, credited, opens, pages_of, rate_now, rent_accounts, rent_paid, debited}
 use Rattle.mg_model.specs.Limits.{account_limit, period_limit}
 use Rattle.mg_model.specs.BankCalls.{balance, open_account, pay, rent}
 use Rattle.mg_model.specs.DrawnLemmas.{drawn-IsWord}
 use Rattle.mg_laws.proofs.Keeps.{unless_refused-keeps}
 use Rattle.mg_laws.proofs.KeepsCreate.{frames-few}
 use Rattle.mg_laws.proofs.KeepsObjects.{drawn-keeps}
-use Rattle.mg_laws.proofs.KeptAccounts.{IsEdited, account_of-there, given_to-edits, opens-row, paid-edits, taken_from-edits}
+use Rattle.mg_laws.proofs.KeptAccounts.{IsEdited, account_of-there, credited-edits, opens-row, paid-edits, debited-edits}
 use Rattle.mg_laws.proofs.KeptRent.{all_charged-each, all_charged-total, due-few, length-all_charged, rate_of-few}
 use Rattle.mg_model.specs.ObjectCalls.{all_drawn, drawn, next_password}
 use Rattle.mg_laws.proofs.Passed.{unrefused}
@@ -34,7 +34,7 @@ opens-some accounts number password opened = ap is_some (opens-row accounts numb
 pub balance-keeps : (state : State) (account password : ℕ) → IsWellFormed state → IsWellFormed (balance state account password).0
 balance-keeps state account password formed = unless_refused-keeps _ state _ formed (λ _. formed)
 
-paid-keeps : (state : State) (account to amount : ℕ) → IsWellFormed state → is_some (account_of state.accounts account) ≡ true → is_some (account_of state.accounts to) ≡ true → amount ≤ balance_of state.accounts account → IsWellFormed (record state { accounts = given_to (taken_from state.accounts account amount) to amount })
+paid-keeps : (state : State) (account to amount : ℕ) → IsWellFormed state → is_some (account_of state.accounts account) ≡ true → is_some (account_of state.accounts to) ≡ true → amount ≤ balance_of state.accounts account → IsWellFormed (record state { accounts = credited (debited state.accounts account amount) to amount })
 paid-keeps state account to amount formed some there has =
     let edited = paid-edits state.counters.period state.accounts account to amount some there has formed.accounts.each in
     let long = edited.long in
@@ -42,7 +42,7 @@ paid-keeps state account to amount formed some there has =
     let before = formed.accounts.sum in
     let some_accounts = formed.accounts.some in
     let few = formed.accounts.few in
-    accounts-keep state (given_to (taken_from state.accounts account amount) to amount) formed (record { some = omega arith; few = omega arith; each = edited.each; sum = omega arith }) (omega arith)
+    accounts-keep state (credited (debited state.accounts account amount) to amount) formed (record { some = omega arith; few = omega arith; each = edited.each; sum = omega arith }) (omega arith)
 
 pub pay-keeps : (state : State) (account password to amount : ℕ) → IsWellFormed state → IsWellFormed (pay state account password to amount).0
 pay-keeps state account password to amount formed =
@@ -56,16 +56,16 @@ pay-keeps state account password to amount formed =
     (ltb-false (balance_of state.accounts account) amount credit.0))
 
 opened-keeps : (state : State) (account amount : ℕ) → IsWellFormed state → is_some (account_of state.accounts account) ≡ true → amount ≤ balance_of state.accounts account → length state.accounts < 1024 → all_drawn state ≡ false
-    → IsWellFormed (record (drawn state) { accounts = taken_from state.accounts account amount ++ record { password = next_password state; balance = amount; owed = 0 } ∷ [] })
+    → IsWellFormed (record (drawn state) { accounts = debited state.accounts account amount ++ record { password = next_password state; balance = amount; owed = 0 } ∷ [] })
 opened-keeps state account amount formed some has room left =
     let new : AccRow = record { password = next_password state; balance = amount; owed = 0 } in
-    let rest = taken_from state.accounts account amount in
-    let edited = taken_from-edits state.counters.period state.accounts account amount some has formed.accounts.each in
+    let rest = debited state.accounts account amount in
+    let edited = debited-edits state.counters.period state.accounts account amount some has formed.accounts.each in
     let long = edited.long in
     let sum = edited.sum in
     let before = formed.accounts.sum in
-    let count = length_push (taken_from state.accounts account amount) new in
-    let balances = sum_by_push (λ (row : AccRow). row.balance) (taken_from state.accounts account amount) new in
+    let count = length_push (debited state.accounts account amount) new in
+    let balances = sum_by_push (λ (row : AccRow). row.balance) (debited state.accounts account amount) new in
     accounts-keep (drawn state) (rest ++ new ∷ []) (drawn-keeps state formed left)
     (record {
       some = omega arith;
@@ -98,7 +98,7 @@ rent-edits state formed =
     let fit = formed.objects.fit in
     let frames = frames-few state.settings formed.settings in
     let few : (number : ℕ) → rate_now state * pages_of state.objects number ≤ 2 ^ 36 = λ number. grind (arith, due-few, rate_of-few) in
-    given_to-edits (state.counters.period + 1) charged 1 (rent_paid state) (account_of-there charged 1 (omega arith) (omega arith))
+    credited-edits (state.counters.period + 1) charged 1 (rent_paid state) (account_of-there charged 1 (omega arith) (omega arith))
     (all_charged-each state.objects rate state.counters.period few 1 state.accounts formed.accounts.each)
 
 rented-keeps : (state : State) → IsWellFormed state → state.counters.period < period_limit → IsWellFormed (record state { counters = record state.counters { period = state.counters.period + 1 }; accounts = rent_accounts state })

@@ -8,12 +8,12 @@ use Rattle.std.specs.Prelude.{All, find, slice_get}
 use Rattle.std.specs.Option.{option_map_or, option_to_list}
 use Rattle.mg_model.specs.declared.rights.Right.TheVariants.{P}
 use Rattle.mg_model.specs.declared.slots.Slot.{Slot}
-use Rattle.mg_model.specs.Abbreviations.{entered_slots, first_back}
+use Rattle.mg_model.specs.Abbreviations.{entered_slots, first_back, no_row}
 use Rattle.mg_model.specs.Access.{allowed, at, covers, domain_of, last_slots, thread_of}
 use Rattle.mg_model.specs.Domains.{apdadd, apddel, frames_of, kept_from, last_back, pdx, ret, with_last_slots, with_slots, with_thread}
 use Rattle.mg_laws.proofs.Keeps.{unless_refused-keeps}
 use Rattle.mg_laws.proofs.KeepsRows.{frames_of-row, thread-formed, with_thread-keeps}
-use Rattle.mg_model.specs.ObjectCalls.{is_aligned, is_entry, no_row, row_at}
+use Rattle.mg_model.specs.ObjectCalls.{is_aligned, is_entry, row_at}
 use Rattle.mg_laws.proofs.Passed.{unrefused}
 use Rattle.mg_model.specs.Ranges.{IsCallFrame, IsSlot, IsThreadRow, IsWord}
 use Rattle.mg_model.specs.State.{CallFrame, Object, State, Thread, ThreadRow}

@@ -7,7 +7,7 @@ use Rattle.std.specs.Prelude.{find}
 use Rattle.std.specs.Option.{option_map_or}
 use Rattle.mg_model.specs.declared.rights.Right.TheVariants.{X}
 use Rattle.mg_model.specs.declared.threads.ThrState.TheVariants.{Ready}
-use Rattle.mg_model.specs.Abbreviations.{free_number}
+use Rattle.mg_model.specs.Abbreviations.{born, free_number}
 use Rattle.mg_model.specs.Access.{allowed, domain_of, thread_of}
 use Rattle.mg_model.specs.Domains.{row_of, with_thread}
 use Rattle.mg_laws.proofs.Keeps.{unless_refused-keeps}
@@ -18,7 +18,7 @@ use Rattle.mg_model.specs.ObjectCalls.{is_aligned}
 use Rattle.mg_laws.proofs.Passed.{unrefused}
 use Rattle.mg_model.specs.Ranges.{IsThreadRow, IsWord}
 use Rattle.mg_model.specs.State.{State, Thread, ThreadRow}
-use Rattle.mg_model.specs.Threads.{birth_of, born, end_thread, free_number_from, is_own, is_thread, make_thread, new_thread, resume, with_new_thread}
+use Rattle.mg_model.specs.Threads.{birth_of, end_thread, free_number_from, is_own, is_thread, make_thread, new_thread, resume, with_new_thread}
 use Rattle.mg_model.specs.WellFormed.{AreThreads, IsFirst, IsThread, IsWellFormed}
 
 -- the lowest number from n on that no thread has

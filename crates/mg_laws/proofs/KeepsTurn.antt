@@ -16,7 +16,7 @@ use Rattle.mg_model.specs.declared.rights.Right.TheVariants.{R, W, X}
 use Rattle.mg_model.specs.declared.threads.Fault.{Fault}
 use Rattle.mg_model.specs.declared.threads.Fault.TheVariants as fault
 use Rattle.mg_model.specs.declared.threads.ThrState.TheVariants.{Faulted, Stopped}
-use Rattle.mg_model.specs.Abbreviations.{advanced}
+use Rattle.mg_model.specs.Abbreviations.{advanced, refusal_number}
 use Rattle.mg_model.specs.Access.{allowed}
 use Rattle.mg_model.specs.Domains.{pdx, ret, row_of}
 use Rattle.mg_laws.proofs.Keeps.{unless_refused-keeps}
@@ -29,12 +29,12 @@ use Rattle.mg_laws.proofs.KeptObjects.{AreObjects-with_word}
 use Rattle.mg_laws.proofs.KeptRegisters.{HasImmediate, advanced-keeps, decoded-immediate, jumped-keeps, kept_register, kept_registers, kept_same, kept_state, refusal_number-word, register-word}
 use Rattle.mg_model.specs.Objects.{with_word, word_at}
 use Rattle.mg_model.specs.Ranges.{IsThreadRow, IsWord}
-use Rattle.mg_model.specs.Refused.{Answer, refusal_number}
+use Rattle.mg_model.specs.Refused.{Answer}
 use Rattle.mg_laws.proofs.ReplyWords.{thread_call-words, word_at-word}
 use Rattle.mg_model.specs.Script.{decoded, jumped, operand, register, with_register}
 use Rattle.mg_model.specs.State.{State, Thread, ThreadRow}
 use Rattle.mg_laws.proofs.KeepsBank.{balance-keeps, open_account-keeps, pay-keeps}
-use Rattle.mg_model.specs.Turn.{faulted, is_ready, next, picked, put_row, ready_above, run, run_next, run_word, seen, spelled, thread_call, turn, turn_state, turned, unless_faulted, values_of, with_registers}
+use Rattle.mg_model.specs.Turn.{faulted, is_ready, next, picked, put_row, ready_above, run, run_next, run_word, with_answer, script_call, thread_call, turn, turn_state, turned, unless_faulted, values_of, with_registers}
 use Rattle.mg_model.specs.WellFormed.{HasRanges, IsThread, IsWellFormed}
 
 pub thread_call-keeps : (state : State) (t : ℕ) (made : Call) → IsWellFormed state → HasRanges made → IsWellFormed (thread_call state t made).0
@@ -64,8 +64,8 @@ thread_call-keeps state t call.Next formed ranges = formed
 thread_call-keeps state t call.Rent formed ranges = formed
 thread_call-keeps state t call.Bad formed ranges = formed
 
-spelled-ranges : (row : ThreadRow) → IsThreadRow row → HasRanges (spelled row)
-spelled-ranges row is = grind arith
+script_call-ranges : (row : ThreadRow) → IsThreadRow row → HasRanges (script_call row)
+script_call-ranges row is = grind arith
 
 -- another row in place of the thread's
 pub put_row-keeps : (state : State) (t : ℕ) (row new : ThreadRow) → IsWellFormed state → row_of state t ≡ Some row → KeepsRow row new → IsWellFormed (put_row state t new)
@@ -81,10 +81,10 @@ unless_faulted-keeps state t address may done formed after =
     (λ _. cond_both (not may) _ _ IsWellFormed (λ _. faulted-keeps state t fault.Denied formed) (λ _. after))
 
 -- a call by a script
-seen-keeps : (t : ℕ) (on_ok : Reply → ThreadRow → ThreadRow) (answer : Answer) → IsWellFormed answer.0 → ((row : ThreadRow) → IsThreadRow row → KeepsRow row (on_ok answer.1 row)) → IsWellFormed (seen t on_ok answer)
-seen-keeps t on_ok (state, reply.No word) formed keeps =
+with_answer-keeps : (t : ℕ) (on_ok : Reply → ThreadRow → ThreadRow) (answer : Answer) → IsWellFormed answer.0 → ((row : ThreadRow) → IsThreadRow row → KeepsRow row (on_ok answer.1 row)) → IsWellFormed (with_answer t on_ok answer)
+with_answer-keeps t on_ok (state, reply.No word) formed keeps =
     with_thread-keeps state t (λ thread. with_register thread 0 (refusal_number word)) formed (λ row _ is. kept_register row row 0 (refusal_number word) (kept_same row is) (refusal_number-word word))
-seen-keeps t on_ok (state, said) formed keeps = with_thread-keeps state t (on_ok said) formed (λ row _ is. keeps row is)
+with_answer-keeps t on_ok (state, said) formed keeps = with_thread-keeps state t (on_ok said) formed (λ row _ is. keeps row is)
 
 -- another word of an object
 pub with_word-keeps : (state : State) (a value : ℕ) → IsWellFormed state → IsWord value → IsWellFormed (record state { objects = with_word state.objects a value })
@@ -120,7 +120,7 @@ module _ (state : State) (t : ℕ) (row thread : ThreadRow) (here : ℕ) (formed
       let mask : ℕ = register thread b in
       let before : State = put_row state t thread in
       let formed' : IsWellFormed before = put_row-keeps state t row thread formed there kept in
-      seen-keeps t (λ _ entered. with_register entered 0 0) (cond (ltb 255 mask) (before, reply.No refusal.Syntax) (pdx before t (register thread a) mask))
+      with_answer-keeps t (λ _ entered. with_register entered 0 0) (cond (ltb 255 mask) (before, reply.No refusal.Syntax) (pdx before t (register thread a) mask))
       (cond_both (ltb 255 mask) (before, reply.No refusal.Syntax) (pdx before t (register thread a) mask) (λ (answer : Answer). IsWellFormed answer.0)
       (λ _. formed')
       (λ _. pdx-keeps before t (register thread a) mask formed' (register-word thread a kept.row)))
@@ -128,14 +128,14 @@ module _ (state : State) (t : ℕ) (row thread : ThreadRow) (here : ℕ) (formed
   run-keeps op.Ret has =
       let before : State = put_row state t thread in
       let formed' : IsWellFormed before = put_row-keeps state t row thread formed there kept in
-      seen-keeps t (λ _ returned. returned) (ret before t) (ret-keeps before t formed') (λ r is. kept_same r is)
+      with_answer-keeps t (λ _ returned. returned) (ret before t) (ret-keeps before t formed') (λ r is. kept_same r is)
   run-keeps op.Yield has = put_row-keeps state t row thread formed there kept
   run-keeps op.Sys has =
       let before : State = put_row state t thread in
       let formed' : IsWellFormed before = put_row-keeps state t row thread formed there kept in
-      let answer : Answer = thread_call before t (spelled thread) in
-      let words : All IsWord (0 ∷ values_of answer.1) = All-cons IsWord 0 (values_of answer.1) (omega arith) (thread_call-words before t (spelled thread) formed').words in
-      seen-keeps t (λ said caller. with_registers caller 0 (0 ∷ values_of said)) answer (thread_call-keeps before t (spelled thread) formed' (spelled-ranges thread kept.row))
+      let answer : Answer = thread_call before t (script_call thread) in
+      let words : All IsWord (0 ∷ values_of answer.1) = All-cons IsWord 0 (values_of answer.1) (omega arith) (thread_call-words before t (script_call thread) formed').words in
+      with_answer-keeps t (λ said caller. with_registers caller 0 (0 ∷ values_of said)) answer (thread_call-keeps before t (script_call thread) formed' (script_call-ranges thread kept.row))
       (λ r is. kept_registers r r 0 (0 ∷ values_of answer.1) (kept_same r is) words)
 
 -- the turn of a thread that lives

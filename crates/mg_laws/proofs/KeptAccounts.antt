@@ -7,7 +7,8 @@ use Rattle.std.proofs.lemmas.Option.{slice_get-get_or}
 use Rattle.std.specs.Option.{option_map_or}
 use Rattle.mg_model.specs.AccountLemmas.{IsRowOf, account_of-row, some_value}
 use Rattle.mg_model.specs.declared.accounts.AccRow.{AccRow}
-use Rattle.mg_model.specs.Bank.{account_of, balance_of, given_to, opens, taken_from, with_account}
+use Rattle.mg_model.specs.Abbreviations.{with_account}
+use Rattle.mg_model.specs.Bank.{account_of, balance_of, credited, opens, debited}
 use Rattle.mg_model.specs.WellFormed.{IsAccount}
 
 -- each number up to their count is an account's
@@ -61,8 +62,8 @@ taken_at period accounts number amount (Some row) is some has each =
     let formed = row-formed period accounts number row at each in
     with_account-edits period accounts number row (record row { balance = row.balance - amount }) amount 0 at (record { password = formed.password; owed = formed.owed }) (omega arith) each
 
-pub taken_from-edits : (period : ℕ) (accounts : List AccRow) (number amount : ℕ) → is_some (account_of accounts number) ≡ true → amount ≤ balance_of accounts number → All (IsAccount period) accounts → IsEdited period accounts (taken_from accounts number amount) amount 0
-taken_from-edits period accounts number amount some has each = taken_at period accounts number amount (account_of accounts number) refl some has each
+pub debited-edits : (period : ℕ) (accounts : List AccRow) (number amount : ℕ) → is_some (account_of accounts number) ≡ true → amount ≤ balance_of accounts number → All (IsAccount period) accounts → IsEdited period accounts (debited accounts number amount) amount 0
+debited-edits period accounts number amount some has each = taken_at period accounts number amount (account_of accounts number) refl some has each
 
 -- an amount is given to an account
 given_at : (period : ℕ) (accounts : List AccRow) (number amount : ℕ) (o : Option AccRow) → account_of accounts number ≡ o → is_some o ≡ true → All (IsAccount period) accounts
@@ -73,20 +74,20 @@ given_at period accounts number amount (Some row) is some each =
     let formed = row-formed period accounts number row at each in
     with_account-edits period accounts number row (record row { balance = row.balance + amount }) 0 amount at (record { password = formed.password; owed = formed.owed }) (omega arith) each
 
-pub given_to-edits : (period : ℕ) (accounts : List AccRow) (number amount : ℕ) → is_some (account_of accounts number) ≡ true → All (IsAccount period) accounts → IsEdited period accounts (given_to accounts number amount) 0 amount
-given_to-edits period accounts number amount some each = given_at period accounts number amount (account_of accounts number) refl some each
+pub credited-edits : (period : ℕ) (accounts : List AccRow) (number amount : ℕ) → is_some (account_of accounts number) ≡ true → All (IsAccount period) accounts → IsEdited period accounts (credited accounts number amount) 0 amount
+credited-edits period accounts number amount some each = given_at period accounts number amount (account_of accounts number) refl some each
 
 -- from one account to another, which may be the same
-pub paid-edits : (period : ℕ) (accounts : List AccRow) (number to amount : ℕ) → is_some (account_of accounts number) ≡ true → is_some (account_of accounts to) ≡ true → amount ≤ balance_of accounts number → All (IsAccount period) accounts → IsEdited period accounts (given_to (taken_from accounts number amount) to amount) 0 0
+pub paid-edits : (period : ℕ) (accounts : List AccRow) (number to amount : ℕ) → is_some (account_of accounts number) ≡ true → is_some (account_of accounts to) ≡ true → amount ≤ balance_of accounts number → All (IsAccount period) accounts → IsEdited period accounts (credited (debited accounts number amount) to amount) 0 0
 paid-edits period accounts number to amount some there has each =
-    let first = taken_from-edits period accounts number amount some has each in
+    let first = debited-edits period accounts number amount some has each in
     let receiver = some_value (account_of accounts to) there in
     let is = account_of-row accounts to receiver.0 receiver.1 in
     let low = is.some in
     let high = is.within in
     let long = first.long in
     let sum = first.sum in
-    let second = given_to-edits period (taken_from accounts number amount) to amount (account_of-there (taken_from accounts number amount) to low (omega arith)) first.each in
+    let second = credited-edits period (debited accounts number amount) to amount (account_of-there (debited accounts number amount) to low (omega arith)) first.each in
     let long_then = second.long in
     let sum_then = second.sum in
     record { long = omega arith; each = second.each; sum = omega arith }

@@ -12,12 +12,11 @@ use Rattle.mg_model.specs.declared.replies.Refusal.{Refusal}
 use Rattle.mg_model.specs.declared.replies.Refusal.TheVariants as refusal
 use Rattle.mg_model.specs.declared.threads.ThrState.{ThrState}
 use Rattle.mg_laws.proofs.KeepsRows.{KeepsRow}
-use Rattle.mg_model.specs.Abbreviations.{advanced}
+use Rattle.mg_model.specs.Abbreviations.{advanced, refusal_number}
 use Rattle.mg_model.specs.Ranges.{IsThreadRow, IsWord}
 use Rattle.mg_model.specs.Script.{decoded, instruction_of, jump_by, jumped, register, where_so, with_register, word_end}
 use Rattle.mg_model.specs.State.{ThreadRow}
 use Rattle.mg_model.specs.Turn.{with_registers}
-use Rattle.mg_model.specs.Refused.{refusal_number}
 
 -- a number in a list of words, also past its end
 pub word-in_list : (words : List ℕ) (k : ℕ) → All IsWord words → IsWord (get_or words k 0)

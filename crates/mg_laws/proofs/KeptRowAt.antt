@@ -6,7 +6,8 @@ use Rattle.std.specs.Option.{option_map_or}
 use Rattle.mg_model.specs.Access.{at, covers}
 use Rattle.mg_model.specs.KeptListLemmas.{All-both, AllPairs-head, AllPairs-tail}
 use Rattle.mg_laws.proofs.KeptObjects.{AreObjects-with_row, HasPlaceOf, IsPaidRow, are-IsPaidRow}
-use Rattle.mg_model.specs.ObjectCalls.{no_row, row_at, with_row_at}
+use Rattle.mg_model.specs.Abbreviations.{no_row}
+use Rattle.mg_model.specs.ObjectCalls.{row_at, with_row_at}
 use Rattle.mg_model.specs.State.{Object, ObjectRow, State}
 use Rattle.mg_model.specs.WellFormed.{AreObjects, IsBefore, IsObject, IsWellFormed}
 

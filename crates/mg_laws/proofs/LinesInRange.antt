@@ -5,17 +5,17 @@ use Rattle.std.proofs.lemmas.List.{get_or_past}
 use Rattle.std.proofs.lemmas.List.Elements.{All-cons, All-nil}
 use Rattle.std.proofs.lemmas.Option.{same_Some}
 use Rattle.std.specs.Prelude.{option_map, slice_index}
-use Rattle.std.specs.List.{cons_option, filter_map}
+use Rattle.std.specs.List.{cons_option, filter_map, slice_split}
 use Rattle.std.specs.Option.{ForSome, option_map_or}
 use Rattle.mg_model.specs.declared.calls.Call.{Call}
 use Rattle.mg_model.specs.declared.calls.Call.TheVariants as call
 use Rattle.mg_model.specs.declared.calls.Line.{Line}
-use Rattle.mg_model.specs.Abbreviations.{pdx_of}
-use Rattle.mg_model.specs.Lines.{Row, bad_line, call_by, call_line, call_table, exactly, form, form_pwadd, is_among, line_of, line_of_words, line_with, lines, lone_words, pwadd_of, spelled_line, thread_line}
+use Rattle.mg_model.specs.Abbreviations.{below_word, is_among, lone_words, pdx_of}
+use Rattle.mg_model.specs.Lines.{CallRow, bad_line, call_by, call_line, call_table, exactly, form, form_pwadd, line_of, line_of_words, line_with, lines, pwadd_of, spelled_line, thread_line}
 use Rattle.mg_model.specs.Ranges.{IsWord}
 use Rattle.mg_model.specs.Rights.{IsRights}
 use Rattle.mg_model.specs.WellFormed.{HasRanges, IsInRange}
-use Rattle.mg_model.specs.Words.{and_then, below_word, hex_part, is_newline, letter_weight, number_of, numbers_of, rights_of, same_bytes, split_at, value_of_digits, words}
+use Rattle.mg_model.specs.Words.{and_then, hex_part, is_newline, letter_weight, number_of, numbers_of, rights_of, same_bytes, value_of_digits, words}
 use Rattle.mg_model.specs.StepwiseLemmas.{rights_from, rights_of-from}
 
 -- a fact of each result for a value holds for the result of an option
@@ -102,7 +102,7 @@ pdx_of-ranges : (a mask : ℕ) → IsWord a → IsWord mask → HasRanges (pdx_o
 pdx_of-ranges a mask word _ = grind (arith, cond_both, leb-true)
 
 -- the rows of a table make calls in range
-abbrev AreRanged : List Row → Type 0
+abbrev AreRanged : List CallRow → Type 0
 AreRanged [] = Unit {0}
 AreRanged ((known, form) ∷ rows) = ((args : List (List ℕ)) → HasRanges (form args)) × AreRanged rows
 
@@ -139,7 +139,7 @@ table-ranged =
     also form-ranges 0 (λ _. call.Rent) (λ f are. tt)
     also tt
 
-call_by-ranges : (rows : List Row) → AreRanged rows → (word : List ℕ) (args : List (List ℕ)) → ForSome (call_by rows word args) HasRanges
+call_by-ranges : (rows : List CallRow) → AreRanged rows → (word : List ℕ) (args : List (List ℕ)) → ForSome (call_by rows word args) HasRanges
 call_by-ranges [] ranged word args = λ made none. absurd (cc)
 call_by-ranges ((known, form) ∷ rows) ranged word args =
     cond_both (same_bytes word known) (Some (form args)) (call_by rows word args) (λ o. ForSome o HasRanges)
@@ -196,4 +196,4 @@ All-filter_map Q h [] each = All-nil Q
 All-filter_map Q h (x ∷ xs) each = All-cons_option Q (h x) (filter_map h xs) (each x) (All-filter_map Q h xs each)
 
 pub lines-in_range : (bytes : List ℕ) → All IsInRange (lines bytes)
-lines-in_range bytes = All-filter_map IsInRange line_of (split_at is_newline bytes) line_of-in_range
+lines-in_range bytes = All-filter_map IsInRange line_of (slice_split is_newline bytes) line_of-in_range

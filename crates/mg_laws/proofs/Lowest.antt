@@ -3,12 +3,12 @@ use Rattle.std.proofs.Common.{◌≡◌, ℕ, ◌+◌, ◌*◌, ◌<◌, ◌≤�
 use Rattle.std.proofs.lemmas.Bool.{cases_lt, cond_both, le-leb, leb-true, or_cases, or_left, or_right}
 use Rattle.std.proofs.lemmas.List.Elements.{All-cons, All-filter, All-head, All-nil, All-tail, All-weaker, filter_passes}
 use Rattle.std.proofs.lemmas.List.Sums.{AllPass-from_list_all, list_all-from_AllPass, sum_by-cons}
-use Rattle.mg_model.specs.Abbreviations.{is_apart}
+use Rattle.mg_model.specs.Abbreviations.{is_apart, least}
 use Rattle.mg_model.specs.Bank.{used}
 use Rattle.mg_model.specs.KeptListLemmas.{All-both, All-change, All-unmap, AllPairs-head, AllPairs-tail}
 use Rattle.mg_laws.specs.Laws.{IsLowest}
 use Rattle.mg_model.specs.Limits.{first_page, page_end}
-use Rattle.mg_model.specs.Objects.{is_free, least, lowest_free, page_behind, page_of}
+use Rattle.mg_model.specs.Objects.{is_free, lowest_free, page_behind, page_of}
 use Rattle.mg_model.specs.State.{Object}
 use Rattle.mg_model.specs.WellFormed.{AreObjects, IsBefore, IsObject}
 

@@ -4,19 +4,19 @@ use Rattle.std.proofs.Common.{ℕ, ◌+◌, ◌-◌, ◌*◌, ◌≡◌, length,
 use Rattle.std.proofs.lemmas.Bool.{cond_both}
 use Rattle.mg_model.specs.declared.calls.Call.{Call}
 use Rattle.mg_model.specs.declared.calls.Call.TheVariants as call
-use Rattle.mg_model.specs.declared.replies.After.{After}
+use Rattle.mg_model.specs.declared.threads.ThrState.{ThrState}
 use Rattle.mg_model.specs.declared.replies.Refusal.{Refusal}
 use Rattle.mg_model.specs.declared.replies.Refusal.TheVariants as refusal
 use Rattle.mg_model.specs.declared.replies.Reply.{Reply}
 use Rattle.mg_model.specs.declared.replies.Reply.TheVariants as reply
-use Rattle.mg_model.specs.Abbreviations.{free_number}
+use Rattle.mg_model.specs.Abbreviations.{free_number, unless_refused}
 use Rattle.mg_model.specs.Access.{domain_of}
 use Rattle.mg_model.specs.Bank.{balance_of, owed_by, pages_of, rate_now, rent_paid}
 use Rattle.mg_model.specs.Domains.{frames_of}
 use Rattle.mg_laws.specs.Laws.{RefusedLeaves}
 use Rattle.mg_model.specs.ObjectCalls.{about, next_password, row_at}
 use Rattle.mg_model.specs.Objects.{lowest_free, word_at}
-use Rattle.mg_model.specs.Refused.{Answer, unless_refused}
+use Rattle.mg_model.specs.Refused.{Answer}
 use Rattle.mg_model.specs.State.{State, Thread}
 use Rattle.mg_model.specs.Step.{of_thread, step, step_of}
 use Rattle.mg_model.specs.Turn.{after_of, picked, run_next, thread_call, turn, turn_state}
@@ -90,7 +90,7 @@ of_thread-leaves state t done leaves = grind (arith, cond_both, same-leaves)
 pub collected-ok : (period rate paid : ℕ) → IsOk (reply.Collected period rate paid)
 collected-ok period rate paid = record { ok = λ word no. cc }
 
-pub turned-ok : (after : After) → IsOk (reply.Turned after)
+pub turned-ok : (after : Option ThrState) → IsOk (reply.Turned after)
 turned-ok after = record { ok = λ word no. cc }
 
 run_next-leaves : (state : State) (o : Option Thread) → Leaves state (run_next state o).0 (run_next state o).1

@@ -13,7 +13,7 @@ use Rattle.mg_model.specs.declared.replies.Refusal.{Refusal}
 use Rattle.mg_model.specs.declared.replies.Reply.{Reply}
 use Rattle.mg_model.specs.declared.replies.Reply.TheVariants.{Count, Done, Funds, Made, Opened, Value}
 use Rattle.mg_model.specs.declared.rights.Right.TheVariants.{O}
-use Rattle.mg_model.specs.Abbreviations.{free_number}
+use Rattle.mg_model.specs.Abbreviations.{free_number, least, no_row, unless_refused}
 use Rattle.mg_model.specs.Access.{allowed, at, covers, domain_of, thread_of}
 use Rattle.mg_model.specs.Bank.{balance_of, owed_by, pages_of}
 use Rattle.mg_model.specs.BankCalls.{balance}
@@ -24,12 +24,12 @@ use Rattle.mg_laws.proofs.KeepsRows.{thread-formed}
 use Rattle.mg_laws.proofs.KeepsThreads.{free_number-free}
 use Rattle.mg_model.specs.KeptListLemmas.{sum_by-filter-le}
 use Rattle.mg_laws.proofs.KeptRegisters.{word-in_list}
-use Rattle.mg_model.specs.ObjectCalls.{about, create, entry, info, is_aligned, next_password, no_row, row_at}
+use Rattle.mg_model.specs.ObjectCalls.{about, create, entry, info, is_aligned, next_password, row_at}
 use Rattle.mg_model.specs.Limits.{first_page, page_end}
-use Rattle.mg_model.specs.Objects.{is_free, least, lowest_free, page_behind, word_at}
+use Rattle.mg_model.specs.Objects.{is_free, lowest_free, page_behind, word_at}
 use Rattle.mg_laws.proofs.Passed.{unrefused}
 use Rattle.mg_model.specs.Ranges.{IsWord}
-use Rattle.mg_model.specs.Refused.{Answer, unless_refused}
+use Rattle.mg_model.specs.Refused.{Answer}
 use Rattle.mg_model.specs.State.{Object, ObjectRow, State, Thread}
 use Rattle.mg_model.specs.Threads.{make_thread}
 use Rattle.mg_model.specs.Turn.{thread_call, values_of}

@@ -1,5 +1,5 @@
 -- A thread's row may be replaced before a call of the thread or after it.
-use Rattle.std.proofs.Common.{ℕ, suc, ◌+◌, ◌++◌, ◌<◌, ◌≡◌, ◌≢◌, Bool, true, false, cond, eqb, not, List, [], ◌∷◌, filter, get_or, length, map, Option, Some, None, refl, sym, ap, ◌∙◌, subst, arith}
+use Rattle.std.proofs.Common.{ℕ, suc, ◌+◌, ◌++◌, ◌<◌, ◌≡◌, ◌≢◌, Bool, true, false, cond, eqb, not, List, [], ◌∷◌, filter, get_or, length, map, Option, Some, None, refl, sym, ap, ◌∙◌, subst, arith, ◌*◌}
 use Rattle.std.proofs.lemmas.Bool.{cond_both, cond-false, eqb-true, ne_eqb}
 use Rattle.std.proofs.lemmas.List.{length-map}
 use Rattle.std.proofs.lemmas.Option.{same_Some}
@@ -16,17 +16,17 @@ use Rattle.mg_model.specs.declared.replies.Reply.{Reply}
 use Rattle.mg_model.specs.declared.replies.Reply.TheVariants as reply
 use Rattle.mg_model.specs.declared.slots.Slot.{Slot}
 use Rattle.mg_model.specs.declared.threads.ThrState.TheVariants.{Ready}
-use Rattle.mg_model.specs.Abbreviations.{free_number}
+use Rattle.mg_model.specs.Abbreviations.{born, free_number, unless_refused}
 use Rattle.mg_model.specs.Access.{domain_of, thread_of}
-use Rattle.mg_model.specs.Bank.{balance_of, given_to, owed_by, pages_of, taken_from}
+use Rattle.mg_model.specs.Bank.{balance_of, credited, owed_by, pages_of, debited}
 use Rattle.mg_model.specs.Limits.{never}
 use Rattle.mg_model.specs.ObjectCalls.{about, drawn, extension_of, has_password, next_password, row_at, with_entry, with_row_at}
-use Rattle.mg_model.specs.Objects.{with_word, without_object, word_at}
+use Rattle.mg_model.specs.Objects.{with_word, without_object, word_at, lowest_free, new_object, with_object}
 use Rattle.mg_model.specs.Domains.{row_of, with_last_slots, with_slots, with_thread}
 use Rattle.mg_model.specs.KeptListLemmas.{AllPairs-head, AllPairs-tail}
-use Rattle.mg_model.specs.Refused.{Answer, unless_refused}
+use Rattle.mg_model.specs.Refused.{Answer}
 use Rattle.mg_model.specs.State.{State, Thread, ThreadRow}
-use Rattle.mg_model.specs.Threads.{birth_of, born, creator_of, free_number_from, is_thread, new_thread, with_new_thread}
+use Rattle.mg_model.specs.Threads.{birth_of, creator_of, free_number_from, is_thread, new_thread, with_new_thread}
 use Rattle.mg_model.specs.Turn.{thread_call}
 use Rattle.mg_model.specs.WellFormed.{IsWellFormed}
 
@@ -145,7 +145,9 @@ module _ (state : State) (t : ℕ) (old row : ThreadRow) (formed : IsWellFormed 
   call-over : (made : Call) → is_by_script made ≡ true → thread_call put t made ≡ (W (thread_call state t made).0, (thread_call state t made).1)
   call-over (call.Load a) by = rw (same_domain t) (row-over _ (state, reply.Value (word_at state.objects a)))
   call-over (call.Store a value) by = rw (same_domain t) (row-over _ (record state { objects = with_word state.objects a value }, reply.Done))
-  call-over (call.Create n account password) by = grind (arith, row-over)
+  call-over (call.Create n account password) by =
+      let base = 4096 * lowest_free state.objects n in
+      row-over _ (record (drawn state) { objects = with_object (new_object base n account (next_password state)) state.objects }, reply.Made base (next_password state))
   call-over (call.Delete b) by = rw (same_domain t) (row-over _ (record state { objects = without_object (row_at state b).base state.objects }, reply.Done))
   call-over (call.Info b) by = rw (same_domain t) (row-over _ (state, about (row_at state b)))
   call-over (call.Pwadd b rights until) by =
@@ -170,7 +172,7 @@ module _ (state : State) (t : ℕ) (old row : ThreadRow) (formed : IsWellFormed 
       let ready : ThreadRow → ThreadRow = λ r. record r { state = Ready } in
       rw (same_is_thread i, same_creator i, same_birth t) (row-like _ (with_thread put i ready) (with_thread state i ready) reply.Done (resumed-over i))
   call-over (call.Account account password amount) by = grind (arith, row-over)
-  call-over (call.Pay account password to amount) by = row-over _ (record state { accounts = given_to (taken_from state.accounts account amount) to amount }, reply.Done)
+  call-over (call.Pay account password to amount) by = row-over _ (record state { accounts = credited (debited state.accounts account amount) to amount }, reply.Done)
   call-over (call.Balance account password) by = row-over _ (state, reply.Funds (balance_of state.accounts account) (owed_by state.accounts account) (pages_of state.objects account))
   call-over (call.Pdx a mask) by = absurd (cc)
   call-over call.Ret by = absurd (cc)

@@ -10,7 +10,7 @@ use Rattle.mg_model.specs.declared.replies.Refusal.{Refusal}
 use Rattle.mg_model.specs.declared.replies.Refusal.TheVariants as refusal
 use Rattle.mg_model.specs.declared.replies.Reply.TheVariants as reply
 use Rattle.mg_model.specs.declared.threads.ThrState.{ThrState}
-use Rattle.mg_model.specs.Abbreviations.{free_number}
+use Rattle.mg_model.specs.Abbreviations.{free_number, unless_refused}
 use Rattle.mg_model.specs.Access.{domain_of, last_slots}
 use Rattle.mg_model.specs.Bank.{balance_of, owed_by, pages_of, rate_now, rent_paid}
 use Rattle.mg_model.specs.BankCalls.{rent}
@@ -19,7 +19,7 @@ use Rattle.mg_laws.proofs.KeepsRows.{changed, changed-number}
 use Rattle.mg_laws.specs.Laws.{AnswersWhateverState, as_state, is_turn}
 use Rattle.mg_model.specs.ObjectCalls.{about, next_password, row_at}
 use Rattle.mg_model.specs.Objects.{lowest_free, word_at}
-use Rattle.mg_model.specs.Refused.{Answer, unless_refused}
+use Rattle.mg_model.specs.Refused.{Answer}
 use Rattle.mg_model.specs.State.{State, Thread}
 use Rattle.mg_model.specs.Step.{of_thread, step, step_of}
 use Rattle.mg_model.specs.Threads.{birth_of, creator_of, end_thread, free_number_from, is_thread, make_thread, resume}

@@ -6,7 +6,7 @@ use Rattle.mg_model.specs.declared.calls.Line.{Line}
 use Rattle.mg_model.specs.declared.rights.Right.{Right}
 use Rattle.mg_model.specs.declared.seats.Seat.{Seat}
 use Rattle.mg_model.specs.declared.slots.Slot.{Slot}
-use Rattle.mg_model.specs.Access.{at, domain_of, entries_under, holds}
+use Rattle.mg_model.specs.Access.{at, domain_of, pairs_under, holds}
 use Rattle.mg_model.specs.Backed.{IsBacked, KeepsBacked, by_list, by_none, by_via, by_word, ended_by, ended_by_call}
 use Rattle.mg_model.specs.Domains.{row_of, with_thread}
 use Rattle.mg_model.specs.Objects.{with_row, without_object}
@@ -37,7 +37,7 @@ AllowedIsBacked may =
 abbrev pub OpeningBacks : Type 0
 OpeningBacks =
     (state : State) (t address : ℕ) (right : Right) (object : Object) (slot : Slot) → IsWellFormed state → at state.objects address ≡ Some object → Contains (domain_of state t) slot →
-    list_any (λ (entry : ℕ × ℕ). entry.0 == object.row.base && holds state.counters.period object.row entry.1 right) (entries_under state.objects state.counters.period slot) ≡ true →
+    list_any (λ (entry : ℕ × ℕ). entry.0 == object.row.base && holds state.counters.period object.row entry.1 right) (pairs_under state.objects state.counters.period slot) ≡ true →
     IsBacked state (record { thread = t; base = object.row.base; right = right; via = slot.base })
 
 -- A change that ends the seats of the list with an address in its first page ends only seats of the one object that has the

@@ -7,7 +7,8 @@ use Rattle.std.proofs.Common.{refl, ap, ◌∙◌, arith}
 use Rattle.std.proofs.lemmas.Bool.{and_left, and_right, cases_eq, false_from_ne_true, lt-leb}
 use Rattle.mg_model.specs.Bytes.{bytes_at, number_at}
 use Rattle.mg_model.specs.Layout.{body_limit, magic, segment_count, super_block, total_blocks, version}
-use Rattle.mg_model.specs.Replay.{block_of, body_count, is_open, replay, segment_fits, segments_fit, writes_since, written}
+use Rattle.mg_model.specs.Abbreviations.{segments_fit, writes_since}
+use Rattle.mg_model.specs.Replay.{block_of, body_count, is_open, replay, segment_fits, written}
 use Rattle.mg_model.specs.Settings.{Settings}
 use Rattle.mg_model.specs.Spelling.{are_settings, super_bytes, super_fields, super_read, Spells}
 use Rattle.mg_model.specs.SuperblockLemmas.{super_read-bad, super_read-old}

@@ -9,8 +9,8 @@ use Rattle.std.proofs.lemmas.List.{append-nil, length-replicate, replicate-appen
 use Rattle.std.proofs.lemmas.List.Elements.{All-cons, All-replicate}
 use Rattle.std.proofs.lemmas.Nat.{from_le_bytes-to_le_bytes_8}
 use Rattle.mg_model.specs.declared.accounts.AccRow.{AccRow}
-use Rattle.mg_model.specs.Abbreviations.{account_row_bytes, object_row_bytes, thread_row_bytes}
-use Rattle.mg_model.specs.Bytes.{are_zeros, block_words, padded_to, word_bytes, words_bytes}
+use Rattle.mg_model.specs.Abbreviations.{account_row_bytes, object_row_bytes, table_entries, thread_row_bytes, whole_table, word_bytes}
+use Rattle.mg_model.specs.Bytes.{are_zeros, block_words, padded_to, words_bytes}
 use Rattle.mg_model.specs.BytesLemmas.{length-words_bytes, padded_to-full}
 use Rattle.mg_model.specs.Draw.{password_drawn}
 use Rattle.mg_model.specs.DrawnLemmas.{drawn-IsWord}
@@ -23,7 +23,7 @@ use Rattle.mg_model.specs.RowLemmas.{account-live, account_fields-written, are_z
 use Rattle.mg_model.specs.Settings.{Settings}
 use Rattle.mg_model.specs.Spelling.{account_bytes, account_fields, account_read, globals_bytes, globals_fields, globals_read, object_bytes, object_read, super_read, Spells, thread_bytes, thread_fields, thread_read}
 use Rattle.mg_model.specs.SuperblockLemmas.{super_read-written}
-use Rattle.mg_model.specs.Volume.{Is, live_rows, page_words, replayed_volume, rows_of, state_fits, state_spelled, table_entries, volume, whole_table}
+use Rattle.mg_model.specs.Volume.{Is, live_rows, page_words, replayed_volume, rows_of, state_fits, state_spelled, volume}
 use Rattle.mg_model.specs.VolumeLemmas.{rows-read, rows_with, settled-closed, state_with, volume-opened}
 use Rattle.mg_model.specs.WellFormed.{IsSettings}
 use Rattle.mg_layout.proofs.FreshBlocks.{IsOther, at_accounts, at_frame, at_globals, at_objects, at_other, at_super, at_table, at_threads}

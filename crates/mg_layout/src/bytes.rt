@@ -1,7 +1,8 @@
 // Numbers in bytes.
 ghost use Rattle.std.specs.Prelude.{◌≡◌, ◌≤◌, ◌+◌, ◌⊎◌, ℕ, length};
 ghost use Rattle.std.specs.List.{splice};
-ghost use Rattle.mg_model.specs.Bytes.{are_zeros, number_at, word_bytes};
+ghost use Rattle.mg_model.specs.Abbreviations.{word_bytes};
+ghost use Rattle.mg_model.specs.Bytes.{are_zeros, number_at};
 ghost use Rattle.mg_model.specs.Layout.{block_size};
 
 use mg_disk::Block;

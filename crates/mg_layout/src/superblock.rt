@@ -1,7 +1,8 @@
 // The superblock: what a volume was made with.
 ghost use Rattle.std.specs.Prelude.{◌≡◌, if◌then◌else◌};
 ghost use Rattle.mg_model.specs.Bytes.{bytes_at};
-ghost use Rattle.mg_model.specs.Spelling.{are_settings, steps_at, super_bytes, super_fields, super_read, Spells};
+ghost use Rattle.mg_model.specs.Abbreviations.{steps_at};
+ghost use Rattle.mg_model.specs.Spelling.{are_settings, super_bytes, super_fields, super_read, Spells};
 ghost use Rattle.mg_model.specs.Tariff.{is_tariff};
 ghost use Rattle.mg_model.specs.Words.{same_bytes};
 ghost use Rattle.mg_layout.specs.SuperBlock.{IsSuper};

@@ -6,7 +6,8 @@ use Rattle.std.proofs.lemmas.Bool.{and_parts, eqb-true}
 use Rattle.std.proofs.lemmas.List.{drop-append-le, get_or-append-add, length-drop, replicate-append-replicate, take-append-le}
 use Rattle.std.proofs.lemmas.List.Folds.{list_all-append}
 use Rattle.std.proofs.Math.Bool.{and-true}
-use Rattle.mg_model.specs.Bytes.{are_zeros, number_at, numbers_at, padded_to, word_bytes, words_bytes}
+use Rattle.mg_model.specs.Abbreviations.{word_bytes}
+use Rattle.mg_model.specs.Bytes.{are_zeros, number_at, numbers_at, padded_to, words_bytes}
 use Rattle.mg_model.specs.BytesLemmas.{number_at-behind, number_at-first}
 use Rattle.mg_model.specs.Ranges.{IsWord}
 use Rattle.mg_model.specs.RowLemmas.{are_zeros-replicate}

@@ -8,7 +8,8 @@ use Rattle.std.proofs.lemmas.Option.{same_Some}
 use Rattle.mg_model.specs.Bytes.{are_zeros, bytes_at, number_at}
 use Rattle.mg_model.specs.BytesLemmas.{length-padded_to, length-words_bytes}
 use Rattle.mg_model.specs.RowLemmas.{are_zeros-replicate, read-free}
-use Rattle.mg_model.specs.Spelling.{Read, live_if, object_bytes, object_fields, object_read}
+use Rattle.mg_model.specs.Abbreviations.{live_if}
+use Rattle.mg_model.specs.Spelling.{Read, object_bytes, object_fields, object_read}
 use Rattle.mg_model.specs.State.{ObjectRow}
 use Rattle.mg_model.specs.Tests.{is_object_row}
 use Rattle.mg_model.specs.Words.{same_bytes}

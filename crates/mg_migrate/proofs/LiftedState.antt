@@ -7,7 +7,7 @@ use Rattle.std.proofs.lemmas.Bool.Decides.{nat_tests}
 use Rattle.std.proofs.lemmas.List.{length-take}
 use Rattle.std.proofs.lemmas.List.Folds.{list_all-map}
 use Rattle.mg_model.specs.declared.accounts.AccRow.{AccRow}
-use Rattle.mg_model.specs.Abbreviations.{account_row_bytes, object_row_bytes, thread_row_bytes}
+use Rattle.mg_model.specs.Abbreviations.{account_row_bytes, fitting, is_page_of, object_row_bytes, pages_words, table_entries, thread_row_bytes, whole_table, with_live}
 use Rattle.mg_model.specs.Bank.{used}
 use Rattle.mg_model.specs.Bytes.{are_zeros, block_words}
 use Rattle.mg_model.specs.Layout.{first_frame, globals_block, table_block, table_blocks, total_blocks}
@@ -18,7 +18,7 @@ use Rattle.mg_model.specs.Settings.{Settings}
 use Rattle.mg_model.specs.Spelling.{Read, account_read, globals_read, object_read, thread_read}
 use Rattle.mg_model.specs.State.{Counters, Object, ObjectRow, State, ThreadRow}
 use Rattle.mg_model.specs.Tests.{all_distinct}
-use Rattle.mg_model.specs.Volume.{Damaged, Is, Rows, are_apart, bound_pages, fitting, is_page_of, live_rows, objects_fit, objects_spelled, page_words, pages_words, replayed_volume, rows_of, state_fits, state_spelled, table_entries, table_fits, whole_table, with_live}
+use Rattle.mg_model.specs.Volume.{Damaged, Is, Rows, are_apart, bound_pages, live_rows, objects_fit, objects_spelled, page_words, replayed_volume, rows_of, state_fits, state_spelled, table_fits}
 use Rattle.mg_model.specs.VolumeLemmas.{live_rows-same, rows_from, rows_with, state_with}
 use Rattle.mg_model.specs.Words.{and_then}
 use Rattle.mg_migrate.proofs.LiftedBlocks.{at_behind, at_row, block-of-lifted, object-row-lifted}

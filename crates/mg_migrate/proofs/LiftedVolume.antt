@@ -7,7 +7,8 @@ use Rattle.mg_model.specs.Bytes.{bytes_at, number_at, padded_to, words_bytes}
 use Rattle.mg_model.specs.Layout.{magic, super_block, total_blocks}
 use Rattle.mg_model.specs.Replay.{block_of}
 use Rattle.mg_model.specs.Settings.{Settings, within_limits}
-use Rattle.mg_model.specs.Spelling.{Spells, are_settings, step_words, super_bytes, super_fields, super_read}
+use Rattle.mg_model.specs.Abbreviations.{step_words}
+use Rattle.mg_model.specs.Spelling.{Spells, are_settings, super_bytes, super_fields, super_read}
 use Rattle.mg_model.specs.SuperblockLemmas.{super_read-back}
 use Rattle.mg_model.specs.Tariff.{is_tariff}
 use Rattle.mg_model.specs.Volume.{volume, volume_behind}

@@ -73,4 +73,9 @@ module _ (settings : Settings) (seen : LiftedView) (same : seen.settings ≡ set
       ∙ ap as_volume1 (lifts-damage (replayed1_volume seen.settings is.replayed) (sym (replayed-lifted seen.settings is.replayed) ∙ damage))
 
   pub read_so : (rows : VolumeRows) → TellsRows settings rows (lifted seen.settings is.replayed) → IsOldRead seen rows image
-  read_so rows tells = grind arith
+  read_so rows tells = record {
+    replayed = is.replayed;
+    is = is.is;
+    fits = is.fits;
+    told = ap (λ settings. replayed_volume settings (lifted seen.settings is.replayed)) same ∙ tells.is;
+  }

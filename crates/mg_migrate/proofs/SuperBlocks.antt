@@ -8,7 +8,8 @@ use Rattle.mg_model.specs.Bytes.{bytes_at, number_at}
 use Rattle.mg_model.specs.BytesLemmas.{same_bytes-refl}
 use Rattle.mg_model.specs.Layout.{magic}
 use Rattle.mg_model.specs.Settings.{Settings, within_limits}
-use Rattle.mg_model.specs.Spelling.{BadSuper, NotSuper, OldSuper, Spells, SuperRead, are_settings, steps_at, super_bytes, super_fields, super_read}
+use Rattle.mg_model.specs.Abbreviations.{steps_at}
+use Rattle.mg_model.specs.Spelling.{BadSuper, NotSuper, OldSuper, Spells, SuperRead, are_settings, super_bytes, super_fields, super_read}
 use Rattle.mg_model.specs.SuperblockLemmas.{super_read-back}
 use Rattle.mg_model.specs.Tariff.{is_tariff}
 use Rattle.mg_model.specs.Words.{same_bytes}

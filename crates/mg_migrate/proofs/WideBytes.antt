@@ -12,7 +12,8 @@ use Rattle.mg_model.specs.Bytes.{are_zeros, number_at, numbers_at, padded_to, wo
 use Rattle.mg_model.specs.BytesLemmas.{length-padded_to, length-words_bytes, same_bytes-refl}
 use Rattle.mg_model.specs.Limits.{never}
 use Rattle.mg_model.specs.RowLemmas.{are_zeros-replicate}
-use Rattle.mg_model.specs.Spelling.{Read, live_if, object_bytes, object_fields, object_head, object_read}
+use Rattle.mg_model.specs.Abbreviations.{live_if, object_head}
+use Rattle.mg_model.specs.Spelling.{Read, object_bytes, object_fields, object_read}
 use Rattle.mg_model.specs.State.{ObjectRow}
 use Rattle.mg_model.specs.Tests.{is_object_row}
 use Rattle.mg_model.specs.Words.{same_bytes}

@@ -3,12 +3,12 @@ use Rattle.std.specs.Prelude.{◌≡◌, ℕ, zero, suc, ◌+◌, ◌*◌, ◌<�
 use Rattle.std.proofs.Common.{refl, sym, ap, ◌∙◌, arith, append_assoc}
 use Rattle.std.proofs.Math.ListN.{get_or-append}
 use Rattle.std.proofs.lemmas.List.{length-replicate, length-append}
-use Rattle.mg_model.specs.Abbreviations.{extension_at}
+use Rattle.mg_model.specs.Abbreviations.{extension_at, passwords_at}
 use Rattle.mg_model.specs.Bytes.{number_at, numbers_at}
 use Rattle.mg_model.specs.BytesLemmas.{number_at-behind, numbers_at-behind}
 use Rattle.mg_model.specs.Limits.{never}
 use Rattle.mg_model.specs.Ranges.{IsWord}
-use Rattle.mg_model.specs.Spelling.{object_fields, passwords_at}
+use Rattle.mg_model.specs.Spelling.{object_fields}
 use Rattle.mg_migrate.proofs.Fronts.{get_or-behind, number_at-front, number_at-replicate, numbers_at-front}
 use Rattle.mg_migrate.specs.Spelling1.{lift_password, lift_row, object1_fields, passwords1_at}
 use Rattle.mg_migrate.specs.Widened.{joined, untils}

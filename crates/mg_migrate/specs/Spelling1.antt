@@ -6,7 +6,8 @@ use Rattle.mg_model.specs.Bytes.{bytes_at, number_at, numbers_at, padded_to, wor
 use Rattle.mg_model.specs.Layout.{block_size, magic}
 use Rattle.mg_model.specs.Limits.{entry_point_limit, never}
 use Rattle.mg_model.specs.Settings.{Settings}
-use Rattle.mg_model.specs.Spelling.{Read, are_settings, free_or, live_if, object_head, step_words, super_fields}
+use Rattle.mg_model.specs.Abbreviations.{free_or, live_if, object_head, step_words}
+use Rattle.mg_model.specs.Spelling.{Read, are_settings, super_fields}
 use Rattle.mg_model.specs.State.{ObjectRow}
 use Rattle.mg_model.specs.Tests.{is_object_row}
 use Rattle.mg_model.specs.Words.{same_bytes}

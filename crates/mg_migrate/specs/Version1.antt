@@ -10,7 +10,8 @@ use Rattle.mg_model.specs.Replay.{block_of, replay}
 use Rattle.mg_model.specs.Settings.{Settings}
 use Rattle.mg_model.specs.Spelling.{account_read, globals_read, thread_read}
 use Rattle.mg_model.specs.State.{Object, ObjectRow, State, ThreadRow}
-use Rattle.mg_model.specs.Volume.{Damaged, Is, Rows, VolumeRead, fitting, has_open_gate, live_rows, row_bytes, table_entries}
+use Rattle.mg_model.specs.Abbreviations.{fitting, table_entries}
+use Rattle.mg_model.specs.Volume.{Damaged, Is, Rows, VolumeRead, has_open_gate, live_rows, row_bytes}
 use Rattle.mg_model.specs.Words.{and_then}
 use Rattle.mg_migrate.specs.Layout1.{first_frame1, object1_size, table1_block, total1_blocks}
 use Rattle.mg_migrate.specs.Spelling1.{BadSuper1, NewSuper1, NotSuper1, OldSuper1, Spells1, Super1Read, lift_row, object1_read, super1_read}

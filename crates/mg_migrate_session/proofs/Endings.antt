@@ -17,7 +17,7 @@ use Rattle.mg_migrate.specs.Migrated.{Fits1, IsLiftOf, IsState1, MayMigrate, Sta
 use Rattle.mg_migrate.specs.Version1.{Damaged1, Is1, NewVolume1, NotVolume1, OldVolume1, Volume1Read, lift, volume1}
 use Rattle.mg_migrate_session.specs.Headline.{GoesWith, HasPlaces, HasPut, IfState1, MigrateKeeps, StandsAfter, migrate_line, migrate_status}
 use Rattle.mg_model.specs.State.{State}
-use Rattle.mg_serve.specs.Sessions.{disk_use, sink_use}
+use Rattle.mg_serve.specs.Sessions.{use_of}
 use Rattle.mg_volume_session.specs.Headline.{small_line}
 use Rattle.mg_volume_session.specs.Unopened.{summary_line}
 use Rattle.mg_serve.specs.declared.status.Status.{Status}
@@ -121,7 +121,7 @@ module _ {D E K : Type 0} (d : disks.Ghosts D) (e : disks.Ghosts E) (to : sinks.
       → ForSome (e.seen old) (λ before. IfState1 (volume1 before) (λ state. needed state ≤ d.block_count new → HasPlaces d before new new'))
       → ((end ≡ status.NoVolume) ⊎ (end ≡ status.TooSmall) → new' ≡ new) → (result ≡ end) ⊎ (result ≡ status.Sink) → (result ≡ end → Appends (to.taken sink) (to.taken sink') line)
       → AppendsPrefix (to.taken sink) (to.taken sink') line → (result ≡ status.Sink → Rose (to.faults sink) (to.faults sink') (to.is_spent sink'))
-      → MigrateKeeps result (disk_use d new new') (disk_use e old old') (sink_use to sink sink')
+      → MigrateKeeps result (use_of d new new') (use_of e old old') (use_of to sink sink')
   told_keeps end line has_put goes told places untouched ends put prefix rose = record {
     ends = λ before is. ⊎_elim (λ as_told. inl (as_told ∙ sym (told before is).ends)) (λ failed. inr (inr (inr failed))) ends;
     which = ⊎_elim (λ as_told. inl (subst HasPut (sym as_told) has_put)) (λ failed. inr (inr (inr failed))) ends;
@@ -152,7 +152,7 @@ module _ {D E K : Type 0} (d : disks.Ghosts D) (e : disks.Ghosts E) (to : sinks.
       no_disk h = ⊎_elim (λ as_told. put_no_disk end has_put (sym as_told ∙ h)) (λ failed. sink_no_disk result failed h) ends
 
   -- There was not enough memory.
-  pub memory_keeps : result ≡ status.Memory → new' ≡ new → sink' ≡ sink → MigrateKeeps result (disk_use d new new') (disk_use e old old') (sink_use to sink sink')
+  pub memory_keeps : result ≡ status.Memory → new' ≡ new → sink' ≡ sink → MigrateKeeps result (use_of d new new') (use_of e old old') (use_of to sink sink')
   memory_keeps memory untouched same = record {
     ends = λ before is. inr (inl memory);
     which = inr (inl memory);
@@ -173,7 +173,7 @@ module _ {D E K : Type 0} (d : disks.Ghosts D) (e : disks.Ghosts E) (to : sinks.
   }
 
   -- A call of a disk failed.
-  pub disk_keeps : result ≡ status.Disk → CountRose d new new' ⊎ CountRose e old old' → ((CountRose d new new' → ⊥) → (new' ≡ new) ⊎ (StandsClosed d new' × ForSome (e.seen old) (λ before. Fits1 (d.block_count new) (volume1 before)))) → sink' ≡ sink → MigrateKeeps result (disk_use d new new') (disk_use e old old') (sink_use to sink sink')
+  pub disk_keeps : result ≡ status.Disk → CountRose d new new' ⊎ CountRose e old old' → ((CountRose d new new' → ⊥) → (new' ≡ new) ⊎ (StandsClosed d new' × ForSome (e.seen old) (λ before. Fits1 (d.block_count new) (volume1 before)))) → sink' ≡ sink → MigrateKeeps result (use_of d new new') (use_of e old old') (use_of to sink sink')
   disk_keeps disk rose closed same = record {
     ends = λ before is. inr (inr (inl disk));
     which = inr (inr (inl disk));

@@ -18,7 +18,7 @@ use Rattle.mg_migrate_session.specs.Headline.{HasPut, IfState1, MigrateKeeps}
 use Rattle.mg_migrate_session.specs.FaultText.{EndsUnmigratedBy, TellsNothingOld, fault_line}
 use Rattle.mg_migrate_session.proofs.Endings.{IsTold, disk_keeps, memory_keeps, small_state1, told_keeps, too_small}
 use Rattle.mg_model.specs.State.{State}
-use Rattle.mg_serve.specs.Sessions.{disk_use, sink_use}
+use Rattle.mg_serve.specs.Sessions.{use_of}
 use Rattle.mg_serve.specs.declared.status.Status.{Status}
 use Rattle.mg_serve.specs.declared.status.Status.TheVariants as status
 
@@ -40,7 +40,7 @@ pub fault_keeps : {D E K : Type 0} (d : disks.Ghosts D) (e : disks.Ghosts E) (to
     → (◌≡◌ {A = Result Summary MigrateFault} (Err f) (Err fault.OldDisk) → CountRose e old old') → (◌≡◌ {A = Result Summary MigrateFault} (Err f) (Err fault.NewDisk) → CountRose d new new')
     → EndsUnmigratedBy f result → (HasPut result → Appends (to.taken sink) (to.taken sink') (fault_line f)) → AppendsPrefix (to.taken sink) (to.taken sink') (fault_line f)
     → (TellsNothingOld f → sink' ≡ sink) → (result ≡ status.Sink → Rose (to.faults sink) (to.faults sink') (to.is_spent sink'))
-    → MigrateKeeps result (disk_use d new new') (disk_use e old old') (sink_use to sink sink')
+    → MigrateKeeps result (use_of d new new') (use_of e old old') (use_of to sink sink')
 fault_keeps d e to fault.OldDisk result new new' old old' sink sink' told moments untouched back closed kept old_rose new_rose ends put prefix quiet rose =
     disk_keeps d e to result new new' old old' sink sink' moments back kept ends (inr (old_rose refl)) (λ no. closed refl) (quiet tt)
 fault_keeps d e to fault.Not result new new' old old' sink sink' told moments untouched back closed kept old_rose new_rose ends put prefix quiet rose =

@@ -16,7 +16,7 @@ use Rattle.mg_model.specs.State.{State}
 use Rattle.mg_model.specs.Volume.{Damaged, Is, NotVolume, OldVolume}
 use Rattle.mg_serve.specs.Sessions.{AlwaysLeft, DiskRose, DiskUse, IsDoneOrMemory, Puts, PutsPrefix, SinkRose, SinkUse}
 use Rattle.mg_volume_session.specs.Headline.{blocks_of, check_line, small_line}
-use Rattle.mg_io.specs.Arguments.{usage_line}
+use Rattle.mg_io.specs.Arguments.{PutsUsage}
 use Rattle.mg_volume_session.specs.Unopened.{summary_line}
 use Rattle.mg_serve.specs.declared.status.Status.{Status}
 use Rattle.mg_serve.specs.declared.status.Status.TheVariants as status
@@ -122,10 +122,6 @@ pub record MigrateKeeps {D E K : Type 0} (result : Status) (to : DiskUse D) (fro
 -- What is kept if the words spell no migration.
 pub record NoMigrateKeeps {D E K : Type 0} (to : sinks.Ghosts K) (result : Status) (new new' : D) (old old' : E)
     (sink sink' : K) : Type 0 where
-  pub which : (result ≡ status.Usage) ⊎ (result ≡ status.Sink)
-  -- The line `usage` was printed, or a prefix of it if the sink failed, which is only if its count rose.
-  pub usage_text : result ≡ status.Usage → Appends (to.taken sink) (to.taken sink') usage_line
-  pub usage_prefix : AppendsPrefix (to.taken sink) (to.taken sink') usage_line
-  pub sink_failed : result ≡ status.Sink → Rose (to.faults sink) (to.faults sink') (to.is_spent sink')
+  pub put : PutsUsage to (result ≡ status.Usage) (result ≡ status.Sink) sink sink'
   -- Both disks are left alone.
   pub disks : (new' ≡ new) × (old' ≡ old)

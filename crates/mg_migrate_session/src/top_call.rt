@@ -2,7 +2,7 @@
 ghost use Rattle.std.specs.Prelude.{◌≡◌, false, true};
 ghost use Rattle.mg_migrate_session.specs.Commands.{is_migrate};
 ghost use Rattle.mg_migrate_session.specs.Headline.{MigrateKeeps, NoMigrateKeeps};
-ghost use Rattle.mg_serve.specs.Sessions.{disk_use, sink_use};
+ghost use Rattle.mg_serve.specs.Sessions.{use_of};
 ghost use Rattle.mg_io.specs.Arguments.{arguments};
 
 use crate::fault_line::put_fault;
@@ -35,7 +35,7 @@ pub fn top_migrate<D: Disk, E: Disk, K: Sink>(
     sink: &mut K,
 ) -> Status
     ensures migrate { is_migrate (arguments words.now) ≡ true →
-        MigrateKeeps result (disk_use D.Disk new.old new.new) (disk_use E.Disk old.old old.new) (sink_use K.Sink sink.old sink.new) }
+        MigrateKeeps result (use_of D.Disk new.old new.new) (use_of E.Disk old.old old.new) (use_of K.Sink sink.old sink.new) }
     ensures usage { is_migrate (arguments words.now) ≡ false →
         NoMigrateKeeps K.Sink result new.old new.new old.old old.new sink.old sink.new }
 {
@@ -53,7 +53,7 @@ fn migrate_and_tell<D: Disk, E: Disk, K: Sink>(
     old: &mut E,
     sink: &mut K,
 ) -> Status
-    ensures { MigrateKeeps result (disk_use D.Disk new.old new.new) (disk_use E.Disk old.old old.new) (sink_use K.Sink sink.old sink.new) }
+    ensures { MigrateKeeps result (use_of D.Disk new.old new.new) (use_of E.Disk old.old old.new) (use_of K.Sink sink.old sink.new) }
 {
     match migrate(alloc, new, old) {
         Ok(summary) => put_summary(&summary, sink),

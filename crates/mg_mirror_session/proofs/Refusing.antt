@@ -23,7 +23,7 @@ use Rattle.mg_mirror_session.proofs.Opening.{OnlyRead, left_alone, of_side, same
 use Rattle.mg_mirror_session.specs.Headline.{CopyHolds, MirrorKeeps, OfSide, seen_behind, seen_on, session_over}
 use Rattle.mg_mirror_session.specs.Judged.{IsJudged, IsKind, first_fault}
 use Rattle.mg_model.specs.Volume.{Damaged, NotVolume, OldVolume, VolumeRead}
-use Rattle.mg_serve.specs.Sessions.{disk_use, sink_use, source_use}
+use Rattle.mg_serve.specs.Sessions.{use_of}
 use Rattle.mg_volume_session.specs.Headline.{check_line}
 use Rattle.mg_volume_session.specs.Unopened.{EndsUnopenedBy, fault_line}
 use Rattle.mg_serve.specs.declared.status.Status.{Status}
@@ -168,7 +168,7 @@ module _ {D E S K : Type 0} (d : disks.Ghosts D) (e : disks.Ghosts E) (input : s
       → OfSide from (CopyHolds e (min (d.block_count left) (e.block_count right)) (d.seen left) right right') (CopyHolds d (min (d.block_count left) (e.block_count right)) (e.seen right) left left')
       → ForSome (seen_on d e from left right) (λ image. first_fault image ≢ None → WritesNothing d left left' × WritesNothing e right right')
       → ForSome (seen_behind d e from left right) (λ image. first_fault image ≢ None → WritesNothing d left left' × WritesNothing e right right')
-      → MirrorKeeps (session_over from status.Disk None (disk_use d left left') (disk_use e right right') (source_use input source source) (sink_use to sink sink) steps steps)
+      → MirrorKeeps (session_over from status.Disk None (use_of d left left') (use_of e right right') (use_of input source source) (use_of to sink sink) steps steps)
   failed nothing rose copied of_side of_mirror = record {
     how = inl (record { status = refl; none = refl; failed = rose; kept = nothing; copied = copied; nothing = (refl, refl, refl) });
     side_judged = of_side;
@@ -183,7 +183,7 @@ module _ {D E S K : Type 0} (d : disks.Ghosts D) (e : disks.Ghosts E) (input : s
 module _ {D E S K F : Type 0} (d : disks.Ghosts D) (e : disks.Ghosts E) (input : sources.Ghosts S) (to : sinks.Ghosts K) (from : Side) (left left' : D) (right right' : E) (first : Image)
     (source : S) (sink : K) (steps : ℕ) (left_been : d.has_been left (d.moment left)) (right_been : e.has_been right (e.moment right)) where
   -- as its first blocks were read
-  pub not_read : (failure : F) → IsSideJudged d e from left left' right right' first (Err failure) → MirrorKeeps (session_over from status.Disk None (disk_use d left left') (disk_use e right right') (source_use input source source) (sink_use to sink sink) steps steps)
+  pub not_read : (failure : F) → IsSideJudged d e from left left' right right' first (Err failure) → MirrorKeeps (session_over from status.Disk None (use_of d left left') (use_of e right right') (use_of input source source) (use_of to sink sink) steps steps)
   not_read failure judged =
       let l = read_left d e left left' right right' first (Err failure) left_been right_been from judged in
       let r = read_right d e left left' right right' first (Err failure) left_been right_been from judged in
@@ -198,7 +198,7 @@ module _ {D E S K F : Type 0} (d : disks.Ghosts D) (e : disks.Ghosts E) (input :
     pub not_opened : (left'' : D) (right'' : E) → IsSideJudged {F = F} d e from left left' right right' first (Ok None)
         → (from ≡ Left → WritesNothing d left' left'') → (from ≡ Right → WritesNothing e right' right'') → (from ≡ Left → CountRose d left' left'') → (from ≡ Right → CountRose e right' right'')
         → (from ≡ Left → LeavesCopy e (min (d.block_count left') (e.block_count right')) (d.seen left') right' right'') → (from ≡ Right → LeavesCopy d (min (d.block_count left') (e.block_count right')) (e.seen right') left' left'')
-        → MirrorKeeps (session_over from status.Disk None (disk_use d left left'') (disk_use e right right'') (source_use input source source) (sink_use to sink sink) steps steps)
+        → MirrorKeeps (session_over from status.Disk None (use_of d left left'') (use_of e right right'') (use_of input source source) (use_of to sink sink) steps steps)
     not_opened left'' right'' judged left_kept right_kept left_rose right_rose right_torn left_torn =
         let n = min (d.block_count left) (e.block_count right) in
         let l = read_left d e left left' right right' first (Ok None) left_been right_been from judged in
@@ -218,7 +218,7 @@ module _ {D E S K F : Type 0} (d : disks.Ghosts D) (e : disks.Ghosts E) (input :
         (rose : result ≡ status.Sink → Rose (to.faults sink) (to.faults sink') (to.is_spent sink')) where
       refused_as : (kind : VolumeRead) → IsNoState kind → first_fault first ≡ Some kind → (result ≡ status.NoVolume) ⊎ (result ≡ status.Sink)
           → (result ≡ status.NoVolume → Appends (to.taken sink) (to.taken sink') (check_line kind)) → AppendsPrefix (to.taken sink) (to.taken sink') (check_line kind)
-          → MirrorKeeps (session_over from result None (disk_use d left left') (disk_use e right right') (source_use input source source) (sink_use to sink sink') steps steps)
+          → MirrorKeeps (session_over from result None (use_of d left left') (use_of e right right') (use_of input source source) (use_of to sink sink') steps steps)
       refused_as kind no_state told ends put prefix = record {
         how = inr (inl (record {
           kind = kind;
@@ -249,7 +249,7 @@ module _ {D E S K F : Type 0} (d : disks.Ghosts D) (e : disks.Ghosts E) (input :
           fault_is image seen = sym (same_fault {F = F} d e from left left' right right' first (Some cause) left_count right_count room judged image seen) ∙ told
 
       by_kind : (f : OpenFault) → IsKind (Some f) (first_fault first) → EndsUnopenedBy f result → (result ≡ status.NoVolume → Appends (to.taken sink) (to.taken sink') (fault_line f))
-          → AppendsPrefix (to.taken sink) (to.taken sink') (fault_line f) → MirrorKeeps (session_over from result None (disk_use d left left') (disk_use e right right') (source_use input source source) (sink_use to sink sink') steps steps)
+          → AppendsPrefix (to.taken sink) (to.taken sink') (fault_line f) → MirrorKeeps (session_over from result None (use_of d left left') (use_of e right right') (use_of input source source) (use_of to sink sink') steps steps)
       by_kind fault.Not told ends put prefix = refused_as NotVolume tt told ends put prefix
       by_kind fault.Old told ends put prefix = refused_as OldVolume tt told ends put prefix
       by_kind fault.Damaged told ends put prefix = refused_as Damaged tt told ends put prefix
@@ -257,5 +257,5 @@ module _ {D E S K F : Type 0} (d : disks.Ghosts D) (e : disks.Ghosts E) (input :
       by_kind fault.Memory told ends put prefix = absurd told
 
       pub refused : EndsUnopenedBy cause result → (result ≡ status.NoVolume → Appends (to.taken sink) (to.taken sink') (fault_line cause)) → AppendsPrefix (to.taken sink) (to.taken sink') (fault_line cause)
-          → MirrorKeeps (session_over from result None (disk_use d left left') (disk_use e right right') (source_use input source source) (sink_use to sink sink') steps steps)
+          → MirrorKeeps (session_over from result None (use_of d left left') (use_of e right right') (use_of input source source) (use_of to sink sink') steps steps)
       refused ends put prefix = by_kind cause (said_kind {F = F} d e from left left' right right' first (Some cause) left_count right_count room judged) ends put prefix

@@ -16,10 +16,11 @@ use Rattle.mg_mirror_session.proofs.Opening.{and_true, of_side}
 use Rattle.mg_mirror_session.proofs.Refusing.{of_side_too}
 use Rattle.mg_mirror_session.proofs.Through.{if_some_then, on_volume_then}
 use Rattle.mg_mirror_session.specs.Headline.{PutsSide, IsOpenedFrom, MirrorKeeps, RanOnMirror, last_line, seen_behind, session_over}
-use Rattle.mg_model.specs.Print.{text}
+use Rattle.mg_model.specs.Print.{replies_text}
 use Rattle.mg_mirror_session.specs.Judged.{first_fault}
 use Rattle.mg_mirror_session.specs.Mirrored.{Two, mirror}
-use Rattle.mg_serve.specs.Sessions.{IsWithin, disk_use, input_limit, sink_use, source_use}
+use Rattle.mg_serve.specs.Serving.{IsWithin}
+use Rattle.mg_serve.specs.Sessions.{use_of, input_limit}
 use Rattle.mg_volume_session.specs.Headline.{RunKeeps, session_of}
 use Rattle.mg_volume_session.specs.LastLemmas.{disk_ran, done_or_memory, ends_run, put_all, put_prefix, sink_failed}
 use Rattle.mg_serve.specs.declared.status.Status.{Status}
@@ -64,7 +65,7 @@ within_then limit left P Q then h = if_some_then left _ _ (λ input promise shor
 -- the disks, the source and the sink of a run
 module _ {D E S K : Type 0} (d : disks.Ghosts D) (e : disks.Ghosts E) (input : sources.Ghosts S) (to : sinks.Ghosts K) (from : Side) (left : D) (right : E) (opened closed : Two D E)
     (ran result : Status) (source source' : S) (sink replied sink' : K) (steps steps' : ℕ) (opens : IsOpenedFrom d e from left right opened) (blocks : closed.blocks ≡ opened.blocks)
-    (keeps : RunKeeps (session_of 1 ran (disk_use (mirror d e) opened closed) (source_use input source source') (sink_use to sink replied) steps steps')) (ends : PutsSide to ran closed.alone result replied sink')
+    (keeps : RunKeeps (session_of 1 ran (use_of (mirror d e) opened closed) (use_of input source source') (use_of to sink replied) steps steps')) (ends : PutsSide to ran closed.alone result replied sink')
     (before : CountGoesOn (to.faults sink) (to.faults replied) (to.is_spent sink) (to.is_spent replied)) (after : CountGoesOn (to.faults replied) (to.faults sink') (to.is_spent replied) (to.is_spent sink'))
     (both : 0 < closed.failed → BothRose (d.faults left) (d.faults closed.left) (d.is_spent closed.left) (e.faults right) (e.faults closed.right) (e.is_spent closed.right))
     (right_out : opened.alone ≡ Some Left → closed.right ≡ opened.right) (left_out : opened.alone ≡ Some Right → closed.left ≡ opened.left)
@@ -77,7 +78,7 @@ module _ {D E S K : Type 0} (d : disks.Ghosts D) (e : disks.Ghosts E) (input : s
   both_failed : result ≡ status.Disk → CountRose d left closed.left × CountRose e right closed.right
   both_failed is = mirror_rose (keeps.lines.disk_failed (disk_ran to ran (last_line closed.alone) result replied sink' ends.last is))
 
-  ran_on_mirror : ForSome (seen_behind d e from left right) (λ image. first_fault image ≡ None) → RanOnMirror (session_over from result closed.alone (disk_use d left closed.left) (disk_use e right closed.right) (source_use input source source') (sink_use to sink sink') steps steps')
+  ran_on_mirror : ForSome (seen_behind d e from left right) (λ image. first_fault image ≡ None) → RanOnMirror (session_over from result closed.alone (use_of d left closed.left) (use_of e right closed.right) (use_of input source source') (use_of to sink sink') steps steps')
   ran_on_mirror no_fault = record {
     opened = opened;
     opens = opens;
@@ -91,8 +92,8 @@ module _ {D E S K : Type 0} (d : disks.Ghosts D) (e : disks.Ghosts E) (input : s
     replied = replied;
     keeps = keeps;
     ends = ends;
-    prefix = on_volume_then ((mirror d e).seen opened) _ _ (λ s a. put_prefix to ran (last_line closed.alone) result replied sink' ends.last (text s) (source_use input source source') sink a (λ bytes. last_line closed.alone) (λ done. same_last (input.left source) (last_line closed.alone))) keeps.lines.answers;
-    done = λ is. on_volume_then ((mirror d e).seen opened) _ _ (λ s a. put_all to ran (last_line closed.alone) result replied sink' ends.last (text s) (source_use input source source') sink a (λ bytes. last_line closed.alone) (λ done. same_last (input.left source) (last_line closed.alone)) is) keeps.lines.answers;
+    prefix = on_volume_then ((mirror d e).seen opened) _ _ (λ s a. put_prefix to ran (last_line closed.alone) result replied sink' ends.last (replies_text s) (use_of input source source') sink a (λ bytes. last_line closed.alone) (λ done. same_last (input.left source) (last_line closed.alone))) keeps.lines.answers;
+    done = λ is. on_volume_then ((mirror d e).seen opened) _ _ (λ s a. put_all to ran (last_line closed.alone) result replied sink' ends.last (replies_text s) (use_of input source source') sink a (λ bytes. last_line closed.alone) (λ done. same_last (input.left source) (last_line closed.alone)) is) keeps.lines.answers;
     left_held = λ used told c cut. left_stays closed.blocks closed.alone (d.tells_stops closed.left) (e.tells_stops closed.right) (d.moment closed.left) (e.moment closed.right) (d.left_since closed.left) (e.left_since closed.right) c used
         (and_true (d.tells_stops closed.left) (e.tells_stops closed.right) (left_told (d.moment closed.left) cut.whole cut.is_one) told) (subst (λ n. CutOf n (d.left_since closed.left (d.moment closed.left)) c) (sym blocks) cut);
     right_held = λ used told c cut. right_stays closed.blocks closed.alone (d.tells_stops closed.left) (e.tells_stops closed.right) (d.moment closed.left) (e.moment closed.right) (d.left_since closed.left) (e.left_since closed.right) c used
@@ -106,7 +107,7 @@ module _ {D E S K : Type 0} (d : disks.Ghosts D) (e : disks.Ghosts E) (input : s
   pub mirror_keeps : ForSome (d.seen left) (λ image. length image ≡ d.block_count left) → ForSome (e.seen right) (λ image. length image ≡ e.block_count right)
       → ForSome (seen_behind d e from left right) (λ image. first_fault image ≡ None)
       → (closed.alone ≡ Some Left → RoseFrom (e.faults right) (e.faults closed.right) (e.is_spent closed.right)) → (closed.alone ≡ Some Right → RoseFrom (d.faults left) (d.faults closed.left) (d.is_spent closed.left))
-      → MirrorKeeps (session_over from result closed.alone (disk_use d left closed.left) (disk_use e right closed.right) (source_use input source source') (sink_use to sink sink') steps steps')
+      → MirrorKeeps (session_over from result closed.alone (use_of d left closed.left) (use_of e right closed.right) (use_of input source source') (use_of to sink sink') steps steps')
   mirror_keeps left_count right_count no_fault dropped_right dropped_left = record {
     how = inr (inr (ran_on_mirror no_fault));
     side_judged = of_side_too d e from left right (WritesNothing d left closed.left × WritesNothing e right closed.right) left_count right_count (λ image told some. absurd (some (no_fault image told)));

@@ -6,7 +6,7 @@ use Rattle.mg_disk.specs.declared.disk.Disk as disks
 use Rattle.mg_io.specs.declared.traits.Sink as sinks
 use Rattle.mg_model.specs.State.{State}
 use Rattle.mg_model.specs.Step.{after}
-use Rattle.mg_serve.specs.Sessions.{Holds, HoldsExactly, SinkUse, SourceUse, disk_use}
+use Rattle.mg_serve.specs.Sessions.{Holds, HoldsExactly, SinkUse, SourceUse, use_of}
 use Rattle.mg_volume_session.specs.Headline.{OnVolume, RunKeeps, TellsOfNone, session_of}
 use Rattle.mg_serve.specs.declared.status.Status.{Status}
 
@@ -38,13 +38,13 @@ module _ {M N : Type 0} (facts : disks.Ghosts N) (view : M → N) where
   pub writes_nothing : (m m' : M) → WritesNothing seen_through m m' → WritesNothing facts (view m) (view m')
   writes_nothing m m' h = record { same = h.same; stops = h.stops }
 
-  holds : {S K : Type 0} (s : State) (m m' : M) (i : SourceUse S) (o : SinkUse K) → Holds (after s) (disk_use seen_through m m') i o → Holds (after s) (disk_use facts (view m) (view m')) i o
+  holds : {S K : Type 0} (s : State) (m m' : M) (i : SourceUse S) (o : SinkUse K) → Holds (after s) (use_of seen_through m m') i o → Holds (after s) (use_of facts (view m) (view m')) i o
   holds s m m' i o h = record {
     moments = if_some_then (i.facts.left i.old) _ _ (λ input l. leaves m m' _ l) h.moments;
     held = h.held;
   }
 
-  exactly : {S K : Type 0} (s : State) (result : Status) (m m' : M) (i : SourceUse S) (o : SinkUse K) → HoldsExactly (after s) result (disk_use seen_through m m') i o → HoldsExactly (after s) result (disk_use facts (view m) (view m')) i o
+  exactly : {S K : Type 0} (s : State) (result : Status) (m m' : M) (i : SourceUse S) (o : SinkUse K) → HoldsExactly (after s) result (use_of seen_through m m') i o → HoldsExactly (after s) result (use_of facts (view m) (view m')) i o
   exactly s result m m' i o h = record { held_taking = h.held_taking; held_sink = h.held_sink }
 
   none : {K : Type 0} (to : sinks.Ghosts K) (result : Status) (m m' : M) (k k' : K) → TellsOfNone seen_through to result m m' k k' → TellsOfNone facts to result (view m) (view m') k k'
@@ -54,7 +54,7 @@ module _ {M N : Type 0} (facts : disks.Ghosts N) (view : M → N) where
   }
 
   pub through : {S K : Type 0} (batch : ℕ) (result : Status) (m m' : M) (i : SourceUse S) (o : SinkUse K) (steps steps' : ℕ)
-      → RunKeeps (session_of batch result (disk_use seen_through m m') i o steps steps') → RunKeeps (session_of batch result (disk_use facts (view m) (view m')) i o steps steps')
+      → RunKeeps (session_of batch result (use_of seen_through m m') i o steps steps') → RunKeeps (session_of batch result (use_of facts (view m) (view m')) i o steps steps')
   through batch result m m' i o steps steps' h = record {
     lines = record {
       answers = h.lines.answers;

@@ -12,9 +12,9 @@ use Rattle.mg_mirror.specs.declared.mirror.Side.TheVariants.{Left, Right}
 use Rattle.mg_mirror_session.specs.Judged.{first_fault}
 use Rattle.mg_mirror_session.specs.Mirrored.{Two, mirror}
 use Rattle.mg_model.specs.Lines.{lines}
-use Rattle.mg_model.specs.Print.{text}
+use Rattle.mg_model.specs.Print.{replies_text}
 use Rattle.mg_model.specs.Volume.{NotVolume, VolumeRead, volume}
-use Rattle.mg_serve.specs.Sessions.{DiskRose, DiskUse, IfShort, IsDoneOrMemory, MayLeave, OfInput, Puts, PutsPrefix, SinkRose, SinkUse, SourceRose, SourceUse, disk_use, left_now, sink_use}
+use Rattle.mg_serve.specs.Sessions.{DiskRose, DiskUse, IfShort, IsDoneOrMemory, MayLeave, OfInput, Puts, PutsPrefix, SinkRose, SinkUse, SourceRose, SourceUse, use_of, left_now}
 use Rattle.mg_volume_session.specs.Headline.{EndsRun, OnVolume, PutsLast, RunKeeps, UsageKeeps, check_line, session_of}
 use Rattle.mg_serve.specs.declared.status.Status.{Status}
 use Rattle.mg_serve.specs.declared.status.Status.TheVariants as status
@@ -183,21 +183,21 @@ pub record RanOnMirror {D E S K : Type 0} (m : MirrorSession D E S K) : Type 0 w
   pub ran : Status
   pub replied : K
   -- Of the mirror the run keeps what `run` keeps of a disk, in batches of one reply.
-  pub keeps : RunKeeps (session_of 1 ran (disk_use (both m) opened closed) m.source
-      (sink_use m.sink.facts m.sink.old replied) m.steps m.steps')
+  pub keeps : RunKeeps (session_of 1 ran (use_of (both m) opened closed) m.source
+      (use_of m.sink.facts m.sink.old replied) m.steps m.steps')
   -- Then the line of the side is put.
   pub ends : PutsSide m.sink.facts ran m.alone m.result replied m.sink.new
   -- What was put is a prefix of the replies to the whole input and that line; at the end it is all of them.
   pub prefix : OnVolume ((both m).seen opened) (λ state. OfInput m.source (λ input.
-      PutsPrefix m.sink (text state (lines input) ++ last_line m.alone)))
+      PutsPrefix m.sink (replies_text state (lines input) ++ last_line m.alone)))
   pub done : m.result ≡ status.Done → OnVolume ((both m).seen opened) (λ state. OfInput m.source (λ input.
-      (left_now m.source ≡ Some []) × Puts m.sink (text state (lines input) ++ last_line m.alone)))
+      (left_now m.source ≡ Some []) × Puts m.sink (replies_text state (lines input) ++ last_line m.alone)))
   -- What a stop may leave now of a disk that is in use, cut to the mirror's blocks, it may leave of the mirror: what is kept of the
   -- mirror is kept of that disk.
   pub left_held : m.alone ≢ Some Right → IsTrue (m.right.facts.tells_stops m.right.new) →
-      (c : Image) → CutOf opened.blocks (MayLeave m.left) c → MayLeave (disk_use (both m) opened closed) c
+      (c : Image) → CutOf opened.blocks (MayLeave m.left) c → MayLeave (use_of (both m) opened closed) c
   pub right_held : m.alone ≢ Some Left → IsTrue (m.left.facts.tells_stops m.left.new) →
-      (c : Image) → CutOf opened.blocks (MayLeave m.right) c → MayLeave (disk_use (both m) opened closed) c
+      (c : Image) → CutOf opened.blocks (MayLeave m.right) c → MayLeave (use_of (both m) opened closed) c
   -- The run failed at the disk only where the counts of both disks rose since the call began.
   pub both_failed : m.result ≡ status.Disk → DiskRose m.left × DiskRose m.right
   -- Where they did not, no call of the source or the sink failed, reads give a volume and the input is not too long, all is done, or

@@ -11,7 +11,7 @@ use Rattle.mg_mirror.specs.declared.mirror.Side.{Side}
 use Rattle.mg_mirror.specs.declared.mirror.Side.TheVariants.{Left, Right}
 use Rattle.mg_mirror_session.specs.Headline.{PutsSide}
 use Rattle.mg_mirror_session.specs.Mirrored.{Two, mirror}
-use Rattle.mg_serve.specs.Sessions.{disk_use, sink_use, source_use}
+use Rattle.mg_serve.specs.Sessions.{use_of}
 use Rattle.mg_volume_session.specs.Headline.{RunKeeps, session_of}
 use Rattle.mg_serve.specs.declared.status.Status.{Status}
 
@@ -37,8 +37,8 @@ pub record RanOpened {D E S K : Type 0} (d : disks.Ghosts D) (e : disks.Ghosts E
   pub ran : Status
   pub replied : K
   pub keeps : RunKeeps (session_of 1 ran
-      (disk_use (mirror d e) opened (record { left = left'; right = right'; blocks = opened.blocks; alone = alone; failed = failed }))
-      (source_use input source source') (sink_use to sink replied) steps steps')
+      (use_of (mirror d e) opened (record { left = left'; right = right'; blocks = opened.blocks; alone = alone; failed = failed }))
+      (use_of input source source') (use_of to sink replied) steps steps')
   pub ends : PutsSide to ran alone result replied sink'
   pub before : CountGoesOn (to.faults sink) (to.faults replied) (to.is_spent sink) (to.is_spent replied)
   pub after : CountGoesOn (to.faults replied) (to.faults sink') (to.is_spent replied) (to.is_spent sink')

@@ -3,7 +3,7 @@ ghost use Rattle.std.specs.Prelude.{◌≡◌, IfSome, None};
 ghost use Rattle.mg_mirror_session.specs.Commands.{mirror_of};
 ghost use Rattle.mg_mirror_session.specs.Headline.{MirrorKeeps, NoMirrorKeeps, session_over};
 ghost use Rattle.mg_mirror_session.specs.Ran.{RanOpened, as_two, out_left, out_right};
-ghost use Rattle.mg_serve.specs.Sessions.{disk_use, sink_use, source_use};
+ghost use Rattle.mg_serve.specs.Sessions.{use_of};
 ghost use Rattle.mg_io.specs.Arguments.{arguments};
 
 use crate::judging::read_first;
@@ -52,8 +52,8 @@ pub fn top_mirror<D: Disk, E: Disk, S: Source, K: Sink, L: Ledger>(
     steps: &mut Steps<L>,
 ) -> (Status, Option<Side>, D, E)
     ensures mirror { IfSome (mirror_of (arguments words.now)) (λ from. MirrorKeeps (session_over from result.0 result.1
-        (disk_use D.Disk left result.2) (disk_use E.Disk right result.3) (source_use S.Source source.old source.new)
-        (sink_use K.Sink sink.old sink.new) steps.old steps.new)) }
+        (use_of D.Disk left result.2) (use_of E.Disk right result.3) (use_of S.Source source.old source.new)
+        (use_of K.Sink sink.old sink.new) steps.old steps.new)) }
     ensures usage { mirror_of (arguments words.now) ≡ None → NoMirrorKeeps K.Sink result.0 result.1
         left result.2 right result.3 source.old source.new sink.old sink.new }
 {
@@ -81,8 +81,8 @@ fn run_on_mirror<D: Disk, E: Disk, S: Source, K: Sink, L: Ledger, O: Opened<D, E
     requires left_unknown { O.left_out ≡ None }
     requires right_unknown { O.right_out ≡ None }
     ensures { MirrorKeeps (session_over from result.0 result.1
-        (disk_use D.Disk left result.2) (disk_use E.Disk right result.3) (source_use S.Source source.old source.new)
-        (sink_use K.Sink sink.old sink.new) steps.old steps.new) }
+        (use_of D.Disk left result.2) (use_of E.Disk right result.3) (use_of S.Source source.old source.new)
+        (use_of K.Sink sink.old sink.new) steps.old steps.new) }
 {
     let (mut left, mut right) = (left, right);
     let mut buffer = [[0; BLOCK_SIZE]; COPY_BLOCKS];

@@ -8,7 +8,7 @@ use Rattle.mg_model.specs.declared.slots.Pw.{Pw}
 use Rattle.mg_model.specs.declared.slots.Slot.{Slot}
 use Rattle.mg_model.specs.declared.rights.Right.{Right}
 use Rattle.mg_model.specs.declared.rights.Right.TheVariants.{R}
-use Rattle.mg_model.specs.declared.limits.TheConstants.{ENTRY_LIMIT as entry_limit}
+use Rattle.mg_model.specs.declared.limits.TheConstants.{PAIR_LIMIT as pair_limit}
 use Rattle.mg_model.specs.Rights.{has_right}
 use Rattle.mg_model.specs.State.{State, Object, ObjectRow, Thread, CallFrame}
 
@@ -32,30 +32,27 @@ gives period row password right = row.password == password && (has_right row.rig
 abbrev pub holds : ℕ → ObjectRow → ℕ → Right → Bool
 holds period row password right = list_any (λ (pw : Pw). gives period pw password right) row.passwords
 
--- n entries of a capability list, from place j on: pairs of a base and a password
-abbrev pub entries_from : List ℕ → ℕ → ℕ → List (ℕ × ℕ)
-entries_from words j n = map (λ k. (slice_index words (2 + 2 * k), slice_index words (3 + 2 * k))) (range_with_len j n)
+-- the pairs of a capability list, each a base and a password: as many as its first word says, within the limit
+abbrev pub pairs_of : List ℕ → List (ℕ × ℕ)
+pairs_of words =
+    map (λ k. (slice_index words (2 + 2 * k), slice_index words (3 + 2 * k))) (range_with_len 0 (min (slice_index words 0) pair_limit))
 
--- the entries of a capability list: as many as its first word says, within the limit
-abbrev pub entries_of : List ℕ → List (ℕ × ℕ)
-entries_of words = entries_from words 0 (min (slice_index words 0) entry_limit)
-
--- what a slot gives: the entries of its capability list, while the list's object holds the slot's password with R
-abbrev pub entries_under : List Object → ℕ → Slot → List (ℕ × ℕ)
-entries_under objects period slot =
+-- what a slot gives: the pairs of its capability list, while the list's object holds the slot's password with R
+abbrev pub pairs_under : List Object → ℕ → Slot → List (ℕ × ℕ)
+pairs_under objects period slot =
     option_map_or
-    (λ (clist : Object). if holds period clist.row slot.password R then entries_of clist.words else [])
+    (λ (clist : Object). if holds period clist.row slot.password R then pairs_of clist.words else [])
     (based_at objects slot.base) []
 
 -- the capabilities of these slots, in order
 abbrev pub capabilities : List Object → ℕ → List Slot → List (ℕ × ℕ)
-capabilities objects period slots = flat_map (λ slot. entries_under objects period slot) slots
+capabilities objects period slots = flat_map (λ slot. pairs_under objects period slot) slots
 
 -- whether these slots reach the address with the right
 abbrev pub reaches : List Object → ℕ → List Slot → ℕ → Right → Bool
 reaches objects period slots address right =
     option_map_or
-    (λ (object : Object). list_any (λ (entry : ℕ × ℕ). entry.0 == object.row.base && holds period object.row entry.1 right)
+    (λ (object : Object). list_any (λ (pair : ℕ × ℕ). pair.0 == object.row.base && holds period object.row pair.1 right)
     (capabilities objects period slots))
     (at objects address) false
 

@@ -17,7 +17,7 @@ use Rattle.mg_model.specs.Objects.{word_at}
 use Rattle.mg_model.specs.Script.{decoded, operand, register}
 use Rattle.mg_model.specs.State.{State, Thread, ThreadRow}
 use Rattle.mg_model.specs.Threads.{is_thread}
-use Rattle.mg_model.specs.Turn.{picked, spelled, thread_is_ready}
+use Rattle.mg_model.specs.Turn.{picked, script_call, thread_is_ready}
 
 -- the access of a thread to an address with a right
 pub record Access : Type 0 where
@@ -68,7 +68,7 @@ abbrev pub instruction_accesses : State → ℕ → ThreadRow → Option Instr �
 instruction_accesses state t thread (Some (op.Load a b i)) = word_access t (operand thread b i) R
 instruction_accesses state t thread (Some (op.Store a b i)) = word_access t (operand thread b i) W
 instruction_accesses state t thread (Some (op.Pdx a b)) = if nat_lt 255 (register thread b) then [] else word_access t (register thread a) P
-instruction_accesses state t thread (Some op.Sys) = call_accesses state t (spelled thread)
+instruction_accesses state t thread (Some op.Sys) = call_accesses state t (script_call thread)
 instruction_accesses state t thread _ = []
 
 -- a turn fetches a word, and then does what it says
@@ -102,7 +102,7 @@ call_words state t _ = 0
 abbrev pub instruction_words : State → ℕ → ThreadRow → Option Instr → ℕ
 instruction_words state t thread (Some (op.Load a b i)) = word_under state t (operand thread b i) R
 instruction_words state t thread (Some (op.Store a b i)) = word_under state t (operand thread b i) W
-instruction_words state t thread (Some op.Sys) = call_words state t (spelled thread)
+instruction_words state t thread (Some op.Sys) = call_words state t (script_call thread)
 instruction_words state t thread _ = 0
 
 -- the word that is fetched, whatever it spells, and the words that its instruction loads or stores
@@ -116,5 +116,5 @@ words_by state t call.Next = option_map_or (λ thread. turn_words state thread) 
 words_by state t other = if is_thread state t then call_words state t other else 0
 
 -- how many words a line itself loads, fetches or stores
-abbrev pub words_of : State → Line → ℕ
-words_of state line = words_by state line.thread line.call
+abbrev pub line_words : State → Line → ℕ
+line_words state line = words_by state line.thread line.call

@@ -10,13 +10,13 @@ use Rattle.mg_model.specs.declared.rights.Right.{Right}
 use Rattle.mg_model.specs.declared.rights.Right.TheVariants.{R}
 use Rattle.mg_model.specs.declared.seats.Seat.{Seat}
 use Rattle.mg_model.specs.declared.slots.Slot.{Slot}
-use Rattle.mg_model.specs.Access.{based_at, domain_of, entries_of, holds}
+use Rattle.mg_model.specs.Access.{based_at, domain_of, pairs_of, holds}
 use Rattle.mg_model.specs.Accesses.{fetched, turning}
 use Rattle.mg_model.specs.declared.limits.TheConstants.{PAGE_SIZE as page_size}
 use Rattle.mg_model.specs.ObjectCalls.{row_at}
 use Rattle.mg_model.specs.Script.{operand}
 use Rattle.mg_model.specs.State.{Object, State, Thread, ThreadRow}
-use Rattle.mg_model.specs.Turn.{picked, spelled}
+use Rattle.mg_model.specs.Turn.{picked, script_call}
 
 -- whether the object with this base holds a password with a right
 abbrev pub held_at : State → ℕ → ℕ → Right → Bool
@@ -24,8 +24,8 @@ held_at state base password right =
     option_map_or (λ (object : Object). holds state.counters.period object.row password right) (based_at state.objects base) false
 
 -- the entries of the object with this base, when it is read as a capability list
-abbrev pub entries_at : State → ℕ → List (ℕ × ℕ)
-entries_at state base = option_map_or (λ (object : Object). entries_of object.words) (based_at state.objects base) []
+abbrev pub pairs_at : State → ℕ → List (ℕ × ℕ)
+pairs_at state base = option_map_or (λ (object : Object). pairs_of object.words) (based_at state.objects base) []
 
 -- The thread's present frame has a slot for the list, and the slot's password opens the list. The list has an entry for the
 -- object, and the entry's password gives the right on it. So the thread lives: a thread that does not live has no slot.
@@ -35,7 +35,7 @@ pub record IsBacked (state : State) (seat : Seat) : Type 0 where
   pub via : slot.base ≡ seat.via
   pub opened : held_at state seat.via slot.password R ≡ true
   pub entry : ℕ × ℕ
-  pub entries : Contains (entries_at state seat.via) entry
+  pub entries : Contains (pairs_at state seat.via) entry
   pub base : entry.0 ≡ seat.base
   pub held : held_at state seat.base entry.1 seat.right ≡ true
 
@@ -84,7 +84,7 @@ abbrev pub ended_by_instruction : State → ℕ → ThreadRow → Option Instr �
 ended_by_instruction state t thread (Some (op.Store a b i)) = by_word (operand thread b i)
 ended_by_instruction state t thread (Some (op.Pdx a b)) = by_thread t
 ended_by_instruction state t thread (Some op.Ret) = by_thread t
-ended_by_instruction state t thread (Some op.Sys) = ended_by_call state t (spelled thread)
+ended_by_instruction state t thread (Some op.Sys) = ended_by_call state t (script_call thread)
 ended_by_instruction state t thread _ = by_none
 
 abbrev pub ended_by_turn : State → Option Thread → Seat → Bool

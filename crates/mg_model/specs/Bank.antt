@@ -9,10 +9,6 @@ abbrev pub account_of : List AccRow → ℕ → Option AccRow
 account_of accounts zero = None
 account_of accounts (suc place) = slice_get accounts place
 
--- the accounts with another row at this number
-abbrev pub with_account : List AccRow → ℕ → AccRow → List AccRow
-with_account accounts number row = slice_set accounts (number - 1) row
-
 -- whether this password opens the account
 abbrev pub opens : List AccRow → ℕ → ℕ → Bool
 opens accounts number password = option_map_or (λ (row : AccRow). row.password == password) (account_of accounts number) false
@@ -23,16 +19,18 @@ balance_of accounts number = option_map_or (λ (row : AccRow). row.balance) (acc
 abbrev pub owed_by : List AccRow → ℕ → ℕ
 owed_by accounts number = option_map_or (λ (row : AccRow). row.owed) (account_of accounts number) 0
 
--- the accounts after an amount was taken from one, and given to one
-abbrev pub taken_from : List AccRow → ℕ → ℕ → List AccRow
-taken_from accounts number amount =
-    option_map_or (λ (row : AccRow). with_account accounts number (record row { balance = row.balance - amount }))
+-- the accounts with a change of the balance of one, if there is such an account
+abbrev pub with_balance : List AccRow → ℕ → (ℕ → ℕ) → List AccRow
+with_balance accounts number change =
+    option_map_or (λ (row : AccRow). slice_set accounts (number - 1) (record row { balance = change row.balance }))
     (account_of accounts number) accounts
 
-abbrev pub given_to : List AccRow → ℕ → ℕ → List AccRow
-given_to accounts number amount =
-    option_map_or (λ (row : AccRow). with_account accounts number (record row { balance = row.balance + amount }))
-    (account_of accounts number) accounts
+-- the accounts after one paid an amount, and after one got it
+abbrev pub debited : List AccRow → ℕ → ℕ → List AccRow
+debited accounts number amount = with_balance accounts number (λ balance. balance - amount)
+
+abbrev pub credited : List AccRow → ℕ → ℕ → List AccRow
+credited accounts number amount = with_balance accounts number (λ balance. balance + amount)
 
 -- how many pages the objects have together
 abbrev pub used : List Object → ℕ
@@ -74,4 +72,4 @@ rent_paid state = all_paid state.objects (rate_now state) 1 state.accounts
 
 -- the accounts after a collection: all are charged from the state before it, and the treasury, account 1, gets the sum
 abbrev pub rent_accounts : State → List AccRow
-rent_accounts state = given_to (all_charged state.objects (rate_now state) 1 state.accounts) 1 (rent_paid state)
+rent_accounts state = credited (all_charged state.objects (rate_now state) 1 state.accounts) 1 (rent_paid state)

@@ -8,7 +8,7 @@ use Rattle.mg_model.specs.declared.slots.Slot.{Slot}
 use Rattle.mg_model.specs.Access.{allowed, domain_of, thread_of}
 use Rattle.mg_model.specs.declared.limits.TheConstants.{FRAME_LIMIT as frame_limit, SLOT_LIMIT as slot_limit}
 use Rattle.mg_model.specs.ObjectCalls.{is_aligned, is_entry, row_at}
-use Rattle.mg_model.specs.Refused.{Answer, row}
+use Rattle.mg_model.specs.Refused.{Answer, checked}
 use Rattle.mg_model.specs.State.{State, Thread, ThreadRow, CallFrame}
 
 -- the state with a change of this thread's row
@@ -33,14 +33,14 @@ with_slots state t slots = with_thread state t (λ thread. record thread { frame
 abbrev pub apdadd : State → ℕ → ℕ → ℕ → Answer
 apdadd state t clist password =
     let slots = domain_of state t in
-    row state ((nat_le slot_limit (length slots), SlotFull) ∷ [])
+    checked state ((nat_le slot_limit (length slots), SlotFull) ∷ [])
     (with_slots state t (slots ++ record { base = clist; password = password } ∷ []), Count (length slots))
 
 -- `apddel I`
 abbrev pub apddel : State → ℕ → ℕ → Answer
 apddel state t index =
     let slots = domain_of state t in
-    row state ((nat_le (length slots) index, NoSlot) ∷ [])
+    checked state ((nat_le (length slots) index, NoSlot) ∷ [])
     (with_slots state t (take index slots ++ drop (suc index) slots), Done)
 
 -- `apdlist`: the bases in order, with 0 past the count
@@ -64,7 +64,7 @@ frames_of state t = option_map_or (λ (thread : Thread). thread.row.frames) (thr
 abbrev pub pdx : State → ℕ → ℕ → ℕ → Answer
 pdx state t a mask =
     let slots = kept_from mask 0 (domain_of state t) ++ option_to_list (row_at state a).extension in
-    row state (
+    checked state (
     (not (is_aligned a), Align)
     ∷ (not (allowed state t a P), Denied)
     ∷ (not (is_entry (row_at state a) a), NoEntry)
@@ -82,7 +82,7 @@ last_back frames = option_map_or (λ (frame : CallFrame). frame.back) (slice_get
 -- `ret`
 abbrev pub ret : State → ℕ → Answer
 ret state t =
-    row state ((nat_le (length (frames_of state t)) 1, NoFrame) ∷ []) (
+    checked state ((nat_le (length (frames_of state t)) 1, NoFrame) ∷ []) (
       with_thread state t
           (λ thread. record thread { pc = last_back thread.frames; frames = take (length thread.frames - 1) thread.frames }),
       Count (length (frames_of state t) - 1),

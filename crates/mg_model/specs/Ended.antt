@@ -1,9 +1,9 @@
 -- The whole lines of an input: those that a newline ends.
 use Rattle.std.specs.Prelude.{ℕ, List, [], ◌∷◌}
-use Rattle.std.specs.List.{filter_map}
+use Rattle.std.specs.List.{filter_map, slice_split}
 use Rattle.mg_model.specs.declared.calls.Line.{Line}
 use Rattle.mg_model.specs.Lines.{line_of}
-use Rattle.mg_model.specs.Words.{is_newline, split_at}
+use Rattle.mg_model.specs.Words.{is_newline}
 
 -- all pieces but the last
 abbrev pub all_but_last : List (List ℕ) → List (List ℕ)
@@ -12,4 +12,4 @@ all_but_last _ = []
 
 -- the lines of the pieces that a newline ends
 abbrev pub ended_lines : List ℕ → List Line
-ended_lines bytes = filter_map line_of (all_but_last (split_at is_newline bytes))
+ended_lines bytes = filter_map line_of (all_but_last (slice_split is_newline bytes))

@@ -4,7 +4,7 @@
 use Rattle.std.specs.Prelude.{ℕ, ◌≡◌, ◌≤◌, ◌+◌, ◌*◌, ◌&&◌, Bool, true, false, List, [], ◌∷◌, if◌then◌else◌, Some}
 use Rattle.std.specs.Option.{option_map_or}
 use Rattle.mg_model.specs.declared.calls.Line.{Line}
-use Rattle.mg_model.specs.Accesses.{Access, accesses, words_of}
+use Rattle.mg_model.specs.Accesses.{Access, accesses, line_words}
 use Rattle.mg_model.specs.Keys.{Key, first_at, has_seat, is_elsewhere, key_of, seat_of, taken, taken_by}
 use Rattle.mg_model.specs.declared.limits.TheConstants.{SEARCH_LIMIT as search_limit}
 use Rattle.mg_model.specs.State.{State}
@@ -52,13 +52,13 @@ pub record KeepsRules (state : State) (made : List Access) (kept kept' : Key →
 
 -- the most that a line adds to the counter, be it answered or not: its own words, and what is searched
 abbrev pub line_limit : (Key → Bool) → State → Line → ℕ
-line_limit kept state line = words_of state line + searches_limit kept state (accesses state line)
+line_limit kept state line = line_words state line + searches_limit kept state (accesses state line)
 
 -- A line that was answered. The counter adds the line's own words, and at most the words of its searches besides. If the
 -- line does not disturb, keys are kept by the rules. A line that disturbs may drop any key.
 pub record KeepsLine (state : State) (line : Line) (kept kept' : Key → Bool) (steps steps' : ℕ) : Type 0 where
   pub keys : is_disturbing state line ≡ false → KeepsKeys state (accesses state line) kept kept'
-  pub least : steps + words_of state line ≤ steps'
+  pub least : steps + line_words state line ≤ steps'
   pub most : steps' ≤ steps + line_limit kept state line
 
 -- after earlier lines of a session each key that would be warm is kept

@@ -1,7 +1,7 @@
 -- The limits of the machine by name, for the crates above: `src/limits.rt` has their numbers, and says what each one bounds. The
 -- definitions here take them from there.
 use Rattle.std.specs.Prelude.{ℕ, ◌*◌}
-use Rattle.mg_model.specs.declared.limits.TheConstants.{PAGE_SIZE, FIRST_PAGE, PAGE_END, OBJECT_LIMIT, OBJECT_PAGE_LIMIT, PASSWORD_LIMIT, ENTRY_POINT_LIMIT, ALL_RIGHTS, ENTRY_LIMIT, SLOT_LIMIT, FRAME_LIMIT, THREAD_LIMIT, ACCOUNT_LIMIT, PERIOD_LIMIT, NEVER, DRAW_LIMIT, BIRTH_LIMIT, DEBT_LIMIT, LEAST_FRAMES, MOST_FRAMES, CREDIT_LIMIT, STEP_LIMIT, SEAT_COUNT, PAGE_STRIDE, RIGHT_STRIDE, SEARCH_LIMIT}
+use Rattle.mg_model.specs.declared.limits.TheConstants.{PAGE_SIZE, FIRST_PAGE, PAGE_END, OBJECT_LIMIT, OBJECT_PAGE_LIMIT, PASSWORD_LIMIT, ENTRY_POINT_LIMIT, ALL_RIGHTS, PAIR_LIMIT, SLOT_LIMIT, FRAME_LIMIT, THREAD_LIMIT, ACCOUNT_LIMIT, PERIOD_LIMIT, NEVER, DRAW_LIMIT, BIRTH_LIMIT, DEBT_LIMIT, LEAST_FRAMES, MOST_FRAMES, CREDIT_LIMIT, STEP_LIMIT, SEAT_COUNT, PAGE_STRIDE, RIGHT_STRIDE, SEARCH_LIMIT}
 
 -- what an account may owe by a period
 abbrev pub debt_limit : ℕ → ℕ
@@ -31,8 +31,8 @@ entry_point_limit = ENTRY_POINT_LIMIT
 abbrev pub all_rights : ℕ
 all_rights = ALL_RIGHTS
 
-abbrev pub entry_limit : ℕ
-entry_limit = ENTRY_LIMIT
+abbrev pub pair_limit : ℕ
+pair_limit = PAIR_LIMIT
 
 abbrev pub slot_limit : ℕ
 slot_limit = SLOT_LIMIT

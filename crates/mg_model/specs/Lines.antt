@@ -1,16 +1,15 @@
 -- From bytes to calls.
 use Rattle.std.specs.Prelude.{ℕ, ◌==◌, nat_le, nat_lt, Bool, false, List, [], ◌∷◌, length, if◌then◌else◌, slice_index, Option, Some, None, codes, option_map}
 use Rattle.std.specs.Option.{option_map_or}
-use Rattle.std.specs.List.{filter_map, list_any}
+use Rattle.std.specs.List.{filter_map, list_any, slice_split}
 use Rattle.mg_model.specs.declared.calls.Call.{Call}
 use Rattle.mg_model.specs.declared.calls.Call.TheVariants as call
 use Rattle.mg_model.specs.declared.calls.Line.{Line}
-use Rattle.mg_model.specs.Words.{is_newline, number_of, numbers_of, rights_of, same_bytes, split_at, words}
+use Rattle.mg_model.specs.Words.{is_newline, number_of, numbers_of, rights_of, same_bytes, words, and_then}
 
 -- these numbers, if there are n of them
 abbrev pub exactly : ℕ → Option (List ℕ) → Option (List ℕ)
-exactly n None = None
-exactly n (Some numbers) = if length numbers == n then Some numbers else None
+exactly n numbers = and_then numbers (λ ns. if length ns == n then Some ns else None)
 
 -- a call with n words after it, each of which spells a number; else Bad
 abbrev pub form : ℕ → ((ℕ → ℕ) → Call) → List (List ℕ) → Call
@@ -27,11 +26,11 @@ form_pwadd (b ∷ rights ∷ until ∷ []) = pwadd_of (number_of b) (rights_of r
 form_pwadd _ = call.Bad
 
 -- a call word, and the call that its arguments make
-abbrev pub Row : Type 0
-Row = List ℕ × (List (List ℕ) → Call)
+abbrev pub CallRow : Type 0
+CallRow = List ℕ × (List (List ℕ) → Call)
 
 -- the calls; the mask of `pdx` is a number of 8 bits
-abbrev pub call_table : List Row
+abbrev pub call_table : List CallRow
 call_table =
     (codes "load", form 1 (λ n. call.Load (n 0)))
     ∷ (codes "store", form 2 (λ n. call.Store (n 0) (n 1)))
@@ -59,16 +58,12 @@ call_table =
     ∷ (codes "rent", form 0 (λ _. call.Rent))
     ∷ []
 
--- the call words that begin a line; before each other call word is the number of a thread
-abbrev pub lone_words : List (List ℕ)
-lone_words = codes "next" ∷ codes "rent" ∷ []
-
--- whether a word is one of these
-abbrev pub is_among : List ℕ → List (List ℕ) → Bool
-is_among word known = list_any (λ k. same_bytes word k) known
+-- whether this call word begins a line; before each other call word is the number of a thread
+abbrev pub is_lone : List ℕ → Bool
+is_lone word = list_any (λ known. same_bytes word known) (codes "next" ∷ codes "rent" ∷ [])
 
 -- the call that a word and its arguments make by these rows, if one of them has the word
-abbrev pub call_by : List Row → List ℕ → List (List ℕ) → Option Call
+abbrev pub call_by : List CallRow → List ℕ → List (List ℕ) → Option Call
 call_by [] word args = None
 call_by ((known, form) ∷ rows) word args = if same_bytes word known then Some (form args) else call_by rows word args
 
@@ -87,12 +82,12 @@ call_line t word args = option_map_or (λ made. line_with t made) (call_by call_
 -- after a thread's number: a call word, and its arguments
 abbrev pub thread_line : ℕ → List (List ℕ) → Line
 thread_line t [] = bad_line
-thread_line t (word ∷ args) = if is_among word lone_words then bad_line else call_line t word args
+thread_line t (word ∷ args) = if is_lone word then bad_line else call_line t word args
 
 -- the line that its words spell, of which there is at least one
 abbrev pub spelled_line : List ℕ → List (List ℕ) → Line
 spelled_line first more =
-    if is_among first lone_words then call_line 0 first more
+    if is_lone first then call_line 0 first more
     else option_map_or (λ t. thread_line t more) (number_of first) bad_line
 
 -- a note begins with #
@@ -112,4 +107,4 @@ line_of bytes = if nat_lt 256 (length bytes) then Some bad_line else line_of_wor
 -- The lines of an input. The last line may lack its newline: the bytes after the last newline are one more piece. An empty
 -- piece spells no line.
 abbrev pub lines : List ℕ → List Line
-lines bytes = filter_map line_of (split_at is_newline bytes)
+lines bytes = filter_map line_of (slice_split is_newline bytes)

@@ -1,4 +1,6 @@
 -- The calls on words and objects, row by row.
+use Rattle.mg_model.specs.declared.rights.Right.{Right}
+use Rattle.mg_model.specs.Rights.{letters}
 use Rattle.std.specs.Prelude.{ℕ, ◌+◌, ◌*◌, ◌%◌, ◌==◌, ◌&&◌, ◌||◌, nat_le, nat_lt, Bool, false, not, [], ◌∷◌, ◌++◌, length, if◌then◌else◌, filter, Option, Some, None, is_some, unwrap_or}
 use Rattle.std.specs.Option.{option_map_or}
 use Rattle.std.specs.List.{list_any}
@@ -13,7 +15,7 @@ use Rattle.mg_model.specs.Bank.{opens, owed_by, used}
 use Rattle.mg_model.specs.Draw.{password_drawn}
 use Rattle.mg_model.specs.declared.limits.TheConstants.{DRAW_LIMIT as draw_limit, ENTRY_POINT_LIMIT as entry_point_limit, NEVER as never, OBJECT_LIMIT as object_limit, OBJECT_PAGE_LIMIT as object_page_limit, PASSWORD_LIMIT as password_limit}
 use Rattle.mg_model.specs.Objects.{lowest_free, new_object, with_object, without_object, with_row, with_word, word_at}
-use Rattle.mg_model.specs.Refused.{Answer, row}
+use Rattle.mg_model.specs.Refused.{Answer, checked}
 use Rattle.mg_model.specs.State.{State, Object, ObjectRow}
 
 -- whether an address is that of a word
@@ -23,13 +25,13 @@ is_aligned address = address % 8 == 0
 -- `load A`
 abbrev pub load : State → ℕ → ℕ → Answer
 load state t a =
-    row state ((not (is_aligned a), Align) ∷ (not (allowed state t a R), Denied) ∷ [])
+    checked state ((not (is_aligned a), Align) ∷ (not (allowed state t a R), Denied) ∷ [])
     (state, Value (word_at state.objects a))
 
 -- `store A V`
 abbrev pub store : State → ℕ → ℕ → ℕ → Answer
 store state t a value =
-    row state ((not (is_aligned a), Align) ∷ (not (allowed state t a W), Denied) ∷ [])
+    checked state ((not (is_aligned a), Align) ∷ (not (allowed state t a W), Denied) ∷ [])
     (record state { objects = with_word state.objects a value }, Done)
 
 -- the next password, and the state after it was drawn
@@ -47,7 +49,7 @@ all_drawn state = nat_le draw_limit state.counters.draws
 abbrev pub create : State → ℕ → ℕ → ℕ → Answer
 create state n account password =
     let base = 4096 * lowest_free state.objects n in
-    row state (
+    checked state (
     (n == 0 || nat_lt object_page_limit n, Size)
     ∷ (not (opens state.accounts account password), Account)
     ∷ (nat_lt 0 (owed_by state.accounts account), Debt)
@@ -58,13 +60,11 @@ create state n account password =
       Made base (next_password state),
     )
 
--- the row of no object
-abbrev pub no_row : ObjectRow
-no_row = record { base = 0; pages = 0; account = 0; passwords = []; entries = []; extension = None }
-
--- the row of the object that has the address, and `no_row` if no object has it
+-- the row of the object that has the address; an empty row if no object has it
 abbrev pub row_at : State → ℕ → ObjectRow
-row_at state address = option_map_or (λ (object : Object). object.row) (at state.objects address) no_row
+row_at state address =
+    option_map_or (λ (object : Object). object.row) (at state.objects address)
+    record { base = 0; pages = 0; account = 0; passwords = []; entries = []; extension = None }
 
 -- the state with a change of the row of the object that an address names
 abbrev pub with_row_at : State → ℕ → (ObjectRow → ObjectRow) → State
@@ -73,12 +73,8 @@ with_row_at state address change = record state { objects = with_row (row_at sta
 -- `delete B`
 abbrev pub delete : State → ℕ → ℕ → Answer
 delete state t b =
-    row state ((not (allowed state t b D), Denied) ∷ [])
+    checked state ((not (allowed state t b D), Denied) ∷ [])
     (record state { objects = without_object (row_at state b).base state.objects }, Done)
-
--- whether the thread has one of the six rights; they are tried in the order of their bits
-abbrev pub any_allowed : State → ℕ → ℕ → Bool
-any_allowed state t address = list_any (λ right. allowed state t address right) (R ∷ W ∷ X ∷ D ∷ P ∷ O ∷ [])
 
 -- what `info` says of an object
 abbrev pub about : ObjectRow → Reply
@@ -86,9 +82,10 @@ about object =
     About object.base object.pages object.account (length object.passwords) (length object.entries)
     (if is_some object.extension then 1 else 0)
 
--- `info B`
+-- `info B`: one of the six rights is enough, and they are tried in the order of their bits
 abbrev pub info : State → ℕ → ℕ → Answer
-info state t b = row state ((not (any_allowed state t b), Denied) ∷ []) (state, about (row_at state b))
+info state t b =
+    checked state ((not (list_any (λ (l : ℕ × Right). allowed state t b l.1) letters), Denied) ∷ []) (state, about (row_at state b))
 
 -- whether an until is given that is not above the period, or is above the last that may be given
 abbrev pub is_past : ℕ → Option ℕ → Bool
@@ -98,7 +95,7 @@ is_past period (Some until) = nat_le until period || nat_le never until
 -- `pwadd B RIGHTS` and `pwadd B RIGHTS UNTIL`
 abbrev pub pwadd : State → ℕ → ℕ → ℕ → Option ℕ → Answer
 pwadd state t b rights until =
-    row state (
+    checked state (
     (not (allowed state t b O), Denied)
     ∷ (is_past state.counters.period until, Past)
     ∷ (nat_le password_limit (length (row_at state b).passwords) || all_drawn state, Limit)
@@ -118,7 +115,7 @@ has_password password pw = pw.password == password
 -- `pwdel B PW`
 abbrev pub pwdel : State → ℕ → ℕ → ℕ → Answer
 pwdel state t b password =
-    row state (
+    checked state (
     (not (allowed state t b O), Denied)
     ∷ (not (list_any (λ pw. has_password password pw) (row_at state b).passwords), NoPassword)
     ∷ [])
@@ -136,7 +133,7 @@ with_entry object address = if is_entry object address then object else record o
 abbrev pub entry : State → ℕ → ℕ → ℕ → Answer
 entry state t b off =
     let address = (row_at state b).base + off in
-    row state (
+    checked state (
     (not (allowed state t b O), Denied)
     ∷ (not (is_aligned off) || nat_le (4096 * (row_at state b).pages) off, Range)
     ∷ (nat_le entry_point_limit (length (row_at state b).entries) && not (is_entry (row_at state b) address), Limit)
@@ -149,13 +146,13 @@ extension_of clist password = if clist == 0 then None else Some record { base = 
 
 abbrev pub ext : State → ℕ → ℕ → ℕ → ℕ → Answer
 ext state t b clist password =
-    row state ((not (allowed state t b O), Denied) ∷ [])
+    checked state ((not (allowed state t b O), Denied) ∷ [])
     (with_row_at state b (λ object. record object { extension = extension_of clist password }), Done)
 
 -- `recharge B ACC PW`
 abbrev pub recharge : State → ℕ → ℕ → ℕ → ℕ → Answer
 recharge state t b account password =
-    row state (
+    checked state (
     (not (allowed state t b O), Denied)
     ∷ (not (opens state.accounts account password), Account)
     ∷ (nat_lt 0 (owed_by state.accounts account), Debt)

@@ -1,7 +1,7 @@
 -- The places of objects, and how their list changes.
 use Rattle.std.specs.Prelude.{ℕ, ◌+◌, ◌-◌, ◌*◌, ◌/◌, ◌==◌, ◌||◌, nat_le, nat_lt, min, Bool, not, List, [], ◌∷◌, if◌then◌else◌, filter, map, replicate, slice_index, slice_set, None}
 use Rattle.std.specs.Option.{option_map_or}
-use Rattle.std.specs.List.{list_all}
+use Rattle.std.specs.List.{list_all, fold}
 use Rattle.mg_model.specs.State.{Object, ObjectRow}
 use Rattle.mg_model.specs.Access.{covers, at}
 use Rattle.mg_model.specs.declared.limits.TheConstants.{ALL_RIGHTS as all_rights, FIRST_PAGE as first_page, NEVER as never, PAGE_END as page_end}
@@ -18,17 +18,12 @@ abbrev pub is_free : List Object → ℕ → ℕ → Bool
 is_free objects n page =
     list_all (λ (object : Object). nat_le (page + n) (page_of object.row) || nat_le (page_behind object.row) page) objects
 
--- the least of these numbers, of which there is at least one
-abbrev pub least : ℕ → List ℕ → ℕ
-least n [] = n
-least n (m ∷ ms) = least (min n m) ms
-
 -- The least page from `first_page` on at which n pages meet no object, and `page_end` if there is none below it. It is
 -- `first_page` or a page right after an object, so the least is taken among those. That no lower page is free is the law
 -- `free_pages_are_found`.
 abbrev pub lowest_free : List Object → ℕ → ℕ
 lowest_free objects n =
-    least page_end
+    fold min page_end
     (filter (λ page. is_free objects n page) (first_page ∷ map (λ (object : Object). page_behind object.row) objects))
 
 -- the objects with one more, in its place in the order of the bases

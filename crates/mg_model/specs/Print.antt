@@ -1,16 +1,14 @@
 -- Replies as text.
-use Rattle.std.specs.Prelude.{ℕ, zero, suc, ◌+◌, ◌/◌, ◌%◌, nat_lt, List, [], ◌∷◌, ◌++◌, if◌then◌else◌, codes, count_by, map, take}
+use Rattle.mg_model.specs.Refused.{refusal_row}
+use Rattle.mg_model.specs.declared.threads.ThrState.{ThrState}
+use Rattle.std.specs.Option.{option_map_or}
+use Rattle.std.specs.Prelude.{ℕ, zero, suc, ◌+◌, ◌/◌, ◌%◌, nat_lt, List, [], ◌∷◌, ◌++◌, if◌then◌else◌, codes, count_by, map, take, flat_map, Option}
 use Rattle.std.specs.Fmt.{decimal}
 use Rattle.mg_model.specs.declared.calls.Line.{Line}
-use Rattle.mg_model.specs.declared.replies.After.{After}
-use Rattle.mg_model.specs.declared.replies.After.TheVariants as after
 use Rattle.mg_model.specs.declared.replies.Reply.{Reply}
 use Rattle.mg_model.specs.declared.replies.Reply.TheVariants as reply
-use Rattle.mg_model.specs.declared.threads.Fault.{Fault}
-use Rattle.mg_model.specs.declared.threads.Fault.TheVariants as fault
-use Rattle.mg_model.specs.State.{State}
+use Rattle.mg_model.specs.State.{State, state_row}
 use Rattle.mg_model.specs.Step.{step}
-use Rattle.mg_model.specs.Refused.{refusal_text}
 use Rattle.mg_model.specs.Words.{is_newline}
 
 -- a hexadecimal digit in lower case
@@ -26,21 +24,13 @@ hex_digits (suc n) w = hex_digits n (w / 16) ++ hex_digit (w % 16) ∷ []
 unfoldable pub hex_text : ℕ → List ℕ
 hex_text w = codes "0x" ++ hex_digits 16 w
 
-abbrev pub fault_text : Fault → List ℕ
-fault_text fault.Align = codes "Align"
-fault_text fault.Denied = codes "Denied"
-fault_text fault.Opcode = codes "Opcode"
-
-abbrev pub after_text : After → List ℕ
-after_text after.Ready = codes "Ready"
-after_text after.Stopped = codes "Stopped"
-after_text (after.Faulted kind) = codes "Faulted " ++ fault_text kind
-after_text after.Ended = codes "Ended"
+-- what a thread is after its turn; none is left if it ended
+abbrev pub after_text : Option ThrState → List ℕ
+after_text left = option_map_or (λ state. (state_row state).1) left (codes "Ended")
 
 -- each text after one space
 abbrev pub spaced : List (List ℕ) → List ℕ
-spaced [] = []
-spaced (text ∷ texts) = 32 ∷ text ++ spaced texts
+spaced texts = flat_map (λ bytes. 32 ∷ bytes) texts
 
 -- ok and its values
 abbrev pub ok_text : List (List ℕ) → List ℕ
@@ -48,7 +38,7 @@ ok_text values = codes "ok" ++ spaced values
 
 -- a reply, without its newline
 abbrev pub reply_text : Reply → List ℕ
-reply_text (reply.No word) = codes "no " ++ refusal_text word
+reply_text (reply.No word) = codes "no " ++ (refusal_row word).1
 reply_text reply.Done = ok_text []
 reply_text (reply.Value w) = ok_text (hex_text w ∷ [])
 reply_text (reply.Count n) = ok_text (decimal n ∷ [])
@@ -57,8 +47,8 @@ reply_text (reply.Opened number password) = ok_text (decimal number ∷ hex_text
 reply_text (reply.About base pages account passwords entries extension) =
     ok_text (hex_text base ∷ decimal pages ∷ decimal account ∷ decimal passwords ∷ decimal entries ∷ decimal extension ∷ [])
 reply_text (reply.Slots count bases) = ok_text (decimal count ∷ map hex_text (take count bases))
-reply_text (reply.Turned state) = ok_text (after_text state ∷ [])
-reply_text (reply.Ran number state) = ok_text (decimal number ∷ after_text state ∷ [])
+reply_text (reply.Turned left) = ok_text (after_text left ∷ [])
+reply_text (reply.Ran number left) = ok_text (decimal number ∷ after_text left ∷ [])
 reply_text (reply.Funds balance owed pages) = ok_text (decimal balance ∷ decimal owed ∷ decimal pages ∷ [])
 reply_text (reply.Collected period rate paid) = ok_text (decimal period ∷ decimal rate ∷ decimal paid ∷ [])
 
@@ -67,9 +57,9 @@ abbrev pub reply_line : Reply → List ℕ
 reply_line answer = reply_text answer ++ 10 ∷ []
 
 -- the replies to these lines, a line each
-abbrev pub text : State → List Line → List ℕ
-text state [] = []
-text state (line ∷ more) = reply_line (step state line).1 ++ text (step state line).0 more
+abbrev pub replies_text : State → List Line → List ℕ
+replies_text state [] = []
+replies_text state (line ∷ more) = reply_line (step state line).1 ++ replies_text (step state line).0 more
 
 -- how many whole replies these bytes hold: the number of newlines
 abbrev pub answered : List ℕ → ℕ

@@ -1,4 +1,5 @@
 -- The refusals, and a row of the table of calls: its refusals in their order, and what is done if none of them holds.
+use Rattle.std.specs.Option.{option_map_or}
 use Rattle.std.specs.Prelude.{ℕ, Bool, List, [], ◌∷◌, Option, Some, None, if◌then◌else◌, codes}
 use Rattle.mg_model.specs.declared.replies.Refusal.{Refusal}
 use Rattle.mg_model.specs.declared.replies.Refusal.TheVariants as refusal
@@ -31,12 +32,6 @@ refusal_row refusal.Credit = (20, codes "Credit")
 refusal_row refusal.Calendar = (21, codes "Calendar")
 refusal_row refusal.Past = (22, codes "Past")
 
-abbrev pub refusal_number : Refusal → ℕ
-refusal_number word = (refusal_row word).0
-
-abbrev pub refusal_text : Refusal → List ℕ
-refusal_text word = (refusal_row word).1
-
 -- a state and the reply that came with it
 abbrev pub Answer : Type 0
 Answer = State × Reply
@@ -46,14 +41,9 @@ abbrev pub first_refusal : List (Bool × Refusal) → Option Refusal
 first_refusal [] = None
 first_refusal ((holds, word) ∷ more) = if holds then Some word else first_refusal more
 
--- a refused call changes nothing
-abbrev pub unless_refused : Option Refusal → State → Answer → Answer
-unless_refused None state done = done
-unless_refused (Some word) state done = (state, No word)
-
--- a row: its state, its refusals in order, and what is done otherwise
-abbrev pub row : State → List (Bool × Refusal) → Answer → Answer
-row state refusals done = unless_refused (first_refusal refusals) state done
+-- a row of the table of calls: its state, its refusals in order, and what is done otherwise; a refused call changes nothing
+abbrev pub checked : State → List (Bool × Refusal) → Answer → Answer
+checked state refusals done = option_map_or (λ word. (state, No word)) (first_refusal refusals) done
 
 -- the reply refuses the line
 abbrev pub IsRefusal : Reply → Type 0

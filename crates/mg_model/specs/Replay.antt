@@ -1,6 +1,6 @@
 -- What an image's journal says: the open segments' bodies, written over the blocks that their indexes name.
-use Rattle.std.specs.Prelude.{ℕ, ◌+◌, ◌*◌, ◌==◌, ◌&&◌, nat_le, nat_lt, Bool, true, List, [], ◌∷◌, flat_map, if◌then◌else◌, map, slice_index, slice_index_or, slice_set, Option, Some, None}
-use Rattle.std.specs.List.{list_all, range_with_len}
+use Rattle.std.specs.Prelude.{ℕ, ◌+◌, ◌*◌, ◌==◌, ◌&&◌, nat_le, nat_lt, Bool, true, List, [], flat_map, if◌then◌else◌, map, slice_index, slice_index_or, slice_set, Option, Some, None}
+use Rattle.std.specs.List.{list_all, range_with_len, fold}
 use Rattle.mg_model.specs.Bytes.{number_at}
 use Rattle.mg_model.specs.declared.layout.TheConstants.{BODY_LIMIT as body_limit, GLOBALS_BLOCK as globals_block, SEGMENT_COUNT as segment_count}
 use Rattle.mg_model.specs.Layout.{gate_open, segment_body, segment_gate, segment_index}
@@ -19,13 +19,12 @@ body_count image s = number_at (block_of image (segment_index s)) 0
 abbrev pub home_of : List (List ℕ) → ℕ → ℕ → ℕ
 home_of image s j = number_at (block_of image (segment_index s)) (8 + 8 * j)
 
--- the writes of n bodies of segment s, from body j on: pairs of a block's number and what is written there
-abbrev pub writes_from : List (List ℕ) → ℕ → ℕ → ℕ → List (ℕ × List ℕ)
-writes_from image s j n = map (λ k. (home_of image s k, block_of image (segment_body s k))) (range_with_len j n)
-
--- what a segment writes; a closed segment writes nothing
+-- what a segment writes: pairs of a block's number and what is written there; a closed segment writes nothing
 abbrev pub writes_of : List (List ℕ) → ℕ → List (ℕ × List ℕ)
-writes_of image s = if is_open image s then writes_from image s 0 (body_count image s) else []
+writes_of image s =
+    if is_open image s
+    then map (λ j. (home_of image s j, block_of image (segment_body s j))) (range_with_len 0 (body_count image s))
+    else []
 
 -- whether each is of a block after the journal and below the total
 abbrev pub homes_fit : ℕ → List (ℕ × List ℕ) → Bool
@@ -35,20 +34,13 @@ homes_fit total writes = list_all (λ (write : ℕ × List ℕ). nat_le globals_
 abbrev pub segment_fits : ℕ → List (List ℕ) → ℕ → Bool
 segment_fits total image s = if is_open image s then nat_le (body_count image s) body_limit && homes_fit total (writes_of image s) else true
 
--- n segments from segment s on
-abbrev pub segments_fit : ℕ → List (List ℕ) → ℕ → ℕ → Bool
-segments_fit total image s n = list_all (λ k. segment_fits total image k) (range_with_len s n)
-
--- what they write
-abbrev pub writes_since : List (List ℕ) → ℕ → ℕ → List (ℕ × List ℕ)
-writes_since image s n = flat_map (λ k. writes_of image k) (range_with_len s n)
-
 -- the image after these writes, in order
 abbrev pub written : List (List ℕ) → List (ℕ × List ℕ) → List (List ℕ)
-written image [] = image
-written image ((i, block) ∷ writes) = written (slice_set image i block) writes
+written image writes = fold (λ blocks (write : ℕ × List ℕ). slice_set blocks write.0 write.1) image writes
 
 -- the image after the open segments in order, if each of them fits
 abbrev pub replay : List (List ℕ) → ℕ → Option (List (List ℕ))
 replay image total =
-    if segments_fit total image 0 segment_count then Some (written image (writes_since image 0 segment_count)) else None
+    if list_all (λ s. segment_fits total image s) (range_with_len 0 segment_count)
+    then Some (written image (flat_map (λ s. writes_of image s) (range_with_len 0 segment_count)))
+    else None

@@ -1,5 +1,5 @@
 -- The six rights and their bits.
-use Rattle.std.specs.Prelude.{ℕ, ◌/◌, ◌%◌, ◌^◌, ◌==◌, ◌≤◌, Bool}
+use Rattle.std.specs.Prelude.{ℕ, ◌/◌, ◌%◌, ◌^◌, ◌==◌, ◌≤◌, Bool, List, [], ◌∷◌}
 use Rattle.mg_model.specs.declared.rights.Right.{Right}
 use Rattle.mg_model.specs.declared.rights.Right.TheVariants.{R, W, X, D, P, O}
 use Rattle.mg_model.specs.declared.limits.TheConstants.{ALL_RIGHTS as all_rights}
@@ -12,6 +12,10 @@ right_number X = 2
 right_number D = 3
 right_number P = 4
 right_number O = 5
+
+-- the letter of each right, in the same order
+abbrev pub letters : List (ℕ × Right)
+letters = (82, R) ∷ (87, W) ∷ (88, X) ∷ (68, D) ∷ (80, P) ∷ (79, O) ∷ []
 
 -- whether a set of rights, given by its bits, has this one
 abbrev pub has_right : ℕ → Right → Bool

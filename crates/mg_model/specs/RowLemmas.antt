@@ -12,10 +12,11 @@ use Rattle.mg_model.specs.Bytes.{are_zeros, block_words, bytes_at, numbers_at, w
 use Rattle.mg_model.specs.BytesLemmas.{numbers_at-first, same_bytes-refl}
 use Rattle.mg_model.specs.Ranges.{IsWord}
 use Rattle.mg_model.specs.Replay.{block_of}
-use Rattle.mg_model.specs.Spelling.{Read, account_bytes, account_fields, account_read, free_or, globals_bytes, globals_fields, globals_read, live_if, object_bytes, object_fields, object_read, thread_bytes, thread_fields, thread_read}
+use Rattle.mg_model.specs.Spelling.{Read, account_bytes, account_fields, account_read, globals_bytes, globals_fields, globals_read, object_bytes, object_fields, object_read, thread_bytes, thread_fields, thread_read}
 use Rattle.mg_model.specs.State.{Counters, ObjectRow, ThreadRow}
 use Rattle.mg_model.specs.Tests.{are_counters, is_object_row, is_thread_row}
-use Rattle.mg_model.specs.Volume.{live_rows, table_entries, with_live}
+use Rattle.mg_model.specs.Abbreviations.{free_or, live_if, table_entries, with_live}
+use Rattle.mg_model.specs.Volume.{live_rows}
 use Rattle.mg_model.specs.Words.{and_then, same_bytes}
 
 -- a row that keeps its rule and has its bytes

@@ -1,7 +1,7 @@
 -- How rows are spelled in bytes. Each row is spelled in one way alone, so bytes are read as a row if writing that row gives
 -- them back. That bytes spell a row exactly when a row in its ranges has them is a law (`rows_are_spelled_in_one_way` in
 -- `mg_rows`). So the ways to write a row are the whole meaning; the ways to read it are there to be computed.
-use Rattle.std.specs.Prelude.{ℕ, zero, suc, ◌+◌, ◌-◌, ◌*◌, ◌==◌, ◌&&◌, nat_lt, Bool, true, not, min, List, [], ◌∷◌, ◌++◌, flat_map, if◌then◌else◌, is_some, length, map, replicate, slice_index, Option, Some, None}
+use Rattle.std.specs.Prelude.{ℕ, ◌+◌, ◌-◌, ◌*◌, ◌==◌, ◌&&◌, nat_lt, Bool, true, not, min, List, [], ◌∷◌, ◌++◌, flat_map, if◌then◌else◌, is_some, length, map, replicate, slice_index, Option, Some, None}
 use Rattle.std.specs.List.{range_with_len}
 use Rattle.std.specs.Option.{option_map_or}
 use Rattle.mg_model.specs.declared.accounts.AccRow.{AccRow}
@@ -10,12 +10,12 @@ use Rattle.mg_model.specs.declared.slots.Slot.{Slot}
 use Rattle.mg_model.specs.declared.threads.Fault.TheVariants as fault
 use Rattle.mg_model.specs.declared.threads.ThrState.{ThrState}
 use Rattle.mg_model.specs.declared.threads.ThrState.TheVariants.{Ready, Stopped, Faulted}
-use Rattle.mg_model.specs.Bytes.{are_zeros, bytes_at, number_at, numbers_at, padded_to, words_bytes}
+use Rattle.mg_model.specs.Bytes.{are_zeros, bytes_at, number_at, numbers_at, padded_to, words_bytes, offsets_by}
 use Rattle.mg_model.specs.declared.layout.TheConstants.{ACCOUNT_SIZE as account_size, VERSION as version}
 use Rattle.mg_model.specs.Layout.{block_size, magic}
 use Rattle.mg_model.specs.declared.limits.TheConstants.{ENTRY_POINT_LIMIT as entry_point_limit, FRAME_LIMIT as frame_limit, PASSWORD_LIMIT as password_limit, SLOT_LIMIT as slot_limit}
 use Rattle.mg_model.specs.Settings.{Settings, within_limits}
-use Rattle.mg_model.specs.State.{CallFrame, Counters, ObjectRow, ThreadRow}
+use Rattle.mg_model.specs.State.{CallFrame, Counters, ObjectRow, ThreadRow, state_row}
 use Rattle.mg_model.specs.Tariff.{is_tariff}
 use Rattle.mg_model.specs.Tests.{are_counters, is_object_row, is_thread_row}
 use Rattle.mg_model.specs.Words.{same_bytes}
@@ -24,13 +24,18 @@ use Rattle.mg_model.specs.Words.{same_bytes}
 abbrev pub Read : Type 0 → Type 0
 Read R = Option (Option R)
 
--- a live row, if it keeps its rule and these are its bytes
-abbrev pub live_if : {R : Type 0} → Bool → List ℕ → List ℕ → R → Read R
-live_if rule written bytes row = if rule && same_bytes written bytes then Some (Some row) else None
+abbrev pub free_row : {R : Type 0} → Read R
+free_row = Some None
 
--- a free row is all zeros
-abbrev pub free_or : {R : Type 0} → List ℕ → Read R → Read R
-free_or bytes live = if are_zeros bytes then Some None else live
+abbrev pub live_row : {R : Type 0} → R → Read R
+live_row row = Some (Some row)
+
+-- All zeros spell a free row. Other bytes spell the row that has these fields, if it keeps its rule and these are its bytes.
+abbrev pub row_read : {R : Type 0} → (R → Bool) → (R → List ℕ) → (List ℕ → R) → List ℕ → Read R
+row_read rule spell fields bytes =
+    if are_zeros bytes then free_row
+    else if rule (fields bytes) && same_bytes (spell (fields bytes)) bytes then live_row (fields bytes)
+    else None
 
 -- An account. Each row lists its words in the order of their places. The line that reads a word names the byte at which the
 -- word begins.
@@ -41,34 +46,28 @@ abbrev pub account_fields : List ℕ → AccRow
 account_fields bytes = record { password = number_at bytes 8; balance = number_at bytes 16; owed = number_at bytes 24 }
 
 abbrev pub account_read : List ℕ → Read AccRow
-account_read bytes = free_or bytes (live_if true (account_bytes (account_fields bytes)) bytes (account_fields bytes))
+account_read bytes = row_read (λ _. true) account_bytes account_fields bytes
 
 -- An object: nine words, the last three of them its extension, and from byte 80 on four columns with room for 32 passwords, their
 -- rights in a byte each, 16 entries and 32 untils.
-abbrev pub object_head : ObjectRow → List ℕ
-object_head row =
-    words_bytes (
+abbrev pub object_bytes : ObjectRow → List ℕ
+object_bytes row =
+    padded_to 80 (words_bytes (
     1 ∷ row.base ∷ row.pages ∷ row.account ∷ length row.passwords ∷ length row.entries
     ∷ (if is_some row.extension then 1 else 0)
     ∷ option_map_or (λ (slot : Slot). slot.base) row.extension 0
     ∷ option_map_or (λ (slot : Slot). slot.password) row.extension 0
-    ∷ [])
-
-abbrev pub object_bytes : ObjectRow → List ℕ
-object_bytes row =
-    padded_to 80 (object_head row)
+    ∷ []))
     ++ (padded_to 256 (words_bytes (map (λ (pw : Pw). pw.password) row.passwords))
     ++ (padded_to 32 (map (λ (pw : Pw). pw.rights) row.passwords)
     ++ (padded_to 128 (words_bytes row.entries)
     ++ (padded_to 256 (words_bytes (map (λ (pw : Pw). pw.until) row.passwords))
     ++ replicate 272 0))))
 
--- n password rows, from place k on
-abbrev pub passwords_at : List ℕ → ℕ → ℕ → List Pw
-passwords_at bytes k n =
-    map
-    (λ j. record { password = number_at bytes (80 + 8 * j); rights = slice_index bytes (336 + j); until = number_at bytes (496 + 8 * j) })
-    (range_with_len k n)
+-- the password row at a place of its columns
+abbrev pub password_at : List ℕ → ℕ → Pw
+password_at bytes j =
+    record { password = number_at bytes (80 + 8 * j); rights = slice_index bytes (336 + j); until = number_at bytes (496 + 8 * j) }
 
 -- The fields that these bytes have. If a count is above its limit, one row more than the limit is read: `is_object_row`
 -- refuses that.
@@ -77,24 +76,15 @@ object_fields bytes = record {
   base = number_at bytes 8;
   pages = number_at bytes 16;
   account = number_at bytes 24;
-  passwords = passwords_at bytes 0 (min (number_at bytes 32) (password_limit + 1));
+  passwords = map (λ j. password_at bytes j) (range_with_len 0 (min (number_at bytes 32) (password_limit + 1)));
   entries = numbers_at bytes 368 (min (number_at bytes 40) (entry_point_limit + 1));
   extension = if number_at bytes 48 == 1 then Some record { base = number_at bytes 56; password = number_at bytes 64 } else None;
 }
 
 abbrev pub object_read : List ℕ → Read ObjectRow
-object_read bytes =
-    free_or bytes
-    (live_if (is_object_row (object_fields bytes)) (object_bytes (object_fields bytes)) bytes (object_fields bytes))
+object_read bytes = row_read is_object_row object_bytes object_fields bytes
 
 -- a thread: a block, with six words, its registers from byte 64 on, and its frames from byte 128 on
-abbrev pub state_number : ThrState → ℕ
-state_number Ready = 0
-state_number Stopped = 1
-state_number (Faulted fault.Align) = 2
-state_number (Faulted fault.Denied) = 3
-state_number (Faulted fault.Opcode) = 4
-
 abbrev pub state_numbered : ℕ → ThrState
 state_numbered n =
     if n == 0 then Ready
@@ -103,22 +93,19 @@ state_numbered n =
     else if n == 3 then Faulted fault.Denied
     else Faulted fault.Opcode
 
-abbrev pub slot_words : Slot → List ℕ
-slot_words slot = slot.base ∷ slot.password ∷ []
-
 -- a frame of a thread: the address that it returns to, how many slots it has, and the slots, each a base and a password
 abbrev pub frame_bytes : CallFrame → List ℕ
-frame_bytes frame = padded_to 144 (words_bytes (frame.back ∷ length frame.slots ∷ flat_map slot_words frame.slots))
+frame_bytes frame =
+    padded_to 144
+    (words_bytes (frame.back ∷ length frame.slots ∷ flat_map {A = ℕ} (λ (slot : Slot). slot.base ∷ slot.password ∷ []) frame.slots))
 
 abbrev pub thread_bytes : ThreadRow → List ℕ
 thread_bytes row =
-    padded_to 64 (words_bytes (1 ∷ row.birth ∷ row.creator ∷ row.pc ∷ state_number row.state ∷ length row.frames ∷ []))
+    padded_to 64 (words_bytes (1 ∷ row.birth ∷ row.creator ∷ row.pc ∷ (state_row row.state).0 ∷ length row.frames ∷ []))
     ++ padded_to (block_size - 64) (words_bytes row.regs ++ flat_map frame_bytes row.frames)
 
 abbrev pub slots_at : List ℕ → ℕ → ℕ → List Slot
-slots_at bytes offset zero = []
-slots_at bytes offset (suc n) =
-    record { base = number_at bytes offset; password = number_at bytes (offset + 8) } ∷ slots_at bytes (offset + 16) n
+slots_at bytes offset n = map (λ o. record { base = number_at bytes o; password = number_at bytes (o + 8) }) (offsets_by 16 offset n)
 
 abbrev pub frame_at : List ℕ → ℕ → CallFrame
 frame_at bytes offset =
@@ -128,10 +115,6 @@ frame_at bytes offset =
           (min (number_at bytes (offset + 8)) (slot_limit + 1));
     }
 
-abbrev pub frames_at : List ℕ → ℕ → ℕ → List CallFrame
-frames_at bytes offset zero = []
-frames_at bytes offset (suc n) = frame_at bytes offset ∷ frames_at bytes (offset + 144) n
-
 abbrev pub thread_fields : List ℕ → ThreadRow
 thread_fields bytes = record {
   birth = number_at bytes 8;
@@ -139,13 +122,11 @@ thread_fields bytes = record {
   pc = number_at bytes 24;
   state = state_numbered (number_at bytes 32);
   regs = numbers_at bytes 64 8;
-  frames = frames_at bytes 128 (min (number_at bytes 40) (frame_limit + 1));
+  frames = map (λ o. frame_at bytes o) (offsets_by 144 128 (min (number_at bytes 40) (frame_limit + 1)));
 }
 
 abbrev pub thread_read : List ℕ → Read ThreadRow
-thread_read bytes =
-    free_or bytes
-    (live_if (is_thread_row (thread_fields bytes)) (thread_bytes (thread_fields bytes)) bytes (thread_fields bytes))
+thread_read bytes = row_read is_thread_row thread_bytes thread_fields bytes
 
 -- the globals: a block, never free
 abbrev pub globals_bytes : Counters → List ℕ
@@ -162,17 +143,11 @@ globals_read bytes =
     else None
 
 -- The superblock: the magic, the version, the frames, the credits, the seed of 32 bytes, and four steps of two words.
-abbrev pub step_words : List (ℕ × ℕ) → List ℕ
-step_words steps = flat_map (λ (step : ℕ × ℕ). step.0 ∷ step.1 ∷ []) steps
-
 abbrev pub super_bytes : Settings → List ℕ
 super_bytes settings =
     magic ++ padded_to (block_size - 8)
-    (words_bytes (version ∷ settings.frames ∷ settings.credits ∷ []) ++ (settings.seed ++ words_bytes (step_words settings.tariff)))
-
-abbrev pub steps_at : List ℕ → ℕ → ℕ → List (ℕ × ℕ)
-steps_at bytes offset zero = []
-steps_at bytes offset (suc n) = (number_at bytes offset, number_at bytes (offset + 8)) ∷ steps_at bytes (offset + 16) n
+    (words_bytes (version ∷ settings.frames ∷ settings.credits ∷ [])
+    ++ (settings.seed ++ words_bytes (flat_map (λ (step : ℕ × ℕ). step.0 ∷ step.1 ∷ []) settings.tariff)))
 
 abbrev pub super_fields : List ℕ → Settings
 super_fields bytes =
@@ -180,7 +155,7 @@ super_fields bytes =
       frames = number_at bytes 16;
       seed = bytes_at bytes 32 32;
       credits = number_at bytes 24;
-      tariff = steps_at bytes 64 4;
+      tariff = map (λ o. (number_at bytes o, number_at bytes (o + 8))) (offsets_by 16 64 4);
     }
 
 abbrev pub are_settings : Settings → Bool

@@ -1,9 +1,11 @@
 -- What the machine holds.
-use Rattle.std.specs.Prelude.{ℕ, List, Option}
+use Rattle.std.specs.Prelude.{ℕ, List, Option, codes}
 use Rattle.mg_model.specs.declared.accounts.AccRow.{AccRow}
 use Rattle.mg_model.specs.declared.slots.Pw.{Pw}
 use Rattle.mg_model.specs.declared.slots.Slot.{Slot}
+use Rattle.mg_model.specs.declared.threads.Fault.TheVariants as fault
 use Rattle.mg_model.specs.declared.threads.ThrState.{ThrState}
+use Rattle.mg_model.specs.declared.threads.ThrState.TheVariants.{Ready, Stopped, Faulted}
 use Rattle.mg_model.specs.Settings.{Settings}
 
 -- what is known of an object besides its words
@@ -24,6 +26,14 @@ pub record Object : Type 0 where
 pub record CallFrame : Type 0 where
   pub back : ℕ
   pub slots : List Slot
+
+-- the state of a thread: its number on a disk, and its text
+abbrev pub state_row : ThrState → ℕ × List ℕ
+state_row Ready = (0, codes "Ready")
+state_row Stopped = (1, codes "Stopped")
+state_row (Faulted fault.Align) = (2, codes "Faulted Align")
+state_row (Faulted fault.Denied) = (3, codes "Faulted Denied")
+state_row (Faulted fault.Opcode) = (4, codes "Faulted Opcode")
 
 -- what is known of a thread; its present frame is the last
 pub record ThreadRow : Type 0 where

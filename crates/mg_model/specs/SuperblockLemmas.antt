@@ -6,13 +6,14 @@ use Rattle.std.proofs.lemmas.Bool.Decides.{nat_tests}
 use Rattle.std.proofs.lemmas.List.{take_at}
 use Rattle.std.proofs.lemmas.List.Elements.{All-cons, All-head, All-nil, All-tail}
 use Rattle.std.proofs.lemmas.Nat.{from_le_bytes-to_le_bytes_8}
-use Rattle.mg_model.specs.Bytes.{bytes_at, number_at, padded_to, word_bytes, words_bytes}
+use Rattle.mg_model.specs.Abbreviations.{step_words, steps_at, word_bytes}
+use Rattle.mg_model.specs.Bytes.{bytes_at, number_at, padded_to, words_bytes}
 use Rattle.mg_model.specs.BytesLemmas.{number_at-behind, number_at-first, padded_to-append, same_bytes-refl}
 use Rattle.mg_model.specs.declared.layout.TheConstants.{VERSION as version}
 use Rattle.mg_model.specs.Layout.{magic}
 use Rattle.mg_model.specs.Ranges.{IsWord}
 use Rattle.mg_model.specs.Settings.{Settings, within_limits}
-use Rattle.mg_model.specs.Spelling.{are_settings, step_words, steps_at, super_bytes, super_fields, super_read, BadSuper, NotSuper, OldSuper, Spells}
+use Rattle.mg_model.specs.Spelling.{are_settings, super_bytes, super_fields, super_read, BadSuper, NotSuper, OldSuper, Spells}
 use Rattle.mg_model.specs.Tariff.{is_tariff}
 use Rattle.mg_model.specs.WellFormed.{IsSettings}
 use Rattle.mg_model.specs.Words.{same_bytes}

@@ -10,7 +10,7 @@ use Rattle.mg_model.specs.Access.{allowed, domain_of, thread_of}
 use Rattle.mg_model.specs.Domains.{with_thread}
 use Rattle.mg_model.specs.declared.limits.TheConstants.{BIRTH_LIMIT as birth_limit, THREAD_LIMIT as thread_limit}
 use Rattle.mg_model.specs.ObjectCalls.{is_aligned}
-use Rattle.mg_model.specs.Refused.{Answer, row}
+use Rattle.mg_model.specs.Refused.{Answer, checked}
 use Rattle.mg_model.specs.State.{State, Thread}
 
 abbrev pub is_thread : State → ℕ → Bool
@@ -48,19 +48,17 @@ new_thread number birth creator pc slots = record {
   };
 }
 
-abbrev pub born : State → State
-born state = record state { counters = record state.counters { births = state.counters.births + 1 } }
-
 -- `thread PC`
 abbrev pub make_thread : State → ℕ → ℕ → Answer
 make_thread state t pc =
     let number = free_number_from 1 state.threads in
-    row state (
+    checked state (
     (not (is_aligned pc), Align)
     ∷ (not (allowed state t pc X), Denied)
     ∷ (nat_le thread_limit (length state.threads) || nat_le birth_limit state.counters.births, Limit)
     ∷ []) (
-      record (born state) {
+      record state {
+        counters = record state.counters { births = state.counters.births + 1 };
         threads = with_new_thread
             (new_thread number (state.counters.births + 1) (birth_of state t) pc (domain_of state t)) state.threads;
       },
@@ -75,11 +73,11 @@ is_own state t i = i == t || creator_of state i == birth_of state t
 -- `end I`
 abbrev pub end_thread : State → ℕ → ℕ → Answer
 end_thread state t i =
-    row state ((not (is_thread state i), NoThread) ∷ (i == 1 || not (is_own state t i), NotYours) ∷ [])
+    checked state ((not (is_thread state i), NoThread) ∷ (i == 1 || not (is_own state t i), NotYours) ∷ [])
     (record state { threads = filter (λ (thread : Thread). not (thread.number == i)) state.threads }, Done)
 
 -- `resume I`
 abbrev pub resume : State → ℕ → ℕ → Answer
 resume state t i =
-    row state ((not (is_thread state i), NoThread) ∷ (not (is_own state t i), NotYours) ∷ [])
+    checked state ((not (is_thread state i), NoThread) ∷ (not (is_own state t i), NotYours) ∷ [])
     (with_thread state i (λ thread. record thread { state = Ready }), Done)

@@ -1,12 +1,10 @@
 -- Turns: a thread runs one word of its script.
-use Rattle.std.specs.Prelude.{ℕ, ◌+◌, ◌-◌, ◌*◌, ◌%◌, ◌^◌, ◌==◌, ◌&&◌, nat_le, nat_lt, Bool, true, false, not, List, [], ◌∷◌, if◌then◌else◌, find, Option, Some, None}
+use Rattle.std.specs.Prelude.{ℕ, ◌+◌, ◌-◌, ◌*◌, ◌%◌, ◌^◌, ◌==◌, ◌&&◌, nat_le, nat_lt, Bool, true, false, not, List, [], ◌∷◌, if◌then◌else◌, find, Option, Some, None, option_map}
 use Rattle.std.specs.Option.{option_map_or, option_or}
 use Rattle.mg_model.specs.declared.calls.Call.{Call}
 use Rattle.mg_model.specs.declared.calls.Call.TheVariants as call
 use Rattle.mg_model.specs.declared.instructions.Instr.{Instr}
 use Rattle.mg_model.specs.declared.instructions.Instr.TheVariants as op
-use Rattle.mg_model.specs.declared.replies.After.{After}
-use Rattle.mg_model.specs.declared.replies.After.TheVariants as after
 use Rattle.mg_model.specs.declared.replies.Refusal.TheVariants as refusal
 use Rattle.mg_model.specs.declared.replies.Reply.{Reply}
 use Rattle.mg_model.specs.declared.replies.Reply.TheVariants as reply
@@ -21,7 +19,7 @@ use Rattle.mg_model.specs.Domains.{apdadd, apddel, apdlist, pdx, ret, row_of, wi
 use Rattle.mg_model.specs.declared.limits.TheConstants.{ALL_RIGHTS as all_rights}
 use Rattle.mg_model.specs.ObjectCalls.{create, delete, entry, ext, info, is_aligned, load, pwadd, pwdel, recharge, store}
 use Rattle.mg_model.specs.Objects.{with_word, word_at}
-use Rattle.mg_model.specs.Refused.{Answer, refusal_number, row}
+use Rattle.mg_model.specs.Refused.{Answer, checked, refusal_row}
 use Rattle.mg_model.specs.Script.{decoded, jumped, operand, register, with_register, word_end}
 use Rattle.mg_model.specs.State.{State, Thread, ThreadRow}
 use Rattle.mg_model.specs.Threads.{end_thread, make_thread, resume}
@@ -54,19 +52,19 @@ thread_call state t (call.Balance account password) = balance state account pass
 thread_call state t other = (state, reply.No refusal.Syntax)
 
 -- the rights of a `pwadd` by a script are given as their bits
-abbrev pub spelled_pwadd : ℕ → ℕ → Option ℕ → Call
-spelled_pwadd b rights until = if nat_le 1 rights && nat_le rights all_rights then call.Pwadd b rights until else call.Bad
+abbrev pub script_pwadd : ℕ → ℕ → Option ℕ → Call
+script_pwadd b rights until = if nat_le 1 rights && nat_le rights all_rights then call.Pwadd b rights until else call.Bad
 
 -- the call that a thread's registers spell: register 0 has its number, and from register 1 on come its arguments
-abbrev pub spelled : ThreadRow → Call
-spelled thread =
+abbrev pub script_call : ThreadRow → Call
+script_call thread =
     let r = λ (k : ℕ). register thread k in
     if r 0 == 1 then call.Load (r 1)
     else if r 0 == 2 then call.Store (r 1) (r 2)
     else if r 0 == 3 then call.Create (r 1) (r 2) (r 3)
     else if r 0 == 4 then call.Delete (r 1)
     else if r 0 == 5 then call.Info (r 1)
-    else if r 0 == 6 then spelled_pwadd (r 1) (r 2) None
+    else if r 0 == 6 then script_pwadd (r 1) (r 2) None
     else if r 0 == 7 then call.Pwdel (r 1) (r 2)
     else if r 0 == 8 then call.Entry (r 1) (r 2)
     else if r 0 == 9 then call.Ext (r 1) (r 2) (r 3)
@@ -79,7 +77,7 @@ spelled thread =
     else if r 0 == 16 then call.Account (r 1) (r 2) (r 3)
     else if r 0 == 17 then call.Pay (r 1) (r 2) (r 3) (r 4)
     else if r 0 == 18 then call.Balance (r 1) (r 2)
-    else if r 0 == 19 then spelled_pwadd (r 1) (r 2) (Some (r 3))
+    else if r 0 == 19 then script_pwadd (r 1) (r 2) (Some (r 3))
     else call.Bad
 
 -- the values that an ok reply leaves in registers, in order; the bases of slots and the end of a turn leave no value
@@ -100,9 +98,9 @@ with_registers thread k (value ∷ values) = with_registers (with_register threa
 
 -- A call by a script, and what its thread sees of the answer. If the call is refused, register 0 gets the refusal's number.
 -- If it is ok, the row changes so.
-abbrev pub seen : ℕ → (Reply → ThreadRow → ThreadRow) → Answer → State
-seen t on_ok (state, reply.No word) = with_thread state t (λ thread. with_register thread 0 (refusal_number word))
-seen t on_ok (state, said) = with_thread state t (on_ok said)
+abbrev pub with_answer : ℕ → (Reply → ThreadRow → ThreadRow) → Answer → State
+with_answer t on_ok (state, reply.No word) = with_thread state t (λ thread. with_register thread 0 (refusal_row word).0)
+with_answer t on_ok (state, said) = with_thread state t (on_ok said)
 
 -- the thread faults, and nothing else of it changes
 abbrev pub faulted : State → ℕ → Fault → State
@@ -143,27 +141,22 @@ run state t here moved (op.Jnz a i) = put_row state t (if register moved a == 0 
 run state t here moved (op.Pdx a b) =
     let advanced = put_row state t moved in
     let mask = register moved b in
-    seen t (λ _ entered. with_register entered 0 0)
+    with_answer t (λ _ entered. with_register entered 0 0)
     (if nat_lt 255 mask then (advanced, reply.No refusal.Syntax) else pdx advanced t (register moved a) mask)
-run state t here moved op.Ret = seen t (λ _ returned. returned) (ret (put_row state t moved) t)
+run state t here moved op.Ret = with_answer t (λ _ returned. returned) (ret (put_row state t moved) t)
 run state t here moved op.Yield = put_row state t moved
 run state t here moved op.Sys =
-    seen t (λ said caller. with_registers caller 0 (0 ∷ values_of said))
-    (thread_call (put_row state t moved) t (spelled moved))
+    with_answer t (λ said caller. with_registers caller 0 (0 ∷ values_of said))
+    (thread_call (put_row state t moved) t (script_call moved))
 
 -- the pc is first advanced by the width of a word; a word that is no instruction faults, and the pc stays
 abbrev pub run_word : State → ℕ → ThreadRow → Option Instr → State
 run_word state t thread None = faulted state t fault.Opcode
 run_word state t thread (Some instr) = run state t thread.pc (record thread { pc = (thread.pc + 8) % word_end }) instr
 
--- what is left of the thread after its turn
-abbrev pub as_after : ThrState → After
-as_after Ready = after.Ready
-as_after Stopped = after.Stopped
-as_after (Faulted kind) = after.Faulted kind
-
-abbrev pub after_of : State → ℕ → After
-after_of state t = option_map_or (λ (thread : ThreadRow). as_after thread.state) (row_of state t) after.Ended
+-- what the thread is after its turn; none is left if it ended
+abbrev pub after_of : State → ℕ → Option ThrState
+after_of state t = option_map (λ (thread : ThreadRow). thread.state) (row_of state t)
 
 -- the state after the turn of a thread with this row
 abbrev pub turned : State → ℕ → ThreadRow → State
@@ -184,7 +177,7 @@ thread_is_ready state t = option_map_or (λ (thread : ThreadRow). is_ready threa
 -- `turn`
 abbrev pub turn : State → ℕ → Answer
 turn state t =
-    row state ((not (thread_is_ready state t), refusal.NotReady) ∷ [])
+    checked state ((not (thread_is_ready state t), refusal.NotReady) ∷ [])
     (turn_state state t, reply.Turned (after_of (turn_state state t) t))
 
 -- the least number above the cursor of a thread that is Ready, else the least of a Ready thread; the threads are in order

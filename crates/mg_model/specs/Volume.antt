@@ -1,7 +1,7 @@
 -- What an image spells: no volume, an older one, a damaged one, or a state of the machine.
-use Rattle.std.specs.Prelude.{◌≡◌, ◌≤◌, ℕ, zero, suc, ◌+◌, ◌*◌, ◌/◌, ◌%◌, ◌==◌, ◌&&◌, nat_le, nat_lt, Bool, true, false, not, List, [], ◌∷◌, drop, filter, flat_map, if◌then◌else◌, length, map, position, replicate, slice_index, sum_by, take, Option, Some, None}
+use Rattle.std.specs.Prelude.{◌≡◌, ◌≤◌, ℕ, zero, suc, ◌+◌, ◌*◌, ◌/◌, ◌%◌, ◌==◌, ◌&&◌, nat_le, nat_lt, Bool, true, false, not, List, [], ◌∷◌, drop, filter, flat_map, if◌then◌else◌, length, map, position, replicate, slice_index, sum_by, take, Option, Some, None, option_map}
 use Rattle.std.specs.Option.{option_map_or}
-use Rattle.std.specs.List.{list_all, list_any, range_with_len}
+use Rattle.std.specs.List.{list_all, list_any, range_with_len, cons_option}
 use Rattle.mg_model.specs.declared.accounts.AccRow.{AccRow}
 use Rattle.mg_model.specs.Bank.{used}
 use Rattle.mg_model.specs.Bytes.{are_zeros, block_words, bytes_at}
@@ -27,22 +27,11 @@ pub data VolumeRead : Type 0 where
 abbrev pub row_bytes : List (List ℕ) → ℕ → ℕ → ℕ → List ℕ
 row_bytes image first size i = bytes_at (block_of image (first + i / (4096 / size))) (size * (i % (4096 / size))) size
 
--- a live row joins the others with its place, a free one does not
-abbrev pub with_live : {R : Type 0} → ℕ → Option R → List (ℕ × R) → List (ℕ × R)
-with_live i None rows = rows
-with_live i (Some row) rows = (i, row) ∷ rows
-
--- the live rows of n places from place i on, each with its place; None if one of them spells nothing
+-- The live rows of n places from place i on, each with its place; a free row is none of them. None if a place spells nothing.
 abbrev pub live_rows : {R : Type 0} → (ℕ → Read R) → ℕ → ℕ → Option (List (ℕ × R))
 live_rows read i zero = Some []
-live_rows read i (suc n) = and_then (read i) (λ row. and_then (live_rows read (i + 1) n) (λ rows. Some (with_live i row rows)))
-
--- the entries of n blocks of the frame table: the page that each frame holds, or 0
-abbrev pub table_entries : List (List ℕ) → ℕ → ℕ → List ℕ
-table_entries image block n = flat_map (λ k. block_words (block_of image k)) (range_with_len block n)
-
-abbrev pub whole_table : List (List ℕ) → ℕ → List ℕ
-whole_table image frames = table_entries image table_block (table_blocks frames)
+live_rows read i (suc n) =
+    and_then (read i) (λ row. and_then (live_rows read (i + 1) n) (λ rows. Some (cons_option (option_map (λ live. (i, live)) row) rows)))
 
 -- the rows of an image, which is replayed already
 pub record Rows : Type 0 where
@@ -52,10 +41,11 @@ pub record Rows : Type 0 where
   pub objects : List (ℕ × ObjectRow)
   pub table : List ℕ
 
--- every row, the globals, and the bytes of the frame table past its last entry are spelled; a thread's row is a block
+-- Every row, the globals, and the bytes of the frame table past its last word are spelled; a thread's row is a block. A word of the frame
+-- table is the page that its frame holds, or 0.
 abbrev pub rows_of : List (List ℕ) → ℕ → Option Rows
 rows_of image frames =
-    let table = whole_table image frames in
+    let table = flat_map (λ k. block_words (block_of image k)) (range_with_len table_block (table_blocks frames)) in
     and_then (globals_read (block_of image globals_block)) (λ counters.
     and_then (live_rows (λ i. account_read (row_bytes image first_account_block account_size i)) 0 account_limit) (λ accounts.
     and_then (live_rows (λ i. thread_read (block_of image (first_thread_block + i))) 0 thread_limit) (λ threads.
@@ -70,12 +60,10 @@ page_words image frames table page =
     option_map_or (λ frame. block_words (block_of image (first_frame frames + frame)))
     (position (λ entry. entry == page) table) (replicate 512 0)
 
--- the words of n pages
-abbrev pub pages_words : List (List ℕ) → ℕ → List ℕ → ℕ → ℕ → List ℕ
-pages_words image frames table page n = flat_map (λ k. page_words image frames table k) (range_with_len page n)
-
+-- an object: its row, and the words of its pages
 abbrev pub object_spelled : List (List ℕ) → ℕ → List ℕ → ObjectRow → Object
-object_spelled image frames table row = record { row = row; words = pages_words image frames table (page_of row) row.pages }
+object_spelled image frames table row =
+    record { row = row; words = flat_map (λ k. page_words image frames table k) (range_with_len (page_of row) row.pages) }
 
 -- the objects in the order of their bases, whatever rows they have
 abbrev pub objects_spelled : List (List ℕ) → ℕ → List ℕ → List (ℕ × ObjectRow) → List Object
@@ -127,10 +115,6 @@ threads_fit births threads =
     && all_distinct (map (λ (thread : Thread). thread.row.birth) threads)
     && list_all (λ (thread : Thread). nat_le thread.row.birth births) threads
 
--- whether a page is one of the object's
-abbrev pub is_page_of : ℕ → Object → Bool
-is_page_of page object = nat_le (page_of object.row) page && nat_lt page (page_behind object.row)
-
 -- the pages in the frame table
 abbrev pub bound_pages : List ℕ → List ℕ
 bound_pages table = filter (λ page. not (page == 0)) table
@@ -138,7 +122,8 @@ bound_pages table = filter (λ page. not (page == 0)) table
 -- each of them lies in an object, and none is there twice
 abbrev pub table_fits : List Object → List ℕ → Bool
 table_fits objects table =
-    list_all (λ page. list_any (λ object. is_page_of page object) objects) (bound_pages table)
+    list_all (λ page. list_any (λ (object : Object). nat_le (page_of object.row) page && nat_lt page (page_behind object.row)) objects)
+    (bound_pages table)
     && all_distinct (bound_pages table)
 
 abbrev pub state_fits : Rows → State → Bool
@@ -149,13 +134,11 @@ state_fits rows state =
     && threads_fit state.counters.births state.threads
     && table_fits state.objects rows.table
 
-abbrev pub fitting : Rows → State → VolumeRead
-fitting rows state = if state_fits rows state then Is state else Damaged
-
 -- what a replayed image spells under these settings
 abbrev pub replayed_volume : Settings → List (List ℕ) → VolumeRead
 replayed_volume settings image =
-    option_map_or (λ rows. fitting rows (state_spelled image settings rows)) (rows_of image settings.frames) Damaged
+    option_map_or (λ rows. let state = state_spelled image settings rows in if state_fits rows state then Is state else Damaged)
+    (rows_of image settings.frames) Damaged
 
 -- an image has at least as many blocks as its frames need, and its journal can be replayed
 abbrev pub settled_volume : List (List ℕ) → Settings → VolumeRead

@@ -15,7 +15,7 @@ use Rattle.mg_model.specs.declared.replies.Reply.{Reply}
 use Rattle.mg_model.specs.declared.replies.Reply.TheVariants.{No}
 use Rattle.mg_model.specs.declared.rights.Right.TheVariants.{W}
 use Rattle.mg_model.specs.Access.{allowed}
-use Rattle.mg_model.specs.Accesses.{Access, accesses, fetched, turning, words_of}
+use Rattle.mg_model.specs.Accesses.{Access, accesses, fetched, turning, line_words}
 use Rattle.mg_model.specs.Keys.{Key, first_at, has_seat, is_key, key_of, seat_of, taken_by}
 use Rattle.mg_model.specs.declared.limits.TheConstants.{PAGE_SIZE as page_size, SEARCH_LIMIT as search_limit}
 use Rattle.mg_model.specs.ObjectCalls.{is_aligned}
@@ -97,7 +97,7 @@ failing test before (access ∷ more) = (if test before access then 0 else 1) + 
 
 -- what a line may cost: its own words, and a whole search for each access that is not warm
 abbrev pub line_cost : List Event → State → Line → ℕ
-line_cost past state line = words_of state line + search_limit * failing (is_warm past state) [] (accesses state line)
+line_cost past state line = line_words state line + search_limit * failing (is_warm past state) [] (accesses state line)
 
 -- what lines may cost after earlier ones
 abbrev pub cost_behind : List Event → State → List Line → ℕ

@@ -1,19 +1,11 @@
 -- From bytes to words, and from a word to what it spells.
+use Rattle.mg_model.specs.declared.rights.Right.{Right}
+use Rattle.mg_model.specs.Rights.{letters, right_number}
 use Rattle.std.specs.Prelude.{ℕ, ◌+◌, ◌-◌, ◌*◌, ◌^◌, ◌==◌, ◌&&◌, ◌||◌, nat_le, nat_lt, Bool, true, false, List, [], ◌∷◌, length, if◌then◌else◌, filter, sum_by, Option, Some, None}
-use Rattle.std.specs.Option.{option_map_or}
-use Rattle.std.specs.List.{filter_map}
+use Rattle.std.specs.Option.{option_map_or, option_and_then}
+use Rattle.std.specs.List.{filter_map, slice_split}
 use Rattle.std.specs.Cmp.Lexicographic.{pointwise}
 use Rattle.mg_model.specs.Tests.{all_distinct}
-
--- a byte goes to the front of the first piece
-abbrev pub onto_first : ℕ → List (List ℕ) → List (List ℕ)
-onto_first b [] = (b ∷ []) ∷ []
-onto_first b (piece ∷ pieces) = (b ∷ piece) ∷ pieces
-
--- the pieces between the bytes that pass the test: one more than there are such bytes
-abbrev pub split_at : (ℕ → Bool) → List ℕ → List (List ℕ)
-split_at cuts [] = [] ∷ []
-split_at cuts (b ∷ bytes) = if cuts b then [] ∷ split_at cuts bytes else onto_first b (split_at cuts bytes)
 
 abbrev pub is_newline : ℕ → Bool
 is_newline b = b == 10
@@ -28,7 +20,7 @@ is_some_word (b ∷ bytes) = true
 
 -- the words of a line
 abbrev pub words : List ℕ → List (List ℕ)
-words bytes = filter is_some_word (split_at is_blank bytes)
+words bytes = filter is_some_word (slice_split is_blank bytes)
 
 -- the value of a digit to base 10 or 16
 abbrev pub digit_of : ℕ → ℕ → Option ℕ
@@ -40,8 +32,7 @@ digit_of base b =
 
 -- what follows of a value, if there is one
 abbrev pub and_then : {X Y : Type 0} → Option X → (X → Option Y) → Option Y
-and_then None f = None
-and_then (Some x) f = f x
+and_then o f = option_and_then f o
 
 -- the number that these digits spell after those that were read
 abbrev pub value_from : ℕ → ℕ → List ℕ → Option ℕ
@@ -52,35 +43,30 @@ value_from base n (b ∷ bytes) = and_then (digit_of base b) (λ d. value_from b
 abbrev pub value_of_digits : ℕ → ℕ → List ℕ → Option ℕ
 value_of_digits base most bytes = if nat_le 1 (length bytes) && nat_le (length bytes) most then value_from base 0 bytes else None
 
--- numbers have 64 bits
-abbrev pub below_word : Option ℕ → Option ℕ
-below_word None = None
-below_word (Some n) = if nat_lt n (2 ^ 64) then Some n else None
-
 -- the bytes after "0x", if the word begins so
 abbrev pub hex_part : List ℕ → Option (List ℕ)
 hex_part (a ∷ b ∷ bytes) = if a == 48 && b == 120 then Some bytes else None
 hex_part _ = None
 
--- the number that a word spells: 1 to 20 decimal digits, or 0x and 1 to 16 hexadecimal ones
+-- the number that a word spells: 1 to 20 decimal digits, or 0x and 1 to 16 hexadecimal ones; it has 64 bits
 abbrev pub number_of : List ℕ → Option ℕ
-number_of word = below_word (option_map_or (λ digits. value_of_digits 16 16 digits) (hex_part word) (value_of_digits 10 20 word))
+number_of word =
+    and_then (option_map_or (λ digits. value_of_digits 16 16 digits) (hex_part word) (value_of_digits 10 20 word))
+    (λ n. if nat_lt n (2 ^ 64) then Some n else None)
 
 -- the numbers that these words spell, if each spells one
 abbrev pub numbers_of : List (List ℕ) → Option (List ℕ)
 numbers_of [] = Some []
 numbers_of (word ∷ more) = and_then (number_of word) (λ n. and_then (numbers_of more) (λ ns. Some (n ∷ ns)))
 
+-- the bit of a letter out of these
+abbrev pub weight_among : List (ℕ × Right) → ℕ → Option ℕ
+weight_among [] b = None
+weight_among ((letter, right) ∷ more) b = if b == letter then Some (2 ^ right_number right) else weight_among more b
+
 -- the bit of a letter out of RWXDPO
 abbrev pub letter_weight : ℕ → Option ℕ
-letter_weight b =
-    if b == 82 then Some 1
-    else if b == 87 then Some 2
-    else if b == 88 then Some 4
-    else if b == 68 then Some 8
-    else if b == 80 then Some 16
-    else if b == 79 then Some 32
-    else None
+letter_weight b = weight_among letters b
 
 -- the rights that a word of one to six letters spells: each letter is known, none comes twice, and their bits are added up
 abbrev pub rights_of : List ℕ → Option ℕ

@@ -48,7 +48,7 @@ pub use frames::Frame;
 pub use globals::Globals;
 pub use instructions::Instr;
 pub use objects::ObjRow;
-pub use replies::{After, Refusal, Reply};
+pub use replies::{Refusal, Reply};
 pub use rights::{Right, Rights};
 pub use seats::Seat;
 pub use settings::Params;

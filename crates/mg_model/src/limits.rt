@@ -28,7 +28,7 @@ pub const ENTRY_POINT_LIMIT: usize = 16;
 pub const ALL_RIGHTS: u8 = 63;
 
 /// How many entries of a capability list are read.
-pub const ENTRY_LIMIT: u64 = 255;
+pub const PAIR_LIMIT: u64 = 255;
 
 /// How many slots a frame of a thread may have.
 pub const SLOT_LIMIT: usize = 8;

@@ -1,8 +1,8 @@
 // What the machine answers.
 ghost use Rattle.std.specs.Prelude.{◌≡◌, ◌<◌};
-ghost use Rattle.mg_model.specs.Refused.{refusal_number};
+ghost use Rattle.mg_model.specs.Abbreviations.{refusal_number};
 
-use crate::threads::Fault;
+use crate::threads::ThrState;
 
 /// Why a call is refused. A refused call changes nothing.
 #[derive(Clone, Copy, Debug, Drop, PartialEq, Eq)]
@@ -64,16 +64,6 @@ impl Refusal {
     }
 }
 
-/// What a thread is after its turn.
-#[derive(Clone, Copy, PartialEq, Eq)]
-pub enum After {
-    Ready,
-    Stopped,
-    Faulted(Fault),
-    /// The thread ended itself.
-    Ended,
-}
-
 /// The answer to a line.
 #[derive(Clone, Copy, PartialEq, Eq)]
 pub enum Reply {
@@ -90,23 +80,13 @@ pub enum Reply {
     Opened(u64, u64),
     /// An object: its base address, its pages, the account that pays for it, how many password rows and entries it has,
     /// and 1 with an extension, else 0.
-    About {
-        base: u64,
-        pages: u64,
-        account: u64,
-        passwords: u64,
-        entries: u64,
-        ext: u64,
-    },
+    About(u64, u64, u64, u64, u64, u64),
     /// How many slots the present frame has, and their bases in order; 0 past the count, which is at most 8.
-    Slots {
-        count: u64,
-        bases: [u64; 8],
-    },
-    /// What the thread is after its turn.
-    Turned(After),
+    Slots(u64, [u64; 8]),
+    /// What the thread is after its turn; None if it ended itself.
+    Turned(Option<ThrState>),
     /// Which thread had the turn, and what it is after it.
-    Ran(u64, After),
+    Ran(u64, Option<ThrState>),
     /// An account: its balance, what it owes, and the pages that it pays for.
     Funds(u64, u64, u64),
     /// A collection of rent: the new period, the rate, and the sum of all that was paid.

@@ -4,11 +4,10 @@ use Rattle.std.proofs.Common.{refl, sym, ap, ◌∙◌, ⊎_elim, arith, get_or,
 use Rattle.std.proofs.lemmas.Bool.{and_parts, cases_lt, eqb-true}
 use Rattle.std.proofs.lemmas.List.{drop_at, ext_get_or, get_or-append-add, get_or-append_right, get_or-drop, get_or-replicate, get_or-take, get_or_append_left, get_or_past, length-replicate, take_at}
 use Rattle.mg_disk.specs.Disk.{Image, block_at}
-use Rattle.mg_model.specs.Abbreviations.{table_of}
+use Rattle.mg_model.specs.Abbreviations.{table_entries, table_of, whole_table}
 use Rattle.mg_model.specs.Bytes.{are_zeros, block_words, number_at}
 use Rattle.mg_model.specs.Layout.{table_block, table_blocks}
 use Rattle.mg_model.specs.RowLemmas.{are_zeros-replicate}
-use Rattle.mg_model.specs.Volume.{table_entries, whole_table}
 use Rattle.mg_pages.proofs.Numbers.{number-of}
 use Rattle.mg_pages.specs.LengthLemmas.{length-block}
 use Rattle.mg_pages.specs.Entries.{HoldsTable}

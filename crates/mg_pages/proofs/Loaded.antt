@@ -13,11 +13,11 @@ use Rattle.mg_disk.specs.declared.disk.Disk.{Ghosts}
 use Rattle.mg_frames.specs.Places.{nowhere_any}
 use Rattle.mg_journal.specs.Held.{Store}
 use Rattle.mg_journal.specs.Standing.{Stands}
-use Rattle.mg_model.specs.Abbreviations.{table_of}
+use Rattle.mg_model.specs.Abbreviations.{table_of, whole_table}
 use Rattle.mg_model.specs.Bytes.{number_at}
 use Rattle.mg_model.specs.Layout.{table_block, table_blocks}
 use Rattle.mg_model.specs.Tests.{all_distinct}
-use Rattle.mg_model.specs.Volume.{bound_pages, whole_table}
+use Rattle.mg_model.specs.Volume.{bound_pages}
 use Rattle.mg_pages.proofs.Entries.{entry-of, length-entries}
 use Rattle.mg_pages.proofs.Places.{place-of}
 use Rattle.mg_pages.specs.Loading.{AreFreeFrom, AreLoaded, HasEntries, HoldFirstEntries, entry_bound, first_entry}

@@ -6,10 +6,10 @@ use Rattle.std.proofs.lemmas.List.{nil_from_length}
 use Rattle.mg_disk.specs.Disk.{Image}
 use Rattle.mg_disk.specs.declared.disk.Disk.{Ghosts}
 use Rattle.mg_journal.specs.Standing as journal
-use Rattle.mg_model.specs.Abbreviations.{table_of}
+use Rattle.mg_model.specs.Abbreviations.{table_of, whole_table}
 use Rattle.mg_model.specs.Bytes.{are_zeros}
 use Rattle.mg_model.specs.Tests.{all_distinct}
-use Rattle.mg_model.specs.Volume.{bound_pages, whole_table}
+use Rattle.mg_model.specs.Volume.{bound_pages}
 use Rattle.mg_pages.proofs.Made.{made-spelled}
 use Rattle.mg_pages.specs.declared.blocks.Blocks.{Blocks}
 use Rattle.mg_pages.specs.declared.pages.Pages.{Pages}

@@ -9,7 +9,8 @@ use Rattle.mg_journal.specs.Contents.{bodies_of}
 use Rattle.mg_journal.specs.SegmentLemmas.{fits-open, writes-closed, writes-open}
 use Rattle.mg_journal.specs.Standing as journal
 use Rattle.mg_model.specs.Layout.{body_limit, globals_block, segment_count}
-use Rattle.mg_model.specs.Replay.{block_of, body_count, homes_fit, is_open, replay, segment_fits, segments_fit, writes_of, writes_since, written}
+use Rattle.mg_model.specs.Abbreviations.{segments_fit, writes_since}
+use Rattle.mg_model.specs.Replay.{block_of, body_count, homes_fit, is_open, replay, segment_fits, writes_of, written}
 use Rattle.mg_model.specs.VolumeLemmas.{length-written}
 use Rattle.mg_pages.specs.declared.pages.Pages.{Pages}
 use Rattle.mg_pages.specs.SpelledLemmas.{replayed_is, replays}

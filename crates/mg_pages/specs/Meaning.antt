@@ -9,12 +9,12 @@ use Rattle.mg_journal.specs.Contents.{names}
 use Rattle.mg_journal.specs.Staged.{waiting}
 use Rattle.mg_journal.specs.Standing as journal
 use Rattle.mg_journal.specs.Held.{Store}
-use Rattle.mg_model.specs.Abbreviations.{table_of}
+use Rattle.mg_model.specs.Abbreviations.{table_of, whole_table}
 use Rattle.mg_model.specs.Bytes.{are_zeros}
 use Rattle.mg_model.specs.Layout.{first_frame, globals_block, table_block, total_blocks}
 use Rattle.mg_model.specs.Replay.{replay, written}
 use Rattle.mg_model.specs.Tests.{all_distinct}
-use Rattle.mg_model.specs.Volume.{bound_pages, page_words, whole_table}
+use Rattle.mg_model.specs.Volume.{bound_pages, page_words}
 use Rattle.mg_pages.specs.declared.pages.Pages.{Pages}
 use Rattle.mg_pages.specs.Committing.{HasContents}
 use Rattle.mg_pages.specs.Kept.{AreKept}

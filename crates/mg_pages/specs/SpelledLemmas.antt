@@ -6,12 +6,12 @@ use Rattle.mg_disk.specs.Disk.{Image}
 use Rattle.mg_disk.specs.declared.disk.Disk.{Ghosts}
 use Rattle.mg_journal.specs.Standing as journal
 use Rattle.mg_journal.specs.Held.{Store}
-use Rattle.mg_model.specs.Abbreviations.{table_of}
+use Rattle.mg_model.specs.Abbreviations.{table_of, whole_table}
 use Rattle.mg_model.specs.Bytes.{are_zeros}
 use Rattle.mg_model.specs.Layout.{total_blocks}
 use Rattle.mg_model.specs.Replay.{replay, written}
 use Rattle.mg_model.specs.Tests.{all_distinct}
-use Rattle.mg_model.specs.Volume.{bound_pages, whole_table}
+use Rattle.mg_model.specs.Volume.{bound_pages}
 use Rattle.mg_pages.specs.declared.pages.Pages.{Pages}
 use Rattle.mg_pages.specs.Meaning.{IsSpelledBy, Spelled, StandsOn, coming, frame_count, replayed, staged_in, staged_of, store_of, table_in, total_of}
 

@@ -3,9 +3,9 @@ use Rattle.std.specs.Prelude.{◌≡◌, ◌+◌, ◌*◌, ◌&&◌, ◌≤◌, 
 use Rattle.std.proofs.Common.{refl, sym, ap, ◌∙◌, inl, inr, subst, ⊎_elim, arith}
 use Rattle.std.proofs.lemmas.Bool.{cases_Bool, cases_lt, cond-false, cond-true, leb-false, leb-true, or_cases}
 use Rattle.std.proofs.lemmas.List.Sums.{sum_by-cons}
-use Rattle.mg_model.specs.Abbreviations.{is_apart}
+use Rattle.mg_model.specs.Abbreviations.{is_apart, least}
 use Rattle.mg_model.specs.Limits.{first_page, page_end}
-use Rattle.mg_model.specs.Objects.{is_free, least, lowest_free, page_behind}
+use Rattle.mg_model.specs.Objects.{is_free, lowest_free, page_behind}
 use Rattle.mg_model.specs.State.{Object}
 use Rattle.mg_model.specs.RowTestLemmas.{list_all-tells}
 use Rattle.mg_ranges.specs.Gaps.{AreGapsOf, LieFrom, spans_of}

@@ -10,7 +10,8 @@ use Rattle.mg_bank.specs.AccountLemmas.{account_of-at, with_account-credits}
 use Rattle.mg_model.specs.AccountLemmas.{account_of-row}
 use Rattle.mg_bank.specs.Bank.{credits_of, pages_at}
 use Rattle.mg_model.specs.declared.accounts.AccRow.{AccRow}
-use Rattle.mg_model.specs.Bank.{account_of, all_charged, all_paid, charged, given_to, owed_by, paid, pages_of, used, with_account}
+use Rattle.mg_model.specs.Abbreviations.{with_account}
+use Rattle.mg_model.specs.Bank.{account_of, all_charged, all_paid, charged, credited, owed_by, paid, pages_of, used}
 use Rattle.mg_model.specs.Limits.{debt_limit, step_limit}
 use Rattle.mg_model.specs.State.{Object}
 use Rattle.mg_rent.specs.Charging.{ArePagesOf, OweAtMost, charged_at, paid_at}
@@ -168,8 +169,8 @@ charged-of objects pages rate old now sum are all =
       credits = all.credits;
     }
 
-pub received : (objects : List Object) (rate : ℕ) (old now after : List AccRow) (sum : ℕ) → AllCharged objects rate old now sum → after ≡ given_to now 1 sum → after ≡ given_to (all_charged objects rate 1 old) 1 (all_paid objects rate 1 old)
-received objects rate old now after sum all given = given ∙ ap (λ (rows : List AccRow). given_to rows 1 sum) all.accounts ∙ ap (given_to (all_charged objects rate 1 old) 1) all.paid_is
+pub received : (objects : List Object) (rate : ℕ) (old now after : List AccRow) (sum : ℕ) → AllCharged objects rate old now sum → after ≡ credited now 1 sum → after ≡ credited (all_charged objects rate 1 old) 1 (all_paid objects rate 1 old)
+received objects rate old now after sum all given = given ∙ ap (λ (rows : List AccRow). credited rows 1 sum) all.accounts ∙ ap (credited (all_charged objects rate 1 old) 1) all.paid_is
 
 -- what is due for a period
 pub due-few : (rate pages : ℕ) → pages ≤ 65536 → rate ≤ step_limit → rate * pages ≤ 2 ^ 36
@@ -199,7 +200,7 @@ all-owe objects rate most few number (row ∷ rows) owed =
     (all-owe objects rate most few (number + 1) rows (All-tail (λ (r : AccRow). r.owed ≤ most) row rows owed))
 
 -- who is given credits owes what it owed
-given-owe : (most number amount : ℕ) (rows : List AccRow) → OweAtMost most rows → OweAtMost most (given_to rows number amount)
+given-owe : (most number amount : ℕ) (rows : List AccRow) → OweAtMost most rows → OweAtMost most (credited rows number amount)
 given-owe most number amount rows owed = at (account_of rows number) refl
   where
     at : (o : Option AccRow) → account_of rows number ≡ o → OweAtMost most (option_map_or (λ (r : AccRow). with_account rows number (record r { balance = r.balance + amount })) o rows)
@@ -212,7 +213,7 @@ given-owe most number amount rows owed = at (account_of rows number) refl
         let one : (get_or rows (number - 1) row).owed ≤ most = owed (number - 1) row (omega arith) in
         All-set (λ (r : AccRow). r.owed ≤ most) rows (number - 1) (record row { balance = row.balance + amount }) (omega arith) owed
 
-pub debts-grow : (pages : List ℕ) (rate period : ℕ) (old now after : List AccRow) (sum : ℕ) → ((n : ℕ) → pages_at pages n ≤ 65536) → rate ≤ step_limit → AllCharged (bare pages) rate old now sum → after ≡ given_to now 1 sum
+pub debts-grow : (pages : List ℕ) (rate period : ℕ) (old now after : List AccRow) (sum : ℕ) → ((n : ℕ) → pages_at pages n ≤ 65536) → rate ≤ step_limit → AllCharged (bare pages) rate old now sum → after ≡ credited now 1 sum
     → OweAtMost (debt_limit period) old → OweAtMost (debt_limit (period + 1)) after
 debts-grow pages rate period old now after sum few low all given owed =
     let next : debt_limit period + 2 ^ 36 ≡ debt_limit (period + 1) = omega arith in

@@ -3,7 +3,8 @@ use Rattle.std.specs.Prelude.{◌≡◌, ◌≤◌, ℕ, All, List, length}
 use Rattle.std.specs.Option.{option_map_or}
 use Rattle.mg_model.specs.declared.accounts.AccRow.{AccRow}
 use Rattle.mg_bank.specs.Bank.{BankHeld, credits_of, pages_at}
-use Rattle.mg_model.specs.Bank.{account_of, all_charged, all_paid, charged, given_to, paid, pages_of, with_account}
+use Rattle.mg_model.specs.Abbreviations.{with_account}
+use Rattle.mg_model.specs.Bank.{account_of, all_charged, all_paid, charged, credited, paid, pages_of}
 use Rattle.mg_model.specs.State.{Object}
 
 -- the accounts after one of them was charged what is due
@@ -24,7 +25,7 @@ ArePagesOf objects pages = (n : ℕ) → pages_at pages n ≡ pages_of objects n
 
 -- what a collection for these objects makes of the accounts, and the sum of what was paid
 pub record Collects (objects : List Object) (rate : ℕ) (old new : List AccRow) (sum : ℕ) : Type 0 where
-  pub accounts : new ≡ given_to (all_charged objects rate 1 old) 1 (all_paid objects rate 1 old)
+  pub accounts : new ≡ credited (all_charged objects rate 1 old) 1 (all_paid objects rate 1 old)
   pub paid : sum ≡ all_paid objects rate 1 old
 
 -- no credit comes or goes, no account does, and each pays for as many pages

@@ -1,7 +1,7 @@
 // What one account pays.
 ghost use Rattle.std.specs.Prelude.{◌≡◌, ◌≤◌, ◌<◌, ◌+◌, ◌^◌, is_some, length, true};
 ghost use Rattle.mg_bank.specs.Bank.{credits_of};
-ghost use Rattle.mg_model.specs.Bank.{account_of, charged, given_to, owed_by, paid};
+ghost use Rattle.mg_model.specs.Bank.{account_of, charged, credited, owed_by, paid};
 ghost use Rattle.mg_model.specs.Limits.{credit_limit};
 ghost use Rattle.mg_rent.specs.Charging.{charged_at, paid_at};
 
@@ -48,7 +48,7 @@ pub(crate) fn charge(bank: &mut Bank, account: u64, due: u64) -> u64
 pub(crate) fn give(bank: &mut Bank, account: u64, amount: u64)
     requires there { is_some (account_of bank.old.accounts account) ≡ true }
     requires fits { credits_of bank.old.accounts + amount ≤ credit_limit }
-    ensures accounts { bank.new.accounts ≡ given_to bank.old.accounts account amount }
+    ensures accounts { bank.new.accounts ≡ credited bank.old.accounts account amount }
     ensures sum { credits_of bank.new.accounts ≡ credits_of bank.old.accounts + amount }
     ensures pages { bank.new.pages ≡ bank.old.pages }
 {

@@ -5,13 +5,13 @@ use Rattle.std.proofs.lemmas.List.{drop-drop, drop_at, get_or-drop, length-map}
 use Rattle.std.proofs.lemmas.List.Elements.{All-cons, All-map, All-nil, All-weaker}
 use Rattle.mg_model.specs.declared.slots.Pw.{Pw}
 use Rattle.mg_model.specs.declared.slots.Slot.{Slot}
-use Rattle.mg_model.specs.Abbreviations.{extension_at}
+use Rattle.mg_model.specs.Abbreviations.{extension_at, live_if, object_head, passwords_at}
 use Rattle.mg_model.specs.Bytes.{are_zeros, number_at, numbers_at, padded_to, words_bytes}
 use Rattle.mg_model.specs.BytesLemmas.{length-padded_to, length-words_bytes, numbers_at-behind, numbers_at-first}
 use Rattle.mg_model.specs.PasswordRows.{IsPassword}
 use Rattle.mg_model.specs.Ranges.{IsEntryOf, IsExtension, IsObjectRow, IsPlace, IsWord}
 use Rattle.mg_model.specs.RowLemmas.{are_zeros-replicate, object-live, read-free}
-use Rattle.mg_model.specs.Spelling.{live_if, object_bytes, object_fields, object_head, object_read, passwords_at}
+use Rattle.mg_model.specs.Spelling.{object_bytes, object_fields, object_read}
 use Rattle.mg_model.specs.State.{ObjectRow}
 use Rattle.mg_model.specs.Tests.{is_object_row}
 use Rattle.mg_rows.proofs.ObjectKeeps.{object-keeps}
@@ -19,7 +19,11 @@ use Rattle.mg_rows.proofs.ObjectRows.{length-words}
 
 -- numbers that are filled up are read from the place where they begin
 numbers-padded : (before behind ns : List ℕ) (at n : ℕ) → length before ≡ at → All IsWord ns → numbers_at (before ++ (padded_to n (words_bytes ns) ++ behind)) (at + 0) (length ns) ≡ ns
-numbers-padded before behind ns at n long fit = grind (arith, numbers_at-behind, append_assoc, numbers_at-first)
+numbers-padded before behind ns at n long fit =
+    let zeros = replicate (n - length (words_bytes ns)) 0 in
+    numbers_at-behind before (padded_to n (words_bytes ns) ++ behind) at 0 (length ns) long
+    ∙ ap (λ bytes. numbers_at bytes 0 (length ns)) (append_assoc (words_bytes ns) zeros behind)
+    ∙ numbers_at-first ns (zeros ++ behind) fit
 
 abbrev pw_of : ℕ → ℕ → ℕ → Pw
 pw_of password rights until = record { password = password; rights = rights; until = until }

@@ -6,7 +6,7 @@ use Rattle.std.proofs.lemmas.List.Folds.{list_all-append, list_any-append}
 use Rattle.mg_model.specs.declared.slots.Pw.{Pw}
 use Rattle.mg_model.specs.Bytes.{number_at, numbers_at}
 use Rattle.mg_model.specs.ObjectCalls.{is_entry}
-use Rattle.mg_model.specs.Spelling.{passwords_at}
+use Rattle.mg_model.specs.Abbreviations.{passwords_at}
 use Rattle.mg_model.specs.State.{ObjectRow}
 use Rattle.mg_model.specs.Tests.{all_distinct, is_entry_of, is_password}
 use Rattle.mg_rows.specs.ObjectParts.{are_entries, are_passwords, entries_in, password_at, passwords_in, some_if}

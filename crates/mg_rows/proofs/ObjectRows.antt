@@ -5,7 +5,8 @@ use Rattle.std.proofs.lemmas.List.{length-map}
 use Rattle.mg_model.specs.declared.slots.Pw.{Pw}
 use Rattle.mg_model.specs.Bytes.{padded_to, words_bytes}
 use Rattle.mg_model.specs.BytesLemmas.{length-words_bytes}
-use Rattle.mg_model.specs.Spelling.{object_bytes, object_head}
+use Rattle.mg_model.specs.Abbreviations.{object_head}
+use Rattle.mg_model.specs.Spelling.{object_bytes}
 use Rattle.mg_model.specs.State.{ObjectRow}
 use Rattle.mg_rows.specs.Answers.{extension_words}
 

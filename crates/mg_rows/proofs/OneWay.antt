@@ -11,11 +11,11 @@ use Rattle.std.proofs.lemmas.Option.{same_Some}
 use Rattle.mg_model.specs.declared.accounts.AccRow.{AccRow}
 use Rattle.mg_model.specs.declared.slots.Pw.{Pw}
 use Rattle.mg_model.specs.declared.slots.Slot.{Slot}
-use Rattle.mg_model.specs.Abbreviations.{extension_at, is_call_frame}
+use Rattle.mg_model.specs.Abbreviations.{extension_at, frames_at, free_or, is_call_frame, live_if, passwords_at}
 use Rattle.mg_model.specs.Bytes.{bytes_at, number_at, numbers_at}
 use Rattle.mg_model.specs.PasswordRows.{IsPassword}
 use Rattle.mg_model.specs.Ranges.{IsCallFrame, IsCounters, IsExtension, IsObjectRow, IsSlot, IsThreadRow, IsWord}
-use Rattle.mg_model.specs.Spelling.{Read, account_bytes, account_fields, account_read, frame_at, frames_at, free_or, globals_bytes, globals_fields, globals_read, live_if, object_bytes, object_fields, object_read, passwords_at, slots_at, thread_bytes, thread_fields, thread_read}
+use Rattle.mg_model.specs.Spelling.{Read, account_bytes, account_fields, account_read, frame_at, globals_bytes, globals_fields, globals_read, object_bytes, object_fields, object_read, slots_at, thread_bytes, thread_fields, thread_read}
 use Rattle.mg_model.specs.State.{Counters, ObjectRow, ThreadRow}
 use Rattle.mg_model.specs.Tests.{are_counters, is_object_row, is_password, is_thread_row}
 use Rattle.mg_model.specs.RowTestLemmas.{counters-tell, distinct-tells, entry-tells, list_all-tells, place-tells}

@@ -8,9 +8,9 @@ use Rattle.std.proofs.lemmas.List.{append-nil, drop_all}
 use Rattle.std.proofs.lemmas.List.Folds.{list_all-append}
 use Rattle.mg_model.specs.declared.slots.Slot.{Slot}
 use Rattle.mg_model.specs.declared.threads.ThrState.{ThrState}
-use Rattle.mg_model.specs.Abbreviations.{is_call_frame}
+use Rattle.mg_model.specs.Abbreviations.{frames_at, free_or, is_call_frame, live_if}
 use Rattle.mg_model.specs.Bytes.{are_zeros, number_at, numbers_at}
-use Rattle.mg_model.specs.Spelling.{Read, frame_at, frames_at, free_or, live_if, slots_at, state_numbered, thread_fields}
+use Rattle.mg_model.specs.Spelling.{Read, frame_at, slots_at, state_numbered, thread_fields}
 use Rattle.mg_model.specs.State.{CallFrame, ThreadRow}
 use Rattle.mg_model.specs.Tests.{is_thread_row}
 use Rattle.mg_model.specs.Words.{same_bytes}

@@ -9,11 +9,12 @@ use Rattle.mg_model.specs.declared.slots.Slot.{Slot}
 use Rattle.mg_model.specs.declared.threads.Fault.TheVariants as fault
 use Rattle.mg_model.specs.declared.threads.ThrState.{ThrState}
 use Rattle.mg_model.specs.declared.threads.ThrState.TheVariants.{Ready, Stopped, Faulted}
-use Rattle.mg_model.specs.Bytes.{number_at, numbers_at, padded_to, word_bytes, words_bytes}
+use Rattle.mg_model.specs.Abbreviations.{frames_at, slot_words, state_number, word_bytes}
+use Rattle.mg_model.specs.Bytes.{number_at, numbers_at, padded_to, words_bytes}
 use Rattle.mg_model.specs.BytesLemmas.{length-padded_to, length-words_bytes, number_at-behind, numbers_at-behind, numbers_at-first, padded_to-append}
 use Rattle.mg_model.specs.Ranges.{IsCallFrame, IsSlot, IsThreadRow}
 use Rattle.mg_model.specs.RowLemmas.{thread-live}
-use Rattle.mg_model.specs.Spelling.{frame_at, frame_bytes, frames_at, slot_words, slots_at, state_number, state_numbered, thread_bytes, thread_fields, thread_read}
+use Rattle.mg_model.specs.Spelling.{frame_at, frame_bytes, slots_at, state_numbered, thread_bytes, thread_fields, thread_read}
 use Rattle.mg_model.specs.State.{CallFrame, ThreadRow}
 use Rattle.mg_rows.specs.ThreadParts.{head_words}
 use Rattle.mg_rows.proofs.ThreadKeeps.{thread-keeps}
@@ -50,7 +51,29 @@ length-slot_words (slot ∷ slots) = let e = length-slot_words slots in omega ar
 
 -- a frame
 pub length-frame_bytes : (frame : CallFrame) → length frame.slots ≤ 8 → length (frame_bytes frame) ≡ 144
-length-frame_bytes frame few = grind (arith, common_steps, length-words_bytes, length-slot_words, length-padded_to)
+length-frame_bytes frame few =
+    let words = frame.back ∷ length frame.slots ∷ flat_map slot_words frame.slots in
+    let long = length-words_bytes words in
+    let slots = length-slot_words frame.slots in
+    length-padded_to 144 (words_bytes words) (omega arith)
+
+-- a frame's words are added to some bytes, then those of its slots, and then zeros
+pub frame-filled : (frame : CallFrame) (back : ℕ) (slots : List Slot) (f f1 f2 f3 : List ℕ) → back ≡ frame.back → slots ≡ frame.slots
+    → f1 ≡ f ++ words_bytes (back ∷ length slots ∷ []) → f2 ≡ f1 ++ words_bytes (flat_map slot_words slots) → f3 ≡ f2 ++ replicate (128 - 16 * length slots) 0 → f3 ≡ f ++ frame_bytes frame
+frame-filled frame back slots f f1 f2 f3 is_back is_slots one two three =
+    let words = back ∷ length slots ∷ flat_map slot_words slots in
+    let head = words_bytes (back ∷ length slots ∷ []) in
+    let more = words_bytes (flat_map slot_words slots) in
+    let zeros = replicate (128 - 16 * length slots) 0 in
+    let long = length-words_bytes words in
+    let short = length-slot_words slots in
+    let rest : 128 - 16 * length slots ≡ 144 - length (words_bytes words) = omega arith in
+    let framed : List Slot → ℕ → CallFrame = λ these b. record { back = b; slots = these } in
+    three ∙ ap (λ v. v ++ zeros) (two ∙ ap (λ v. v ++ more) one)
+    ∙ append_assoc (f ++ head) more zeros ∙ append_assoc f head (more ++ zeros)
+    ∙ ap (λ k. f ++ (head ++ (more ++ replicate k 0))) rest
+    ∙ ap (λ b. f ++ frame_bytes (framed slots b)) is_back
+    ∙ ap (λ these. f ++ frame_bytes (framed these frame.back)) is_slots
 
 frame_of : ℕ → List Slot → CallFrame
 frame_of back slots = record { back = back; slots = slots }

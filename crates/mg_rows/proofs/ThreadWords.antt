@@ -4,9 +4,10 @@ use Rattle.std.specs.List.{splice}
 use Rattle.std.proofs.Common.{refl, sym, ap, ◌∙◌, arith, append_assoc, length-append}
 use Rattle.std.proofs.lemmas.List.{length-set}
 use Rattle.mg_model.specs.declared.threads.ThrState.{ThrState}
-use Rattle.mg_model.specs.Bytes.{padded_to, word_bytes, words_bytes}
+use Rattle.mg_model.specs.Abbreviations.{state_number, word_bytes}
+use Rattle.mg_model.specs.Bytes.{padded_to, words_bytes}
 use Rattle.mg_model.specs.BytesLemmas.{length-words_bytes}
-use Rattle.mg_model.specs.Spelling.{frame_bytes, state_number, thread_bytes}
+use Rattle.mg_model.specs.Spelling.{frame_bytes, thread_bytes}
 use Rattle.mg_model.specs.State.{ThreadRow}
 use Rattle.mg_rows.specs.ThreadParts.{head_words, with_word}
 

@@ -5,7 +5,7 @@ use Rattle.std.specs.List.{list_all}
 use Rattle.mg_model.specs.declared.slots.Pw.{Pw}
 use Rattle.mg_model.specs.declared.slots.Slot.{Slot}
 use Rattle.mg_model.specs.Bytes.{number_at, numbers_at}
-use Rattle.mg_model.specs.Spelling.{passwords_at}
+use Rattle.mg_model.specs.Abbreviations.{passwords_at}
 use Rattle.mg_model.specs.State.{ObjectRow}
 use Rattle.mg_model.specs.Tests.{all_distinct, is_entry_of, is_password, is_place}
 

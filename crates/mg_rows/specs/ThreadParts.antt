@@ -1,9 +1,9 @@
 -- Parts of a thread's row.
 use Rattle.std.specs.Prelude.{ℕ, ◌+◌, ◌%◌, ◌==◌, ◌&&◌, nat_lt, Bool, List, [], ◌∷◌, length}
 use Rattle.std.specs.List.{splice}
-use Rattle.mg_model.specs.Abbreviations.{is_call_frame}
-use Rattle.mg_model.specs.Bytes.{number_at, numbers_at, word_bytes}
-use Rattle.mg_model.specs.Spelling.{frame_at, frames_at, state_number, state_numbered}
+use Rattle.mg_model.specs.Abbreviations.{frames_at, is_call_frame, state_number, word_bytes}
+use Rattle.mg_model.specs.Bytes.{number_at, numbers_at}
+use Rattle.mg_model.specs.Spelling.{frame_at, state_numbered}
 use Rattle.mg_model.specs.State.{ThreadRow}
 
 -- the words that it begins with

@@ -2,7 +2,8 @@
 ghost use Rattle.std.specs.Prelude.{◌≡◌, ◌<◌, ◌+◌, ◌*◌, ℕ, length, slice_set};
 ghost use Rattle.mg_model.specs.declared.threads.ThrState.{ThrState};
 ghost use Rattle.mg_model.specs.Ranges.{IsCounters, IsObjectRow, IsThreadRow};
-ghost use Rattle.mg_model.specs.Spelling.{account_bytes, account_read, globals_bytes, globals_read, object_bytes, object_read, state_number, thread_bytes, thread_read};
+ghost use Rattle.mg_model.specs.Abbreviations.{state_number};
+ghost use Rattle.mg_model.specs.Spelling.{account_bytes, account_read, globals_bytes, globals_read, object_bytes, object_read, thread_bytes, thread_read};
 ghost use Rattle.mg_rows.specs.Laws.{IsAccountRow, IsSpelledInOneWay, live};
 ghost use Rattle.mg_model.specs.State.{ThreadRow};
 ghost use Rattle.mg_rows.specs.ThreadParts.{with_word};

@@ -3,7 +3,8 @@ ghost use Rattle.std.specs.Prelude.{◌≡◌, ◌≤◌, ◌+◌, ◌*◌, ◌+
 ghost use Rattle.std.specs.Option.{option_map_or};
 ghost use Rattle.mg_model.specs.Bytes.{padded_to, words_bytes};
 ghost use Rattle.mg_model.specs.Ranges.{IsObjectRow};
-ghost use Rattle.mg_model.specs.Spelling.{object_bytes, object_head, object_read};
+ghost use Rattle.mg_model.specs.Abbreviations.{object_head};
+ghost use Rattle.mg_model.specs.Spelling.{object_bytes, object_read};
 ghost use Rattle.mg_model.specs.Words.{same_bytes};
 ghost use Rattle.mg_rows.specs.Answers.{as_read, extension_words};
 

@@ -2,11 +2,11 @@
 ghost use Rattle.std.specs.Prelude.{◌≡◌, ◌≤◌, ◌+◌, ◌-◌, ◌*◌, ◌==◌, ◌++◌, ◌∷◌, [], flat_map, if◌then◌else◌, replicate, length, Some, true};
 ghost use Rattle.std.specs.List.{list_all};
 ghost use Rattle.std.specs.Option.{option_map_or};
-ghost use Rattle.mg_model.specs.Abbreviations.{is_call_frame};
+ghost use Rattle.mg_model.specs.Abbreviations.{frames_at, is_call_frame, slot_words, state_number};
 ghost use Rattle.mg_model.specs.Bytes.{number_at, numbers_at, padded_to, words_bytes};
 ghost use Rattle.mg_model.specs.Layout.{block_size};
 ghost use Rattle.mg_model.specs.Ranges.{IsThreadRow};
-ghost use Rattle.mg_model.specs.Spelling.{frame_at, frame_bytes, frames_at, slot_words, slots_at, state_number, state_numbered, thread_bytes, thread_fields, thread_read};
+ghost use Rattle.mg_model.specs.Spelling.{frame_at, frame_bytes, slots_at, state_numbered, thread_bytes, thread_fields, thread_read};
 ghost use Rattle.mg_model.specs.Tests.{is_thread_row};
 ghost use Rattle.mg_model.specs.Words.{same_bytes};
 ghost use Rattle.mg_rows.specs.Answers.{as_read};

@@ -11,7 +11,7 @@ use Rattle.mg_model.specs.declared.replies.Refusal.TheVariants.{Align, Denied}
 use Rattle.mg_model.specs.declared.replies.Reply.TheVariants.{Done}
 use Rattle.mg_model.specs.declared.rights.Right.TheVariants.{P}
 use Rattle.mg_model.specs.Accesses.{call_accesses, call_words, instruction_accesses, instruction_words, word_access}
-use Rattle.mg_model.specs.Refused.{row}
+use Rattle.mg_model.specs.Refused.{checked}
 use Rattle.mg_model.specs.Script.{decoded, operand, register}
 use Rattle.mg_model.specs.State.{State, ThreadRow}
 use Rattle.mg_model.specs.Turn.{thread_call}
@@ -35,7 +35,7 @@ quiet false = refl
 
 -- a store that is answered ok is aligned and allowed
 stored-calm : (state done : State) (aligned may first : Bool) → not (aligned && (may && first)) ≡ true
-    → (is_ok (row state ((not aligned, Align) ∷ (not may, Denied) ∷ []) (done, Done)).1 && first) ≡ false
+    → (is_ok (checked state ((not aligned, Align) ∷ (not may, Denied) ∷ []) (done, Done)).1 && first) ≡ false
 stored-calm state done false may first calm = refl
 stored-calm state done true false first calm = refl
 stored-calm state done true true false calm = refl

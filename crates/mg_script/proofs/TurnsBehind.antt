@@ -19,17 +19,17 @@ use Rattle.mg_model.specs.declared.rights.Right.TheVariants.{R, W, X}
 use Rattle.mg_model.specs.declared.slots.Slot.{Slot}
 use Rattle.mg_model.specs.declared.threads.Fault.TheVariants as fault
 use Rattle.mg_model.specs.declared.threads.ThrState.TheVariants.{Ready}
-use Rattle.mg_model.specs.Abbreviations.{advanced, entered_slots}
+use Rattle.mg_model.specs.Abbreviations.{advanced, entered_slots, refusal_number, unless_refused}
 use Rattle.mg_model.specs.Access.{allowed, domain_of, last_slots, thread_of}
 use Rattle.mg_model.specs.Backed.{KeepsBacked, by_none}
 use Rattle.mg_model.specs.Domains.{frames_of, last_back, pdx, ret, row_of, with_thread}
 use Rattle.mg_model.specs.ObjectCalls.{is_aligned}
 use Rattle.mg_model.specs.Objects.{with_word, word_at}
 use Rattle.mg_model.specs.Ranges.{IsThreadRow}
-use Rattle.mg_model.specs.Refused.{Answer, refusal_number, row, unless_refused}
+use Rattle.mg_model.specs.Refused.{Answer, checked}
 use Rattle.mg_model.specs.Script.{decoded, with_register}
 use Rattle.mg_model.specs.State.{State, Thread, ThreadRow}
-use Rattle.mg_model.specs.Turn.{faulted, put_row, run, run_word, seen, spelled, thread_call, turned, values_of, with_registers}
+use Rattle.mg_model.specs.Turn.{faulted, put_row, run, run_word, with_answer, script_call, thread_call, turned, values_of, with_registers}
 use Rattle.mg_model.specs.WellFormed.{IsThread, IsWellFormed}
 use Rattle.mg_script.specs.declared.effects.Effect.{Effect}
 use Rattle.mg_script.specs.declared.effects.Effect.TheVariants as effect
@@ -81,9 +81,9 @@ row-formed state t thread formed there = by_found (thread_of state t) refl there
     by_found (Some x) is was = subst IsThreadRow (same_Some x.row thread was) (among (IsThread state.counters.births) (λ (y : Thread). eqb y.number t) state.threads x formed.threads.each is).row
 
 -- what a script sees of a reply is settled in its row
-seen-settled : (t : ℕ) (state : State) (said : Reply) → seen t (λ what caller. settled what caller) (state, said) ≡ with_thread state t (settled said)
-seen-settled t state (reply.No word) = refl
-seen-settled t state other = refl
+with_answer-settled : (t : ℕ) (state : State) (said : Reply) → with_answer t (λ what caller. settled what caller) (state, said) ≡ with_thread state t (settled said)
+with_answer-settled t state (reply.No word) = refl
+with_answer-settled t state other = refl
 
 module _ (state : State) (t : ℕ) (thread : ThreadRow) (formed : IsWellFormed state) (there : row_of state t ≡ Some thread) where
   like : (f g : ThreadRow → ThreadRow) → f thread ≡ g thread → with_thread state t f ≡ with_thread state t g
@@ -110,14 +110,14 @@ module _ (state : State) (t : ℕ) (thread : ThreadRow) (formed : IsWellFormed s
 
   behind-load : (a to word : ℕ) (aligned may : Bool)
       → cond (not aligned) (faulted state t fault.Align) (cond (not may) (faulted state t fault.Denied) (put_row state t (with_register (advanced thread) to word)))
-      ≡ behind t (effect.Load a to) (row state ((not aligned, refusal.Align) ∷ (not may, refusal.Denied) ∷ []) (state, reply.Value word))
+      ≡ behind t (effect.Load a to) (checked state ((not aligned, refusal.Align) ∷ (not may, refusal.Denied) ∷ []) (state, reply.Value word))
   behind-load a to word true true = like (λ _. with_register (advanced thread) to word) (λ r. with_register (advanced r) to word) refl
   behind-load a to word true false = refl
   behind-load a to word false may = refl
 
   behind-store : (a value : ℕ) (aligned may : Bool)
       → cond (not aligned) (faulted state t fault.Align) (cond (not may) (faulted state t fault.Denied) (put_row (record state { objects = with_word state.objects a value }) t (advanced thread)))
-      ≡ behind t (effect.Store a value) (row state ((not aligned, refusal.Align) ∷ (not may, refusal.Denied) ∷ []) (record state { objects = with_word state.objects a value }, reply.Done))
+      ≡ behind t (effect.Store a value) (checked state ((not aligned, refusal.Align) ∷ (not may, refusal.Denied) ∷ []) (record state { objects = with_word state.objects a value }, reply.Done))
   behind-store a value true true = ap (λ (s : State). record s { objects = with_word state.objects a value }) put-is
   behind-store a value true false = refl
   behind-store a value false may = refl
@@ -136,7 +136,7 @@ module _ (state : State) (t : ℕ) (thread : ThreadRow) (formed : IsWellFormed s
   entered-like a slots = ap (λ frames. in_frame (record thread { pc = a; frames = frames })) (sym (returning_on-put thread.frames (record { back = thread.pc; slots = slots }) some_frame))
 
   behind-pdx : (a mask n : ℕ) (slots : List Slot) (refused : Option Refusal)
-      → seen t (λ _ in_it. in_frame in_it) (unless_refused refused before (with_thread before t (entering a slots), reply.Count n)) ≡ behind t (effect.Pdx a mask) (unless_refused refused state (with_thread state t (entering a slots), reply.Count n))
+      → with_answer t (λ _ in_it. in_frame in_it) (unless_refused refused before (with_thread before t (entering a slots), reply.Count n)) ≡ behind t (effect.Pdx a mask) (unless_refused refused state (with_thread state t (entering a slots), reply.Count n))
   behind-pdx a mask n slots (Some word) = with_thread-then state t advanced (λ r. with_register r 0 (refusal_number word))
   behind-pdx a mask n slots None =
       with_thread-then before t (entering a slots) in_frame
@@ -144,22 +144,22 @@ module _ (state : State) (t : ℕ) (thread : ThreadRow) (formed : IsWellFormed s
       ∙ like (λ r. in_frame (entering a slots (advanced r))) (λ r. entered (reply.Count n) (entering a slots r)) (entered-like a slots)
       ∙ sym (with_thread-then state t (entering a slots) (entered (reply.Count n)))
 
-  pdx-over : (a mask : ℕ) → seen t (λ _ in_it. in_frame in_it) (pdx before t a mask) ≡ behind t (effect.Pdx a mask) (pdx state t a mask)
+  pdx-over : (a mask : ℕ) → with_answer t (λ _ in_it. in_frame in_it) (pdx before t a mask) ≡ behind t (effect.Pdx a mask) (pdx state t a mask)
   pdx-over a mask = rw (same_domain t, same_frames t) (behind-pdx a mask (length (frames_of state t) + 1) (entered_slots state t a mask) _)
 
-  by_mask : (a mask : ℕ) (v : Bool) → seen t (λ _ in_it. in_frame in_it) (cond v (before, reply.No refusal.Syntax) (pdx before t a mask)) ≡ behind t (effect.Pdx a mask) (thread_call state t (cond v call.Bad (call.Pdx a mask)))
+  by_mask : (a mask : ℕ) (v : Bool) → with_answer t (λ _ in_it. in_frame in_it) (cond v (before, reply.No refusal.Syntax) (pdx before t a mask)) ≡ behind t (effect.Pdx a mask) (thread_call state t (cond v call.Bad (call.Pdx a mask)))
   by_mask a mask true = with_thread-then state t advanced (λ r. with_register r 0 (refusal_number refusal.Syntax))
   by_mask a mask false = pdx-over a mask
 
-  behind-ret : (n : ℕ) (refused : Option Refusal) → seen t (λ _ out. out) (unless_refused refused before (with_thread before t leaving, reply.Count n)) ≡ behind t effect.Ret (unless_refused refused state (with_thread state t leaving, reply.Count n))
+  behind-ret : (n : ℕ) (refused : Option Refusal) → with_answer t (λ _ out. out) (unless_refused refused before (with_thread before t leaving, reply.Count n)) ≡ behind t effect.Ret (unless_refused refused state (with_thread state t leaving, reply.Count n))
   behind-ret n (Some word) = with_thread-then state t advanced (λ r. with_register r 0 (refusal_number word))
   behind-ret n None = ap (λ (s : State). with_thread s t (λ r. r)) (with_thread-then state t advanced leaving)
 
-  ret-over : seen t (λ _ out. out) (ret before t) ≡ behind t effect.Ret (ret state t)
+  ret-over : with_answer t (λ _ out. out) (ret before t) ≡ behind t effect.Ret (ret state t)
   ret-over = rw (same_frames t) (behind-ret (length (frames_of state t) - 1) _)
 
   module _ (calls : RestsOnNoRegister thread_call) (ready : thread.state ≡ Ready) where
-    sys-over : (made : Call) → is_by_script made ≡ true → seen t (λ said caller. settled said caller) (thread_call (put_row state t (advanced thread)) t made) ≡ behind t effect.Sys (thread_call state t made)
+    sys-over : (made : Call) → is_by_script made ≡ true → with_answer t (λ said caller. settled said caller) (thread_call (put_row state t (advanced thread)) t made) ≡ behind t effect.Sys (thread_call state t made)
     sys-over made by =
         let called = thread_call state t made in
         let said = called.1 in
@@ -167,8 +167,8 @@ module _ (state : State) (t : ℕ) (thread : ThreadRow) (formed : IsWellFormed s
         let itself = calls state t thread thread made formed there (record { birth = refl; creator = refl; ready = ready; frames = refl }) by in
         let unchanged : put_row state t thread ≡ state = like (λ _. thread) (λ r. r) refl ∙ with_thread-same state t in
         let own : called.0 ≡ with_thread called.0 t (with_frames_of thread) = ap (λ (s : State). (thread_call s t made).0) (sym unchanged) ∙ ap (λ (a : Answer). a.0) itself in
-        ap (seen t (λ what caller. settled what caller)) over
-        ∙ seen-settled t (with_thread called.0 t (with_frames_of (advanced thread))) said
+        ap (with_answer t (λ what caller. settled what caller)) over
+        ∙ with_answer-settled t (with_thread called.0 t (with_frames_of (advanced thread))) said
         ∙ with_thread-then called.0 t (with_frames_of (advanced thread)) (settled said)
         ∙ sym (with_thread-then called.0 t (with_frames_of thread) (λ r. settled said (advanced r)))
         ∙ ap (λ (s : State). with_thread s t (λ r. settled said (advanced r))) (sym own)
@@ -178,10 +178,10 @@ module _ (state : State) (t : ℕ) (thread : ThreadRow) (formed : IsWellFormed s
     finished-behind (effect.Load a to) by = behind-load a to (word_at state.objects a) (is_aligned a) (allowed state t a R)
     finished-behind (effect.Store a value) by = behind-store a value (is_aligned a) (allowed state t a W)
     finished-behind (effect.Pdx a mask) by =
-        ap (λ (s : State). seen t (λ _ in_it. in_frame in_it) (cond (ltb 255 mask) (s, reply.No refusal.Syntax) (pdx s t a mask))) put-is
+        ap (λ (s : State). with_answer t (λ _ in_it. in_frame in_it) (cond (ltb 255 mask) (s, reply.No refusal.Syntax) (pdx s t a mask))) put-is
         ∙ by_mask a mask (ltb 255 mask)
-    finished-behind effect.Ret by = ap (λ (s : State). seen t (λ _ out. out) (ret s t)) put-is ∙ ret-over
-    finished-behind effect.Sys by = sys-over (spelled thread) (spelled-by_script (spelled thread) by)
+    finished-behind effect.Ret by = ap (λ (s : State). with_answer t (λ _ out. out) (ret s t)) put-is ∙ ret-over
+    finished-behind effect.Sys by = sys-over (script_call thread) (spelled-by_script (script_call thread) by)
 
 pub turns_behind : RestsOnNoRegister thread_call → TurnsAreCalls
 turns_behind calls state t thread asked formed there ready is = grind (arith, turned-on, finished-behind)
@@ -227,7 +227,7 @@ behind-backed rests frames state t thread effect.Ret there has =
     let called = thread_call state t call.Ret in
     frames called.0 t (returned called.1) (λ r _. returned-frames called.1 r)
 behind-backed rests frames state t thread effect.Sys there has =
-    let called = thread_call state t (spelled thread) in
+    let called = thread_call state t (script_call thread) in
     frames called.0 t (λ r. settled called.1 (advanced r)) (λ r _. settled-frames called.1 (advanced r))
 
 pub rows_backed : BackingRestsOnDomain → FramesKeepBacked → TurnsRowsKeepBacked

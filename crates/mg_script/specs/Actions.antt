@@ -13,8 +13,8 @@ use Rattle.mg_model.specs.Domains.{pdx, ret}
 use Rattle.mg_model.specs.Objects.{with_word, word_at}
 use Rattle.mg_model.specs.Script.{operand, register, with_register}
 use Rattle.mg_model.specs.State.{State, ThreadRow}
-use Rattle.mg_model.specs.Turn.{put_row, seen, spelled, thread_call, unless_faulted, values_of, with_registers}
-use Rattle.mg_model.specs.Refused.{refusal_number}
+use Rattle.mg_model.specs.Turn.{put_row, with_answer, script_call, thread_call, unless_faulted, values_of, with_registers}
+use Rattle.mg_model.specs.Abbreviations.{refusal_number}
 use Rattle.mg_script.specs.declared.actions.Action.{Action}
 use Rattle.mg_script.specs.declared.actions.Action.TheVariants as action
 
@@ -34,9 +34,9 @@ carried_out state t thread (action.Store address value) =
     unless_faulted state t address (allowed state t address W) (put_row (record state { objects = with_word state.objects address value }) t thread)
 carried_out state t thread (action.Pdx address mask) =
     let before = put_row state t thread in
-    seen t (λ _ entered. with_register entered 0 0) (if nat_lt 255 mask then (before, reply.No refusal.Syntax) else pdx before t address mask)
-carried_out state t thread action.Ret = seen t (λ _ returned. returned) (ret (put_row state t thread) t)
-carried_out state t thread action.Sys = seen t (λ said caller. settled said caller) (thread_call (put_row state t thread) t (spelled thread))
+    with_answer t (λ _ entered. with_register entered 0 0) (if nat_lt 255 mask then (before, reply.No refusal.Syntax) else pdx before t address mask)
+carried_out state t thread action.Ret = with_answer t (λ _ returned. returned) (ret (put_row state t thread) t)
+carried_out state t thread action.Sys = with_answer t (λ said caller. settled said caller) (thread_call (put_row state t thread) t (script_call thread))
 
 -- the call of a `pdx` with any mask
 abbrev pub entering_call : ℕ → ℕ → Call
@@ -48,7 +48,7 @@ call_of thread (op.Load a b i) = call.Load (operand thread b i)
 call_of thread (op.Store a b i) = call.Store (operand thread b i) (register thread a)
 call_of thread (op.Pdx a b) = entering_call (register thread a) (register thread b)
 call_of thread op.Ret = call.Ret
-call_of thread op.Sys = spelled thread
+call_of thread op.Sys = script_call thread
 call_of thread other = call.Bad
 
 -- the same of an action
@@ -58,7 +58,7 @@ called_by thread (action.Load address to) = call.Load address
 called_by thread (action.Store address value) = call.Store address value
 called_by thread (action.Pdx address mask) = entering_call address mask
 called_by thread action.Ret = call.Ret
-called_by thread action.Sys = spelled thread
+called_by thread action.Sys = script_call thread
 
 -- a load names one of the eight registers
 abbrev pub HasRegister : Action → Type 0

@@ -10,13 +10,12 @@ use Rattle.mg_model.specs.declared.replies.Reply.TheVariants as reply
 use Rattle.mg_model.specs.declared.threads.Fault.{Fault}
 use Rattle.mg_model.specs.declared.threads.Fault.TheVariants as fault
 use Rattle.mg_model.specs.declared.threads.ThrState.TheVariants.{Faulted}
-use Rattle.mg_model.specs.Abbreviations.{advanced}
+use Rattle.mg_model.specs.Abbreviations.{advanced, refusal_number}
 use Rattle.mg_model.specs.Access.{last_slots}
 use Rattle.mg_model.specs.Domains.{last_back}
 use Rattle.mg_model.specs.Script.{decoded, with_register, word_end}
 use Rattle.mg_model.specs.State.{CallFrame, State, ThreadRow}
 use Rattle.mg_model.specs.Turn.{put_row, run}
-use Rattle.mg_model.specs.Refused.{refusal_number}
 use Rattle.mg_script.specs.declared.actions.Action.{Action}
 use Rattle.mg_script.specs.declared.actions.Action.TheVariants as action
 use Rattle.mg_script.specs.declared.effects.Effect.{Effect}

@@ -1,7 +1,7 @@
 -- How the lines of an input come from those of its parts.
 use Rattle.std.specs.Prelude.{ℕ, zero, suc, ◌+◌, ◌<◌, ◌≤◌, ◌≡◌, ◌||◌, Bool, true, false, List, [], ◌∷◌, ◌++◌, drop, length, take, if◌then◌else◌, replicate, Some}
 use Rattle.std.specs.Option.{option_to_list}
-use Rattle.std.specs.List.{list_any, filter_map, cons_option}
+use Rattle.std.specs.List.{cons_option, filter_map, list_any, onto_first, slice_split}
 use Rattle.std.proofs.Common.{refl, sym, ap, ◌∙◌, append-nil, arith, length-append}
 use Rattle.std.proofs.lemmas.List.{length-replicate, take-append-drop, take-append-le}
 use Rattle.std.proofs.Math.Seq.{take-append_seam}
@@ -9,7 +9,7 @@ use Rattle.std.proofs.lemmas.List.Folds.{list_any-append}
 use Rattle.mg_model.specs.declared.calls.Line.{Line}
 use Rattle.mg_model.specs.Abbreviations.{longest_line}
 use Rattle.mg_model.specs.Ended.{all_but_last, ended_lines}
-use Rattle.mg_model.specs.Words.{split_at, onto_first, is_newline}
+use Rattle.mg_model.specs.Words.{is_newline}
 use Rattle.mg_model.specs.Lines.{bad_line, line_of, lines}
 
 -- bytes go to the front of the first piece
@@ -27,7 +27,7 @@ onto_then : (b : ℕ) (bytes : List ℕ) (pieces : List (List ℕ)) → onto_fir
 onto_then b bytes [] = refl
 onto_then b bytes (piece ∷ pieces) = refl
 
-nothing_onto : (cuts : ℕ → Bool) (bytes : List ℕ) → all_onto_first [] (split_at cuts bytes) ≡ split_at cuts bytes
+nothing_onto : (cuts : ℕ → Bool) (bytes : List ℕ) → all_onto_first [] (slice_split cuts bytes) ≡ slice_split cuts bytes
 nothing_onto cuts [] = refl
 nothing_onto cuts (b ∷ bytes) = grind arith
 
@@ -40,24 +40,24 @@ any-tail true y h = cc
 any-tail false y h = h
 
 -- bytes with no cut among them, and then others
-pub split_at-append : (cuts : ℕ → Bool) (bytes rest : List ℕ) → list_any cuts bytes ≡ false → split_at cuts (bytes ++ rest) ≡ all_onto_first bytes (split_at cuts rest)
-split_at-append cuts [] rest none = sym (nothing_onto cuts rest)
-split_at-append cuts (b ∷ bytes) rest none =
+pub slice_split-append : (cuts : ℕ → Bool) (bytes rest : List ℕ) → list_any cuts bytes ≡ false → slice_split cuts (bytes ++ rest) ≡ all_onto_first bytes (slice_split cuts rest)
+slice_split-append cuts [] rest none = sym (nothing_onto cuts rest)
+slice_split-append cuts (b ∷ bytes) rest none =
     let off : cuts b ≡ false = any-head (cuts b) (list_any cuts bytes) none in
     let others : list_any cuts bytes ≡ false = any-tail (cuts b) (list_any cuts bytes) none in
-    let here : split_at cuts (b ∷ (bytes ++ rest)) ≡ onto_first b (split_at cuts (bytes ++ rest)) = ap (λ v. if v then [] ∷ split_at cuts (bytes ++ rest) else onto_first b (split_at cuts (bytes ++ rest))) off in
-    here ∙ ap (onto_first b) (split_at-append cuts bytes rest others) ∙ onto_then b bytes (split_at cuts rest)
+    let here : slice_split cuts (b ∷ (bytes ++ rest)) ≡ onto_first b (slice_split cuts (bytes ++ rest)) = ap (λ v. if v then [] ∷ slice_split cuts (bytes ++ rest) else onto_first b (slice_split cuts (bytes ++ rest))) off in
+    here ∙ ap (onto_first b) (slice_split-append cuts bytes rest others) ∙ onto_then b bytes (slice_split cuts rest)
 
 -- bytes with no cut among them
-pub split_at-whole : (cuts : ℕ → Bool) (bytes : List ℕ) → list_any cuts bytes ≡ false → split_at cuts bytes ≡ bytes ∷ []
-split_at-whole cuts bytes none =
-    ap (split_at cuts) (sym (append-nil bytes)) ∙ split_at-append cuts bytes [] none ∙ ap (λ v. v ∷ []) (append-nil bytes)
+pub slice_split-whole : (cuts : ℕ → Bool) (bytes : List ℕ) → list_any cuts bytes ≡ false → slice_split cuts bytes ≡ bytes ∷ []
+slice_split-whole cuts bytes none =
+    ap (slice_split cuts) (sym (append-nil bytes)) ∙ slice_split-append cuts bytes [] none ∙ ap (λ v. v ∷ []) (append-nil bytes)
 
 -- there is a piece always
-pub split_at-some : (cuts : ℕ → Bool) (bytes : List ℕ) → (piece : List ℕ) × (pieces : List (List ℕ)) × (split_at cuts bytes ≡ piece ∷ pieces)
-split_at-some cuts [] = ([], [], refl)
-split_at-some cuts (b ∷ bytes) = elim (cuts b) as (λ v. (piece : List ℕ) × (pieces : List (List ℕ)) × ((if v then [] ∷ split_at cuts bytes else onto_first b (split_at cuts bytes)) ≡ piece ∷ pieces))
-    [ true ↦ ([], split_at cuts bytes, refl) | false ↦ first (split_at cuts bytes) ]
+pub slice_split-some : (cuts : ℕ → Bool) (bytes : List ℕ) → (piece : List ℕ) × (pieces : List (List ℕ)) × (slice_split cuts bytes ≡ piece ∷ pieces)
+slice_split-some cuts [] = ([], [], refl)
+slice_split-some cuts (b ∷ bytes) = elim (cuts b) as (λ v. (piece : List ℕ) × (pieces : List (List ℕ)) × ((if v then [] ∷ slice_split cuts bytes else onto_first b (slice_split cuts bytes)) ≡ piece ∷ pieces))
+    [ true ↦ ([], slice_split cuts bytes, refl) | false ↦ first (slice_split cuts bytes) ]
   where
     first : (pieces : List (List ℕ)) → (piece : List ℕ) × (more : List (List ℕ)) × (onto_first b pieces ≡ piece ∷ more)
     first [] = (b ∷ [], [], refl)
@@ -72,24 +72,24 @@ onto_last-first b bytes (piece ∷ []) = refl
 onto_last-first b bytes (piece ∷ next ∷ pieces) = refl
 
 -- bytes, and then others with no cut among them
-pub split_at-more : (cuts : ℕ → Bool) (bytes rest : List ℕ) → list_any cuts rest ≡ false → split_at cuts (bytes ++ rest) ≡ onto_last (split_at cuts bytes) rest
-split_at-more cuts [] rest none = split_at-whole cuts rest none
-split_at-more cuts (b ∷ bytes) rest none =
-    by_cut (cuts b) (split_at-more cuts bytes rest none) (split_at-some cuts bytes)
+pub slice_split-more : (cuts : ℕ → Bool) (bytes rest : List ℕ) → list_any cuts rest ≡ false → slice_split cuts (bytes ++ rest) ≡ onto_last (slice_split cuts bytes) rest
+slice_split-more cuts [] rest none = slice_split-whole cuts rest none
+slice_split-more cuts (b ∷ bytes) rest none =
+    by_cut (cuts b) (slice_split-more cuts bytes rest none) (slice_split-some cuts bytes)
   where
-    by_cut : (v : Bool) → split_at cuts (bytes ++ rest) ≡ onto_last (split_at cuts bytes) rest
-        → (piece : List ℕ) × (pieces : List (List ℕ)) × (split_at cuts bytes ≡ piece ∷ pieces)
-        → (if v then [] ∷ split_at cuts (bytes ++ rest) else onto_first b (split_at cuts (bytes ++ rest))) ≡ onto_last (if v then [] ∷ split_at cuts bytes else onto_first b (split_at cuts bytes)) rest
-    by_cut true h (piece, pieces, e) = ap (λ v. [] ∷ v) h ∙ sym (onto_last-cons [] rest piece pieces (split_at cuts bytes) e)
-    by_cut false h some = ap (onto_first b) h ∙ onto_last-first b rest (split_at cuts bytes)
+    by_cut : (v : Bool) → slice_split cuts (bytes ++ rest) ≡ onto_last (slice_split cuts bytes) rest
+        → (piece : List ℕ) × (pieces : List (List ℕ)) × (slice_split cuts bytes ≡ piece ∷ pieces)
+        → (if v then [] ∷ slice_split cuts (bytes ++ rest) else onto_first b (slice_split cuts (bytes ++ rest))) ≡ onto_last (if v then [] ∷ slice_split cuts bytes else onto_first b (slice_split cuts bytes)) rest
+    by_cut true h (piece, pieces, e) = ap (λ v. [] ∷ v) h ∙ sym (onto_last-cons [] rest piece pieces (slice_split cuts bytes) e)
+    by_cut false h some = ap (onto_first b) h ∙ onto_last-first b rest (slice_split cuts bytes)
 
 -- a line that is ended
 pub lines-ended : (bytes rest : List ℕ) → list_any is_newline bytes ≡ false → lines (bytes ++ 10 ∷ rest) ≡ option_to_list (line_of bytes) ++ lines rest
-lines-ended bytes rest none = grind (arith, split_at-append, append-nil)
+lines-ended bytes rest none = grind (arith, slice_split-append, append-nil)
 
 -- a line that is not ended
 pub lines-last : (bytes : List ℕ) → list_any is_newline bytes ≡ false → lines bytes ≡ option_to_list (line_of bytes)
-lines-last bytes none = grind (arith, split_at-whole)
+lines-last bytes none = grind (arith, slice_split-whole)
 
 -- a line that is too long is bad, whatever it holds
 pub line_of-long : (bytes : List ℕ) → longest_line < length bytes → line_of bytes ≡ Some bad_line
@@ -98,7 +98,7 @@ line_of-long bytes long = grind arith
 -- so its further bytes change nothing
 pub lines-long : (bytes : List ℕ) (b : ℕ) (rest : List ℕ) → list_any is_newline bytes ≡ false → is_newline b ≡ false → longest_line < length bytes
     → lines (bytes ++ b ∷ rest) ≡ lines (bytes ++ rest)
-lines-long bytes b rest none off long = grind (arith, split_at-append, length-append, line_of-long)
+lines-long bytes b rest none off long = grind (arith, slice_split-append, length-append, line_of-long)
 
 -- a row of bytes that is no line of any call: too long, and with no newline
 abbrev long_row : List ℕ
@@ -119,7 +119,7 @@ rows (piece ∷ next ∷ pieces) = grind (arith, (rows (next ∷ pieces)))
 
 -- so a row after some bytes adds one line to those that are ended
 with_row : (bytes : List ℕ) → length (lines (bytes ++ long_row)) ≡ length (ended_lines bytes) + 1
-with_row bytes = ap (λ v. length (filter_map line_of v)) (split_at-more is_newline bytes long_row (row_whole 257)) ∙ rows (split_at is_newline bytes)
+with_row bytes = ap (λ v. length (filter_map line_of v)) (slice_split-more is_newline bytes long_row (row_whole 257)) ∙ rows (slice_split is_newline bytes)
 
 -- what comes before any other bytes are calls of ended lines
 pub ended_lines-most : (bytes behind : List ℕ) (ls : List Line) → ((rest : List ℕ) → lines (bytes ++ rest) ≡ ls ++ lines (behind ++ rest)) → length ls ≤ length (ended_lines bytes)
@@ -134,7 +134,7 @@ lines-begin (piece ∷ next ∷ pieces) = grind (arith, (lines-begin (next ∷ p
 -- when lines are first ones of those of some bytes, and no more than are ended, they are first ones of the ended lines
 pub ended_lines-first : (bytes : List ℕ) (ls more : List Line) → lines bytes ≡ ls ++ more → length ls ≤ length (ended_lines bytes) → (later : List Line) × (ended_lines bytes ≡ ls ++ later)
 ended_lines-first bytes ls more are enough =
-    let (last, is) = lines-begin (split_at is_newline bytes) in
+    let (last, is) = lines-begin (slice_split is_newline bytes) in
     let front : take (length ls) (ended_lines bytes) ≡ ls =
     sym (take-append-le (length ls) (ended_lines bytes) last enough) ∙ ap (λ v. take (length ls) v) (sym is ∙ are) ∙ take-append_seam ls more in (
       drop (length ls) (ended_lines bytes),

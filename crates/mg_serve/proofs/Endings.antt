@@ -7,13 +7,13 @@ use Rattle.mg_disk.specs.declared.disk.Disk.{Ghosts}
 use Rattle.mg_serve.specs.declared.ended.Ended.{Ended}
 use Rattle.mg_serve.specs.declared.ended.Ended.TheVariants as ended
 use Rattle.mg_serve.specs.Parts.{KeepsExactly, SpellsAfter, TakesMore}
-use Rattle.mg_serve.specs.Sessions.{Answers, DiskRose, DiskUse, Ends, EndsSession, EndsTaking, Holds, HoldsExactly, IsDoneOrMemory, IsWithin, SinkRose, SinkUse, SourceRose, SourceUse, status_at, status_of}
+use Rattle.mg_serve.specs.Sessions.{Answers, DiskRose, DiskUse, Ends, EndsSession, EndsTaking, Holds, HoldsExactly, IsDoneOrMemory, SinkRose, SinkUse, SourceRose, SourceUse, status_at, status_of}
 use Rattle.mg_serve.specs.declared.machine.Machine as machines
 use Rattle.mg_serve.specs.declared.status.Status.{Status}
 use Rattle.mg_serve.specs.declared.status.Status.TheVariants as status
 use Rattle.mg_serve.specs.Readings.{Finishes, Stops}
 use Rattle.mg_serve.specs.Machines.{Entry, Point}
-use Rattle.mg_serve.specs.Serving.{Broken, Serves, Session, Traces}
+use Rattle.mg_serve.specs.Serving.{Broken, IsWithin, Serves, Session, Traces}
 use Rattle.mg_serve.specs.Waiting.{Waiting}
 use Rattle.mg_serve.proofs.Outcomes.{disk_exactly, exactly, few_of, finishes_all, finishes_kept, finishes_stops, finishes_traces, finishes_within, not_more, sink_one, source_within, stops_bound, stops_held, stops_moments, stops_prefix, stops_traces, too_long_more, whole_lines, within_more}
 

@@ -18,13 +18,14 @@ use Rattle.mg_model.specs.Volume.{Is, volume}
 use Rattle.mg_serve.specs.declared.ended.Ended.{Ended}
 use Rattle.mg_serve.specs.declared.ended.Ended.TheVariants as ended
 use Rattle.mg_serve.specs.Parts.{AnswersAll, AnswersLines, AnswersPrefix, AreAnswered, FewUnanswered, IsPrefix, KeepsAnswered, KeepsExactly, KeepsOne, SpellsAfter, TakesMore, replies}
-use Rattle.mg_serve.specs.Sessions.{IsAnswered, IsCut, IsWithin, TakesAtMost, status_at, taken_of}
+use Rattle.mg_io.specs.Known.{TakesAtMost}
+use Rattle.mg_serve.specs.Sessions.{IsAnswered, IsCut, status_at, consumed}
 use Rattle.mg_serve.specs.declared.machine.Machine as machines
 use Rattle.mg_serve.specs.declared.status.Status.{Status}
 use Rattle.mg_serve.specs.declared.status.Status.TheVariants as status
 use Rattle.mg_serve.specs.Readings.{Finishes, Stops}
 use Rattle.mg_serve.specs.Machines.{Entry, IsInside, Point}
-use Rattle.mg_serve.specs.Serving.{Broken, Held, IsBetween, IsTraced, PutsWhole, Remains, Session, Stands, Traces}
+use Rattle.mg_serve.specs.Serving.{Broken, Held, IsBetween, IsTraced, IsWithin, PutsWhole, Remains, Session, Stands, Traces}
 use Rattle.mg_serve.specs.Waiting.{Waiting, no_replies}
 use Rattle.mg_serve.proofs.Cutting.{ended_lines-first}
 use Rattle.mg_serve.proofs.SessionSteps.{left_spells, prefix_longer}
@@ -41,7 +42,7 @@ within_more (Some input) None limit more h = absurd h
 within_more (Some input) (Some rest) limit more h = omega arith
 
 -- how the bytes that came and those that are left are the input
-came_are : (bytes rest input : List ℕ) → input ≡ bytes ++ rest → taken_of input rest ≡ bytes
+came_are : (bytes rest input : List ℕ) → input ≡ bytes ++ rest → consumed input rest ≡ bytes
 came_are bytes rest input is =
     let size : length input - length rest ≡ length bytes = omega (arith, ap length is, length-append bytes rest) in
     ap (λ v. take v input) size ∙ ap (λ v. take (length bytes) v) is ∙ take-append_seam bytes rest
@@ -51,7 +52,7 @@ put_is before now put is = ap (λ v. drop (length before) v) is ∙ drop-append_
 
 -- the lines that were stepped are first ones of those that a newline ended
 ended_first : (input rest bytes : List ℕ) (ls : List Line) → input ≡ bytes ++ rest → (more : List Line) × (lines bytes ≡ ls ++ more) → length ls ≤ length (ended_lines bytes) → ls ≡ take (length ls) (lines input)
-    → (more : List Line) × (ended_lines (taken_of input rest) ≡ take (length ls) (lines input) ++ more)
+    → (more : List Line) × (ended_lines (consumed input rest) ≡ take (length ls) (lines input) ++ more)
 ended_first input rest bytes ls is came enough are = grind (arith, ended_lines-first, came_are)
 
 -- a last line that no newline ended comes only if the source was read to its end

@@ -9,7 +9,7 @@ use Rattle.mg_model.specs.Lines.{lines}
 use Rattle.mg_model.specs.Print.{answered}
 use Rattle.mg_model.specs.State.{State}
 use Rattle.mg_model.specs.Volume.{Is, volume}
-use Rattle.mg_serve.specs.Sessions.{IsAnswered, taken_of}
+use Rattle.mg_serve.specs.Sessions.{IsAnswered, consumed}
 
 -- more bytes were taken
 abbrev pub TakesMore : ℕ → Option (List ℕ) → Option (List ℕ) → Type 0
@@ -63,4 +63,4 @@ KeepsOne left_now kept left left' taken taken' = IfSome left (λ input. IsSomeAn
 abbrev pub FewUnanswered : ℕ → ℕ → Option (List ℕ) → Option (List ℕ) → Option (List ℕ) → Option (List ℕ) → Type 0
 FewUnanswered most limit left left' taken taken' =
     IfSome left (λ input. IsSomeAnd left' (λ rest. IfSome taken (λ before. IsSomeAnd taken' (λ now.
-    length (ended_lines (take limit (taken_of input rest))) < answered (drop (length before) now) + most))))
+    length (ended_lines (take limit (consumed input rest))) < answered (drop (length before) now) + most))))

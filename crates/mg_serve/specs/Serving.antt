@@ -22,7 +22,11 @@ use Rattle.mg_serve.specs.declared.status.Status.TheVariants as status
 use Rattle.mg_serve.specs.Machines.{Entry, Point}
 use Rattle.mg_serve.specs.Parts.{IsPrefix, SpellsAfter}
 use Rattle.mg_serve.specs.Waiting.{Waiting}
-use Rattle.mg_serve.specs.Sessions.{Answers, DiskRose, DiskUse, Ends, EndsSession, Holds, HoldsExactly, IsCut, IsDoneOrMemory, IsWithin, OfInput, SinkRose, SinkUse, SourceRose, SourceUse, UnlessDisk, taken_of}
+use Rattle.mg_serve.specs.Sessions.{Answers, DiskRose, DiskUse, Ends, EndsSession, Holds, HoldsExactly, IsCut, IsDoneOrMemory, OfInput, SinkRose, SinkUse, SourceRose, SourceUse, UnlessDisk, consumed}
+
+-- the input has no more than this many bytes, if it is told
+abbrev pub IsWithin : ℕ → Option (List ℕ) → Type 0 → Type 0
+IsWithin limit left promise = IfSome left (λ input. length input ≤ limit → promise)
 
 -- A machine may serve lines in batches of `batch` replies: it is live and stands on the disk, nothing is staged, and a batch has 1 to
 -- 64 replies.
@@ -125,9 +129,9 @@ pub record IsTraced {M : Type 0} (is : machines.Ghosts M) (batch : ℕ) (result 
   pub count : ℕ
   -- they are among the lines of the bytes that came
   pub few : stepped ≤ length (lines input)
-  pub came : (more : List Line) × (lines (taken_of input rest) ≡ take stepped (lines input) ++ more)
+  pub came : (more : List Line) × (lines (consumed input rest) ≡ take stepped (lines input) ++ more)
   -- and if the last line was cut, among those that a newline ended
-  pub ended : IsCut result rest → (more : List Line) × (ended_lines (taken_of input rest) ≡ take stepped (lines input) ++ more)
+  pub ended : IsCut result rest → (more : List Line) × (ended_lines (consumed input rest) ≡ take stepped (lines input) ++ more)
   pub answers : IfSome taken (λ before. IsSomeAnd taken' (λ now. answered (drop (length before) now) ≡ count))
   -- all answered lines are among them, and at most a batch more: none at the end
   pub least : count ≤ stepped

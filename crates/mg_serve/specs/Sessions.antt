@@ -6,7 +6,7 @@ use Rattle.mg_disk.specs.Disk.{Image}
 use Rattle.mg_disk.specs.Stops.{CountRose, Leaves}
 use Rattle.mg_disk.specs.declared.disk.Disk as disks
 use Rattle.mg_faults.specs.Faults.{Rose}
-use Rattle.mg_io.specs.Known.{AppendsPrefix}
+use Rattle.mg_io.specs.Known.{AppendsPrefix, TakesAtMost}
 use Rattle.mg_io.specs.declared.traits.Sink as sinks
 use Rattle.mg_io.specs.declared.traits.Source as sources
 use Rattle.mg_model.specs.declared.calls.Line.{Line}
@@ -63,32 +63,24 @@ UnlessDisk _ P = P
 
 -- The objects of a session
 
--- A disk: what is told of it, and the disk as a call found it and as it left it.
-pub record DiskUse (D : Type 0) : Type 1 where
-  pub facts : disks.Ghosts D
-  pub old : D
-  pub new : D
+-- An object: what is told of it, and the object as a call found it and as it left it.
+pub record Use (Facts : Type 1) (X : Type 0) : Type 1 where
+  pub facts : Facts
+  pub old : X
+  pub new : X
 
-abbrev pub disk_use : {D : Type 0} → disks.Ghosts D → D → D → DiskUse D
-disk_use facts old new = record { facts = facts; old = old; new = new }
+abbrev pub use_of : {Facts : Type 1} {X : Type 0} → Facts → X → X → Use Facts X
+use_of facts old new = record { facts = facts; old = old; new = new }
 
--- A source, likewise.
-pub record SourceUse (S : Type 0) : Type 1 where
-  pub facts : sources.Ghosts S
-  pub old : S
-  pub new : S
+-- a disk, a source and a sink
+abbrev pub DiskUse : Type 0 → Type 1
+DiskUse D = Use (disks.Ghosts D) D
 
-abbrev pub source_use : {S : Type 0} → sources.Ghosts S → S → S → SourceUse S
-source_use facts old new = record { facts = facts; old = old; new = new }
+abbrev pub SourceUse : Type 0 → Type 1
+SourceUse S = Use (sources.Ghosts S) S
 
--- A sink, likewise.
-pub record SinkUse (K : Type 0) : Type 1 where
-  pub facts : sinks.Ghosts K
-  pub old : K
-  pub new : K
-
-abbrev pub sink_use : {K : Type 0} → sinks.Ghosts K → K → K → SinkUse K
-sink_use facts old new = record { facts = facts; old = old; new = new }
+abbrev pub SinkUse : Type 0 → Type 1
+SinkUse K = Use (sinks.Ghosts K) K
 
 -- the count of faults rose, or is at its last value
 abbrev pub DiskRose : {D : Type 0} → DiskUse D → Type 0
@@ -146,21 +138,13 @@ OfAnswered o P = IfSome (o.facts.taken o.old) (λ before. IsSomeAnd (o.facts.tak
 abbrev pub input_limit : ℕ
 input_limit = 2 ^ 32
 
--- at most this many bytes were taken
-abbrev pub TakesAtMost : ℕ → Option (List ℕ) → Option (List ℕ) → Type 0
-TakesAtMost limit left left' = IfSome left (λ input. IsSomeAnd left' (λ rest. length input ≤ limit + length rest))
-
--- the input has no more than this many bytes, if it is told
-abbrev pub IsWithin : ℕ → Option (List ℕ) → Type 0 → Type 0
-IsWithin limit left promise = IfSome left (λ input. length input ≤ limit → promise)
-
 -- when the input is no longer than a session may take
 abbrev pub IfShort : {S : Type 0} → SourceUse S → Type 0 → Type 0
-IfShort i promise = IsWithin input_limit (left_at i) promise
+IfShort i promise = OfInput i (λ input. length input ≤ input_limit → promise)
 
 -- the bytes that were taken from an input
-abbrev pub taken_of : List ℕ → List ℕ → List ℕ
-taken_of input rest = take (length input - length rest) input
+abbrev pub consumed : List ℕ → List ℕ → List ℕ
+consumed input rest = take (length input - length rest) input
 
 -- the session ended as it took bytes: the source failed, or gave too much
 abbrev pub EndsTaking : Status → Type 0
@@ -189,7 +173,7 @@ pub record Answers {S K : Type 0} (said : List Line → List ℕ) (result : Stat
 -- among the first k lines of an input are all that are answered, and none that did not come
 pub record IsAnswered (input rest : List ℕ) (taken taken' : Option (List ℕ)) (k : ℕ) : Type 0 where
   pub all_answered : IfSome taken (λ before. IsSomeAnd taken' (λ now. answered (drop (length before) now) ≤ k))
-  pub came : k ≤ length (lines (taken_of input rest))
+  pub came : k ≤ length (lines (consumed input rest))
 
 -- the same, of what a sink took
 abbrev pub AreHeld : {K : Type 0} → SinkUse K → List ℕ → List ℕ → ℕ → Type 0
@@ -223,7 +207,7 @@ pub record Ends {S K : Type 0} (batch limit : ℕ) (result : Status) (i : Source
   -- If the source failed, or gave too much, fewer calls than a batch are unanswered of the lines that are ended among the first
   -- `limit` bytes taken.
   pub few : EndsTaking result →
-      OfRest i (λ input rest. OfAnswered o (λ count. length (ended_lines (take limit (taken_of input rest))) < count + batch))
+      OfRest i (λ input rest. OfAnswered o (λ count. length (ended_lines (take limit (consumed input rest))) < count + batch))
   -- There is not enough memory only before anything was taken or sent.
   pub memory : result ≡ status.Memory → (i.new ≡ i.old) × (o.new ≡ o.old)
   -- The source and the sink failed only if their counts rose.

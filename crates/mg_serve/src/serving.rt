@@ -3,9 +3,9 @@ ghost use Rattle.std.specs.Prelude.{◌≡◌, Err, IsOk, IsTrue, OnOk};
 ghost use Rattle.std.specs.Option.{ForSome};
 ghost use Rattle.mg_disk.specs.Stops.{CountGoes, CountRose};
 ghost use Rattle.mg_faults.specs.Faults.{CountGoesOn, Rose};
-ghost use Rattle.mg_serve.specs.Serving.{Keeps, MayServe, Serves};
+ghost use Rattle.mg_serve.specs.Serving.{IsWithin, Keeps, MayServe, Serves};
 ghost use Rattle.mg_serve.specs.Parts.{KeepsExactly};
-ghost use Rattle.mg_serve.specs.Sessions.{IsWithin, disk_use, input_limit, sink_use, source_use, status_of};
+ghost use Rattle.mg_serve.specs.Sessions.{use_of, input_limit, status_of};
 
 use crate::buffers::Buffers;
 use crate::ended::Ended;
@@ -47,8 +47,8 @@ pub fn serve<M: Machine, D: Disk, S: Source, K: Sink, L: Ledger>(
     requires ready { MayServe M.Machine D.Disk batch machine.old disk.old }
 
     // What the sink took, what a stop leaves, and how the session ends.
-    ensures serves { Serves M.Machine batch limit (status_of result) machine.old machine.new (disk_use D.Disk disk.old disk.new)
-        (source_use S.Source source.old source.new) (sink_use K.Sink sink.old sink.new) steps.old steps.new }
+    ensures serves { Serves M.Machine batch limit (status_of result) machine.old machine.new (use_of D.Disk disk.old disk.new)
+        (use_of S.Source source.old source.new) (use_of K.Sink sink.old sink.new) steps.old steps.new }
 
     // If no call failed and the input is not too long, all is done.
     ensures complete { (CountRose D.Disk disk.old disk.new → ⊥)
@@ -81,8 +81,8 @@ pub fn run<M: Machine, D: Disk, S: Source, K: Sink, L: Ledger>(
     steps: &mut Steps<L>,
 ) -> Status
     requires ready { MayServe M.Machine D.Disk batch machine.old disk.old }
-    ensures serves { Serves M.Machine batch input_limit result machine.old machine.new (disk_use D.Disk disk.old disk.new)
-        (source_use S.Source source.old source.new) (sink_use K.Sink sink.old sink.new) steps.old steps.new }
+    ensures serves { Serves M.Machine batch input_limit result machine.old machine.new (use_of D.Disk disk.old disk.new)
+        (use_of S.Source source.old source.new) (use_of K.Sink sink.old sink.new) steps.old steps.new }
     ensures memory { result ≡ Status.Memory → machine.new ≡ machine.old }
     ensures disk_count { CountGoes D.Disk disk.old disk.new }
     ensures disk_blocks { D.block_count disk.new ≡ D.block_count disk.old }

@@ -1,7 +1,7 @@
 -- The list in the first page of an object, and the object that has a base.
 use Rattle.mg_show.proofs.Names.{◌≡◌, ℕ, zero, suc, ◌+◌, ◌*◌, ◌≤◌, ◌==◌, false, List, [], ◌∷◌, ◌++◌, find, if◌then◌else◌, length, map, Option}
-use Rattle.mg_show.proofs.Names.{None, Some, slice_index, option_map, option_map_or, refl, sym, ap, ◌∙◌, arith, Image, Right, R, Slot, entries_from}
-use Rattle.mg_show.proofs.Names.{entries_of, entries_under, holds, Object, ObjectRow, object_spelled, page_words, pages_words, holds_now, listed, object_in}
+use Rattle.mg_show.proofs.Names.{None, Some, slice_index, option_map, option_map_or, refl, sym, ap, ◌∙◌, arith, Image, Right, R, Slot, pairs_from}
+use Rattle.mg_show.proofs.Names.{pairs_of, pairs_under, holds, Object, ObjectRow, object_spelled, page_words, pages_words, holds_now, listed, object_in}
 use Rattle.mg_show.proofs.Names.{state_shown, Shown}
 use Rattle.mg_show.proofs.Names.{◌<◌, get_or, block_words, number_at, numbers_at}
 use Rattle.std.proofs.Math.ListN.{get_or-append}
@@ -19,30 +19,30 @@ pub word-of : (block : List ℕ) (i at : ℕ) → i < 512 → at ≡ 8 * i → s
 word-of block i at below is = let e : 0 + 8 * i ≡ at = omega arith in number-of block 0 512 i below ∙ ap (number_at block) e
 
 -- one entry more
-pub entries-more : (words : List ℕ) (j n : ℕ) → entries_from words j (n + 1) ≡ entries_from words j n ++ (slice_index words (2 + 2 * (j + n)), slice_index words (3 + 2 * (j + n))) ∷ []
+pub entries-more : (words : List ℕ) (j n : ℕ) → pairs_from words j (n + 1) ≡ pairs_from words j n ++ (slice_index words (2 + 2 * (j + n)), slice_index words (3 + 2 * (j + n))) ∷ []
 entries-more words j zero = grind arith
 entries-more words j (suc n) = grind (arith, entries-more words (j + 1) n)
 
 entry-more : (words : List ℕ) (k base password : ℕ) → base ≡ slice_index words (2 + 2 * k) → password ≡ slice_index words (3 + 2 * k)
-    → entries_from words 0 k ++ (base, password) ∷ [] ≡ entries_from words 0 (k + 1)
+    → pairs_from words 0 k ++ (base, password) ∷ [] ≡ pairs_from words 0 (k + 1)
 entry-more words k base password b p = grind (arith, entries-more words 0 k)
 
 pub block-entries-more : (block : List ℕ) (k at base password : ℕ) → k < 255 → at ≡ 16 * k → base ≡ number_at block (at + 16) → password ≡ number_at block (at + 24)
-    → entries_from (block_words block) 0 k ++ (base, password) ∷ [] ≡ entries_from (block_words block) 0 (k + 1)
+    → pairs_from (block_words block) 0 k ++ (base, password) ∷ [] ≡ pairs_from (block_words block) 0 (k + 1)
 block-entries-more block k at base password below at_is b p =
     entry-more (block_words block) k base password (b ∙ sym (word-of block (2 + 2 * k) (at + 16) (omega arith) (omega arith)))
     (p ∙ sym (word-of block (3 + 2 * k) (at + 24) (omega arith) (omega arith)))
 
 -- The list in the first page
 
-entries_before : (a b : List ℕ) (j n : ℕ) → length a ≡ 512 → j + n ≤ 255 → entries_from (a ++ b) j n ≡ entries_from a j n
+entries_before : (a b : List ℕ) (j n : ℕ) → length a ≡ 512 → j + n ≤ 255 → pairs_from (a ++ b) j n ≡ pairs_from a j n
 entries_before a b j zero long few = refl
 entries_before a b j (suc n) long few = λ i.
     (get_or-append a b 0 (2 + 2 * j) (omega arith) i, get_or-append a b 0 (3 + 2 * j) (omega arith) i)
     ∷ entries_before a b (j + 1) n long (omega arith) i
 
 pub list_first : (image : Image) (frames : ℕ) (table : List ℕ) (page n : ℕ) → 1 ≤ n
-    → entries_of (page_words image frames table page) ≡ entries_of (pages_words image frames table page n)
+    → pairs_of (page_words image frames table page) ≡ pairs_of (pages_words image frames table page n)
 list_first image frames table page zero some = absurd (omega arith)
 list_first image frames table page (suc n) some = grind (arith, length-page_words, get_or-append, entries_before)
 
@@ -66,7 +66,7 @@ module _ (shown : Shown) (r : Image) (base : ℕ) where
   -- what a slot opens, and whether the object holds a password
   pub opened : (slot : Slot) (found : Option ObjectRow) → slot.base ≡ base → found ≡ row_at shown.objects
       → option_map_or (λ (row : ObjectRow). if holds shown.counters.period row slot.password R then listed shown r row else []) found []
-      ≡ entries_under (state_shown shown r).objects shown.counters.period slot
+      ≡ pairs_under (state_shown shown r).objects shown.counters.period slot
   opened slot found same is = grind (arith, or-map, based)
 
   pub held : (password : ℕ) (right : Right) (found : Option ObjectRow) → found ≡ row_at shown.objects

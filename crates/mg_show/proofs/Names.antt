@@ -6,16 +6,17 @@ pub use Rattle.mg_check.specs.declared.volume_rows.VolumeRows.{VolumeRows}
 pub use Rattle.mg_disk.specs.Disk.{Image}
 pub use Rattle.mg_io.specs.Known.{AppendsPrefix}
 pub use Rattle.mg_journal.specs.Looked.{Fits}
-pub use Rattle.mg_model.specs.Access.{capabilities, entries_from, entries_of, entries_under, holds, last_slots}
+pub use Rattle.mg_model.specs.Abbreviations.{pages_words, pairs_from}
+pub use Rattle.mg_model.specs.Access.{capabilities, pairs_of, pairs_under, holds, last_slots}
 pub use Rattle.mg_model.specs.Bytes.{block_words, number_at, numbers_at}
 pub use Rattle.mg_model.specs.Layout.{first_frame}
 pub use Rattle.mg_model.specs.Limits.{thread_limit}
 pub use Rattle.mg_model.specs.Objects.{page_behind, page_of}
 pub use Rattle.mg_model.specs.Print.{hex_text, spaced}
 pub use Rattle.mg_model.specs.Ranges.{IsObjectRow}
-pub use Rattle.mg_model.specs.Rights.{has_right}
+pub use Rattle.mg_model.specs.Rights.{has_right, letters}
 pub use Rattle.mg_model.specs.State.{Object, ObjectRow, Thread, ThreadRow}
-pub use Rattle.mg_model.specs.Volume.{object_spelled, page_words, pages_words}
+pub use Rattle.mg_model.specs.Volume.{object_spelled, page_words}
 pub use Rattle.mg_model.specs.declared.accounts.AccRow.{AccRow}
 pub use Rattle.mg_model.specs.declared.rights.Right.{Right}
 pub use Rattle.mg_model.specs.declared.rights.Right.TheVariants.{D, O, P, R, W, X}
@@ -26,7 +27,7 @@ pub use Rattle.mg_show.specs.DotFrom.{is_among, part_text, reached, thread_part}
 pub use Rattle.mg_show.specs.DotText.{holds_now, is_list, object_name, quoted, slot_arrow, thread_node}
 pub use Rattle.mg_show.specs.Drawn.{bases_of, domains_drawn, entries_drawn, graph_end, graph_head, lists_ranked, node_if, nodes_ranked, threads_drawn}
 pub use Rattle.mg_show.specs.Marking.{Finds, IsPlaceOf, Learns, Marks, given, gives_rank, is_within, named_by}
-pub use Rattle.mg_show.specs.ReachText.{letters, letters_by, reach_line}
+pub use Rattle.mg_show.specs.ReachText.{letters_by, reach_line}
 pub use Rattle.mg_show.specs.Reached.{bits_line, by_place, enter_line, listed, marked_reach, row_reach, thread_reached}
 pub use Rattle.mg_show.specs.Shown.{bare, held_in, numbered, object_in, state_shown}
 pub use Rattle.mg_show.specs.StateText.{accounts_text, entry_text, frame_text, line, object_text, pages_paid, password_text, rights_text, slot_text}

@@ -1,7 +1,7 @@
 -- What is reached step by step, and the ranks that a walk gives.
 use Rattle.mg_show.proofs.Names.{◌≡◌, ℕ, zero, suc, ◌+◌, ◌<◌, ◌≤◌, ◌==◌, ◌&&◌, ◌||◌, nat_le, Bool, true, false, List, [], ◌∷◌, ◌++◌, flat_map, if◌then◌else◌}
 use Rattle.mg_show.proofs.Names.{length, map, None, slice_index, slice_index_or, take, HoldsAt, append-nil, refl, sym, ap, subst, ◌∙◌, arith, ⊎_elim}
-use Rattle.mg_show.proofs.Names.{or-false, or_assoc, cases_lt, le-leb, list_any-append, map-append, map-map, Image, R, Slot, entries_of}
+use Rattle.mg_show.proofs.Names.{or-false, or_assoc, cases_lt, le-leb, list_any-append, map-append, map-map, Image, R, Slot, pairs_of}
 use Rattle.mg_show.proofs.Names.{has_right, Object, ObjectRow, is_among, reached, is_list, bases_of, Marks, given, gives_rank, is_within, named_by, by_place}
 use Rattle.mg_show.proofs.Names.{listed, object_in, state_shown, AreOpened, AreRanked, listed_at, Shown}
 use Rattle.std.proofs.Math.Bool.{and-false, and-or_distrib_right, and-true}
@@ -95,7 +95,7 @@ module _ (shown : Shown) (r : Image) (bases : List ℕ) where
     where
       unread : (objects : List Object)
           → flat_map (λ (object : Object). if is_among [] object.row.base && is_list (state_shown shown r) object.row
-          then map (λ (entry : ℕ × ℕ). entry.0) (entries_of object.words) else []) objects ≡ []
+          then map (λ (entry : ℕ × ℕ). entry.0) (pairs_of object.words) else []) objects ≡ []
       unread [] = refl
       unread (object ∷ objects) = unread objects
 
@@ -104,7 +104,7 @@ module _ (shown : Shown) (r : Image) (bases : List ℕ) where
     abbrev named : List ℕ → List (ℕ × ObjectRow) → List ℕ
     named from objects =
         flat_map (λ (object : Object). if is_among from object.row.base && is_list (state_shown shown r) object.row
-        then map (λ (entry : ℕ × ℕ). entry.0) (entries_of object.words) else []) (map (object_in shown r) objects)
+        then map (λ (entry : ℕ × ℕ). entry.0) (pairs_of object.words) else []) (map (object_in shown r) objects)
 
     abbrev last : ℕ → ObjectRow → List (ℕ × ℕ)
     last i row = if slice_index ranks i == suc m && has_right (slice_index bytes i) R then listed shown r row else []

@@ -3,7 +3,7 @@ use Rattle.std.specs.Prelude.{ℕ, zero, suc, ◌-◌, ◌==◌, ◌&&◌, Bool,
 use Rattle.std.specs.List.{list_any}
 use Rattle.std.specs.Option.{option_map_or}
 use Rattle.mg_model.specs.declared.slots.Slot.{Slot}
-use Rattle.mg_model.specs.Access.{domain_of, entries_of, last_slots, thread_of}
+use Rattle.mg_model.specs.Access.{domain_of, pairs_of, last_slots, thread_of}
 use Rattle.mg_model.specs.State.{Object, State, Thread}
 use Rattle.mg_show.specs.DotText.{graph_line, is_list, list_arrows, object_node, slot_arrow, thread_node}
 
@@ -15,7 +15,7 @@ abbrev pub named_from : State → List ℕ → List ℕ
 named_from state bases =
     flat_map
     (λ (object : Object). if is_among bases object.row.base && is_list state object.row
-    then map (λ (entry : ℕ × ℕ). entry.0) (entries_of object.words) else [])
+    then map (λ (entry : ℕ × ℕ). entry.0) (pairs_of object.words) else [])
     state.objects
 
 -- the bases that are reached from these in fewer than n steps

@@ -6,10 +6,11 @@ use Rattle.std.specs.Option.{option_map_or}
 use Rattle.mg_model.specs.declared.rights.Right.{Right}
 use Rattle.mg_model.specs.declared.rights.Right.TheVariants.{R}
 use Rattle.mg_model.specs.declared.slots.Slot.{Slot}
-use Rattle.mg_model.specs.Access.{based_at, entries_of, holds, last_slots}
+use Rattle.mg_model.specs.Access.{based_at, pairs_of, holds, last_slots}
 use Rattle.mg_model.specs.Print.{hex_text}
 use Rattle.mg_model.specs.State.{Object, ObjectRow, State, Thread}
-use Rattle.mg_show.specs.ReachText.{letters, letters_by}
+use Rattle.mg_model.specs.Rights.{letters}
+use Rattle.mg_show.specs.ReachText.{letters_by}
 
 -- text between quotes
 abbrev pub quoted : List ℕ → List ℕ
@@ -66,11 +67,13 @@ entry_arrow state list entry =
 -- whether some thread now reads the object as a capability list
 abbrev pub is_list : State → ObjectRow → Bool
 is_list state row =
-    list_any (λ (thread : Thread). list_any
-    (λ (slot : Slot). slot.base == row.base && holds state.counters.period row slot.password R) (last_slots thread.row.frames)) state.threads
+    list_any (λ (thread : Thread).
+    list_any (λ (slot : Slot). slot.base == row.base && holds state.counters.period row slot.password R) (last_slots thread.row.frames))
+    state.threads
 
 abbrev pub list_arrows : State → Object → List ℕ
-list_arrows state object = if is_list state object.row then flat_map (entry_arrow state object.row.base) (entries_of object.words) else []
+list_arrows state object =
+    if is_list state object.row then flat_map (entry_arrow state object.row.base) (pairs_of object.words) else []
 
 -- what no line of its own declares is drawn dashed: a slot or an entry names it, and it is no object
 abbrev pub dot_text : State → List ℕ

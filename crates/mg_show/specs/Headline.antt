@@ -12,7 +12,7 @@ use Rattle.mg_model.specs.Volume.{Is, volume}
 use Rattle.mg_serve.specs.Sessions.{IsDoneOrMemory}
 use Rattle.mg_serve.specs.declared.status.Status.{Status}
 use Rattle.mg_serve.specs.declared.status.Status.TheVariants as status
-use Rattle.mg_io.specs.Arguments.{usage_line}
+use Rattle.mg_io.specs.Arguments.{PutsUsage}
 use Rattle.mg_volume_session.specs.Headline.{EndsUnopened, OnVolume, TellsOfNone}
 use Rattle.mg_show.specs.Commands.{text_of}
 use Rattle.mg_show.specs.declared.command.Text.{Text}
@@ -38,8 +38,5 @@ pub record ShowKeeps {D K : Type 0} (facts : disks.Ghosts D) (to : sinks.Ghosts 
 
 -- What is kept where the words ask for none: the line `usage` was put, or a first part of it where the sink failed.
 pub record UsageKeeps {D K : Type 0} (to : sinks.Ghosts K) (result : Status) (disk disk' : D) (sink sink' : K) : Type 0 where
-  pub which : (result ≡ status.Usage) ⊎ (result ≡ status.Sink)
-  pub usage_text : result ≡ status.Usage → Appends (to.taken sink) (to.taken sink') usage_line
-  pub usage_prefix : AppendsPrefix (to.taken sink) (to.taken sink') usage_line
-  pub sink_failed : result ≡ status.Sink → Rose (to.faults sink) (to.faults sink') (to.is_spent sink')
+  pub put : PutsUsage to (result ≡ status.Usage) (result ≡ status.Sink) sink sink'
   pub alone : disk' ≡ disk

@@ -2,15 +2,12 @@
 use Rattle.std.specs.Prelude.{ℕ, Bool, List, [], ◌∷◌, ◌++◌, codes, filter, flat_map, map}
 use Rattle.std.specs.Fmt.{decimal}
 use Rattle.mg_model.specs.declared.rights.Right.{Right}
-use Rattle.mg_model.specs.declared.rights.Right.TheVariants.{R, W, X, D, P, O}
+use Rattle.mg_model.specs.declared.rights.Right.TheVariants.{P}
+use Rattle.mg_model.specs.Rights.{letters}
 use Rattle.mg_model.specs.Access.{allowed}
 use Rattle.mg_model.specs.Print.{hex_text}
 use Rattle.mg_model.specs.State.{Object, State, Thread}
 use Rattle.mg_show.specs.StateText.{line}
-
--- the letter of each right
-abbrev pub letters : List (ℕ × Right)
-letters = (82, R) ∷ (87, W) ∷ (88, X) ∷ (68, D) ∷ (80, P) ∷ (79, O) ∷ []
 
 -- the letters of the rights that pass
 abbrev pub letters_by : (Right → Bool) → List ℕ

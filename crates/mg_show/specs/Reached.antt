@@ -4,12 +4,12 @@ use Rattle.std.specs.Fmt.{decimal}
 use Rattle.mg_disk.specs.Disk.{Image}
 use Rattle.mg_model.specs.declared.rights.Right.{Right}
 use Rattle.mg_model.specs.declared.rights.Right.TheVariants.{P}
-use Rattle.mg_model.specs.Access.{capabilities, entries_of, holds, last_slots}
+use Rattle.mg_model.specs.Access.{capabilities, pairs_of, holds, last_slots}
 use Rattle.mg_model.specs.Objects.{page_of}
 use Rattle.mg_model.specs.Print.{hex_text}
 use Rattle.mg_model.specs.Rights.{has_right}
 use Rattle.mg_model.specs.State.{ObjectRow, ThreadRow}
-use Rattle.mg_model.specs.Volume.{pages_words}
+use Rattle.mg_model.specs.Abbreviations.{pages_words}
 use Rattle.mg_show.specs.Marking.{given}
 use Rattle.mg_show.specs.ReachText.{letters_by, reach_line}
 use Rattle.mg_show.specs.Shown.{state_shown}
@@ -42,7 +42,7 @@ marked_reach t bytes objects = by_place (λ i row. row_reach t (has_right (slice
 
 -- the capabilities of the list that lies in an object, and of those that slots open
 abbrev pub listed : Shown → Image → ObjectRow → List (ℕ × ℕ)
-listed shown r row = entries_of (pages_words r (length shown.frames) shown.frames (page_of row) row.pages)
+listed shown r row = pairs_of (pages_words r (length shown.frames) shown.frames (page_of row) row.pages)
 
 abbrev pub reached_by : Shown → Image → ℕ × ThreadRow → List (ℕ × ℕ)
 reached_by shown r thread = capabilities (state_shown shown r).objects shown.counters.period (last_slots thread.1.frames)

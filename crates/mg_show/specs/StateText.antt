@@ -5,23 +5,19 @@ use Rattle.mg_model.specs.declared.accounts.AccRow.{AccRow}
 use Rattle.mg_model.specs.declared.limits.TheConstants.{NEVER as never}
 use Rattle.mg_model.specs.declared.slots.Pw.{Pw}
 use Rattle.mg_model.specs.declared.slots.Slot.{Slot}
-use Rattle.mg_model.specs.declared.threads.ThrState.{ThrState}
-use Rattle.mg_model.specs.declared.threads.ThrState.TheVariants.{Faulted, Ready, Stopped}
-use Rattle.mg_model.specs.Print.{fault_text, hex_digits, hex_text, spaced}
+use Rattle.mg_model.specs.declared.rights.Right.{Right}
+use Rattle.mg_model.specs.Print.{hex_digits, hex_text, spaced}
+use Rattle.mg_model.specs.Rights.{has_right, letters}
 use Rattle.mg_model.specs.Settings.{Settings}
-use Rattle.mg_model.specs.State.{CallFrame, Counters, Object, ObjectRow, State, Thread, ThreadRow}
+use Rattle.mg_model.specs.State.{CallFrame, Counters, Object, ObjectRow, State, Thread, ThreadRow, state_row}
 
 -- a line: its first word, the others, each behind a space, and a newline
 abbrev pub line : List ℕ → List (List ℕ) → List ℕ
 line head words = head ++ spaced words ++ 10 ∷ []
 
--- the letters of the six rights, each with its bit
-abbrev pub lettered : List (ℕ × ℕ)
-lettered = (82, 1) ∷ (87, 2) ∷ (88, 4) ∷ (68, 8) ∷ (80, 16) ∷ (79, 32) ∷ []
-
 -- the letters of a set of rights, out of RWXDPO in this order
 abbrev pub rights_text : ℕ → List ℕ
-rights_text rights = map (λ (l : ℕ × ℕ). l.0) (filter (λ (l : ℕ × ℕ). rights / l.1 % 2 == 1) lettered)
+rights_text rights = map (λ (l : ℕ × Right). l.0) (filter (λ (l : ℕ × Right). has_right rights l.1) letters)
 
 -- the first period at which a password is current no more
 abbrev pub until_text : ℕ → List ℕ
@@ -91,11 +87,6 @@ object_text row = object_line row ++ flat_map password_text row.passwords ++ fla
 
 -- Threads, each with its frames and their slots
 
-abbrev pub thread_state_text : ThrState → List ℕ
-thread_state_text Ready = codes "Ready"
-thread_state_text Stopped = codes "Stopped"
-thread_state_text (Faulted kind) = codes "Faulted " ++ fault_text kind
-
 abbrev pub frame_text : CallFrame → List ℕ
 frame_text frame = line (codes "frame") (hex_text frame.back ∷ []) ++ flat_map (slot_text (codes "slot")) frame.slots
 
@@ -103,7 +94,7 @@ frame_text frame = line (codes "frame") (hex_text frame.back ∷ []) ++ flat_map
 abbrev pub thread_head : ℕ → ThreadRow → List ℕ
 thread_head number row =
     codes "thread"
-    ++ spaced (decimal number ∷ decimal row.birth ∷ decimal row.creator ∷ hex_text row.pc ∷ thread_state_text row.state ∷ [])
+    ++ spaced (decimal number ∷ decimal row.birth ∷ decimal row.creator ∷ hex_text row.pc ∷ (state_row row.state).1 ∷ [])
 
 abbrev pub registers_text : List ℕ → List ℕ
 registers_text regs = spaced (map hex_text regs) ++ 10 ∷ []

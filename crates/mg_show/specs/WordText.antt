@@ -4,7 +4,8 @@ use Rattle.mg_model.specs.Bytes.{block_words}
 use Rattle.mg_model.specs.Objects.{page_of}
 use Rattle.mg_model.specs.Print.{hex_text}
 use Rattle.mg_model.specs.State.{ObjectRow}
-use Rattle.mg_model.specs.Volume.{page_words, pages_words}
+use Rattle.mg_model.specs.Abbreviations.{pages_words}
+use Rattle.mg_model.specs.Volume.{page_words}
 use Rattle.mg_show.specs.StateText.{line, words_text}
 
 -- a word; nothing where it is 0

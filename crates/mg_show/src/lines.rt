@@ -3,11 +3,11 @@ ghost use Rattle.std.specs.Prelude.{◌≡◌, ◌+◌, ◌*◌, ◌/◌, ◌%�
 ghost use Rattle.std.specs.Fmt.{decimal};
 ghost use Rattle.arrayvec.specs.ArrayVec.{array_vec_len};
 ghost use Rattle.mg_model.specs.Print.{hex_digit, hex_digits, hex_text, spaced};
-ghost use Rattle.mg_show.specs.StateText.{account_text, counters_text, line, made_text, object_line, password_text, rights_text, seed_text, step_text, thread_head, thread_state_text, until_text};
+ghost use Rattle.mg_show.specs.StateText.{account_text, counters_text, line, made_text, object_line, password_text, rights_text, seed_text, step_text, thread_head, until_text};
 
 use arrayvec::ArrayVec;
-use mg_model::{AccRow, Fault, Globals, ObjRow, Params, Pw, Tariff, ThrRow, ThrState};
-use mg_text::{push_number, push_text, push_word};
+use mg_model::{AccRow, Globals, ObjRow, Params, Pw, Tariff, ThrRow};
+use mg_text::{push_number, push_text, push_word, state_words};
 
 /// A line as it is printed.
 pub(crate) type Line = ArrayVec<u8, 256>;
@@ -234,20 +234,6 @@ pub(crate) fn print_thread(number: u64, row: &ThrRow) -> Line
     push_text(&mut out, b" ");
     push_text(&mut out, state_words(row.state()));
     out
-}
-
-/// The words for the state of a thread, at most 14 bytes.
-fn state_words(state: ThrState) -> &'static [u8]
-    ensures text { result.now ≡ thread_state_text state }
-    ensures short { length result.now ≤ 14 }
-{
-    match state {
-        ThrState::Ready => b"Ready",
-        ThrState::Stopped => b"Stopped",
-        ThrState::Faulted(Fault::Align) => b"Faulted Align",
-        ThrState::Faulted(Fault::Denied) => b"Faulted Denied",
-        ThrState::Faulted(Fault::Opcode) => b"Faulted Opcode",
-    }
 }
 
 /// The line of an object that a thread reaches, with the rights whose bits these are.

@@ -4,7 +4,7 @@ ghost use Rattle.std.specs.Option.{ForSome};
 ghost use Rattle.mg_check.specs.Reads.{CanRead, contents};
 ghost use Rattle.mg_disk.specs.Stops.{CountRose, OnlyRead};
 ghost use Rattle.mg_journal.specs.Looked.{Fits};
-ghost use Rattle.mg_model.specs.Access.{entries_of, entries_under, holds};
+ghost use Rattle.mg_model.specs.Access.{pairs_of, pairs_under, holds};
 ghost use Rattle.mg_model.specs.Bytes.{block_words};
 ghost use Rattle.mg_model.specs.Replay.{block_of, replay};
 ghost use Rattle.mg_model.specs.Volume.{page_words};
@@ -82,7 +82,7 @@ pub(crate) type List = Few<Slot, 255>;
 /// The list that a slot opens now; an empty one if its password does not open it, or after a fault.
 pub(crate) fn list_under<D: Disk>(shown: &Shown, slot: Slot, disk: &mut D, out: &mut Writer) -> List
     requires can { CanShow D.Disk shown.now disk.old }
-    ensures { Learns D.Disk (held_in shown.now) (λ r. named_by result ≡ entries_under (state_shown shown.now r).objects shown.now.counters.period slot) disk.old disk.new out.old out.new }
+    ensures { Learns D.Disk (held_in shown.now) (λ r. named_by result ≡ pairs_under (state_shown shown.now r).objects shown.now.counters.period slot) disk.old disk.new out.old out.new }
 {
     match shown.objects.get(slot.base) {
         Some(row) => {
@@ -108,14 +108,14 @@ pub(crate) fn list_of<D: Disk>(shown: &Shown, row: &ObjRow, disk: &mut D, out: &
 
 // The list in a page that was read.
 fn list_read(is_held: bool, block: &Block) -> List
-    ensures { named_by result ≡ entries_of (words_read is_held block.now) }
+    ensures { named_by result ≡ pairs_of (words_read is_held block.now) }
 {
     if is_held { list_in(block) } else { Few::new() }
 }
 
 // The list in a block.
 fn list_in(block: &Block) -> List
-    ensures { named_by result ≡ entries_of (block_words block.now) }
+    ensures { named_by result ≡ pairs_of (block_words block.now) }
 {
     let mut list = Few::new();
     for k in 0..entries(number_at(block, 0)) {

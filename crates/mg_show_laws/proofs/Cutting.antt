@@ -1,11 +1,5 @@
 -- Where a text is cut: a word ends at a blank, a line at its newline, and lines of one kind before a line of another.
-use Rattle.std.specs.Prelude.{flat_map, if◌then◌else◌, ◌==◌}
-use Rattle.std.proofs.Common.{◌≡◌, ℕ, ◌+◌, ◌<◌, ◌≤◌, List, [], ◌∷◌, ◌++◌, get_or, map, refl, ap, sym, ◌∙◌, arith, append_assoc, All}
-use Rattle.std.proofs.lemmas.List.{append_cancel_left}
-use Rattle.std.proofs.lemmas.List.Elements.{All-head, All-tail}
-use Rattle.mg_model.specs.Print.{spaced}
-use Rattle.mg_text.specs.NumberLemmas.{High}
-use Rattle.mg_show.specs.StateText.{line}
+use Rattle.mg_show_laws.proofs.Names.{flat_map, if◌then◌else◌, ◌==◌, ◌≡◌, ℕ, ◌+◌, ◌<◌, ◌≤◌, List, [], ◌∷◌, ◌++◌, get_or, map, refl, ap, sym, ◌∙◌, arith, append_assoc, All, append_cancel_left, All-head, All-tail, spaced, High, line}
 
 -- two things are one, and what stands behind the text of each
 abbrev pub Same : {A : Type 0} → A → A → List ℕ → List ℕ → Type 0

@@ -1,4 +1,5 @@
 mod Cutting
+mod Names
 mod ObjectsTold
 mod SettingsTold
 mod StateTold

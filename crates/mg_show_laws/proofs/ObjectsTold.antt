@@ -1,19 +1,10 @@
 -- Accounts, and objects with their passwords, entries and extensions: the lines of each tell it, whatever stands behind.
-use Rattle.std.specs.Prelude.{codes, flat_map}
+use Rattle.mg_show_laws.proofs.Names.{codes, flat_map, decimal, ◌≡◌, ℕ, ◌+◌, ◌^◌, ◌<◌, List, [], ◌∷◌, ◌++◌, Option, Some, None, refl, ap, sym, ◌∙◌, arith, append_assoc, All, decimal_injective, All-head, All-tail, All-weaker, hex_text, IsExtension, IsObjectRow, IsSlot, IsWord, ObjectRow, hex-high, account_text, accounts_text, entry_text, extension_text, object_line, object_text, password_text, rights_text, slot_text, until_text}
 use Rattle.std.specs.Option.{ForSome}
-use Rattle.std.specs.Fmt.{decimal}
-use Rattle.std.proofs.Common.{◌≡◌, ℕ, ◌+◌, ◌^◌, ◌<◌, List, [], ◌∷◌, ◌++◌, Option, Some, None, refl, ap, sym, ◌∙◌, arith, append_assoc, All}
-use Rattle.std.proofs.lemmas.Fmt.{decimal_injective}
-use Rattle.std.proofs.lemmas.List.Elements.{All-head, All-tail, All-weaker}
 use Rattle.mg_model.specs.declared.accounts.AccRow.{AccRow}
 use Rattle.mg_model.specs.declared.slots.Pw.{Pw}
 use Rattle.mg_model.specs.declared.slots.Slot.{Slot}
 use Rattle.mg_model.specs.PasswordRows.{IsPassword}
-use Rattle.mg_model.specs.Print.{hex_text}
-use Rattle.mg_model.specs.Ranges.{IsExtension, IsObjectRow, IsSlot, IsWord}
-use Rattle.mg_model.specs.State.{ObjectRow}
-use Rattle.mg_text.specs.NumberLemmas.{hex-high}
-use Rattle.mg_show.specs.StateText.{account_text, accounts_text, entry_text, extension_text, object_line, object_text, password_text, rights_text, slot_text, until_text}
 use Rattle.mg_show_laws.proofs.Cutting.{AllHigh, IsAt, Same, Tells, four-apart, level, line-cut, list-level, list-told, nth}
 use Rattle.mg_show_laws.proofs.ValuesTold.{decimal-high, hex-told, rights-high, rights-told, until-high, until-told}
 

@@ -1,16 +1,7 @@
 -- The settings and the counters: their lines tell them, whatever stands behind.
-use Rattle.std.specs.Prelude.{codes, IsTrue}
-use Rattle.std.specs.Fmt.{decimal}
-use Rattle.std.proofs.Common.{◌≡◌, ℕ, ◌^◌, ◌<◌, List, [], ◌∷◌, ◌++◌, map, sym, ◌∙◌, arith, All}
-use Rattle.std.proofs.lemmas.Bool.Decides.{nat_tests}
-use Rattle.std.proofs.lemmas.Fmt.{decimal_injective}
-use Rattle.std.proofs.lemmas.List.Elements.{All-from_recursion, All-nil}
-use Rattle.mg_model.specs.Ranges.{IsCounters}
+use Rattle.mg_show_laws.proofs.Names.{codes, IsTrue, decimal, ◌≡◌, ℕ, ◌^◌, ◌<◌, List, [], ◌∷◌, ◌++◌, map, sym, ◌∙◌, arith, All, nat_tests, decimal_injective, All-from_recursion, All-nil, IsCounters, Counters, IsSettings, counters_text, line, seed_text, settings_text, step_text}
 use Rattle.mg_model.specs.Settings.{Settings, within_limits}
-use Rattle.mg_model.specs.State.{Counters}
 use Rattle.mg_model.specs.Tariff.{is_tariff}
-use Rattle.mg_model.specs.WellFormed.{IsSettings}
-use Rattle.mg_show.specs.StateText.{counters_text, line, seed_text, settings_text, step_text}
 use Rattle.mg_show_laws.proofs.Cutting.{AllHigh, Same, four-apart, line-cut, map-high, map-told, nth}
 use Rattle.mg_show_laws.proofs.ValuesTold.{IsStep, decimal-high, seed-high, seed-told, step-high, step-told}
 

@@ -1,12 +1,6 @@
 -- Two well-formed states with one text: their settings, counters, accounts, rows of objects, threads and words are told one after another.
-use Rattle.std.specs.Prelude.{flat_map}
-use Rattle.std.proofs.Common.{◌≡◌, ℕ, ◌<◌, List, ◌++◌, ap, sym, ◌∙◌, arith, append_assoc, All}
-use Rattle.std.proofs.lemmas.List.Elements.{All-map, All-weaker}
+use Rattle.mg_show_laws.proofs.Names.{flat_map, ◌≡◌, ℕ, ◌<◌, List, ◌++◌, ap, sym, ◌∙◌, arith, append_assoc, All, All-map, All-weaker, IsObjectRow, Object, State, IsObject, IsWellFormed, accounts_text, counters_text, object_text, pages_paid, rows_in, settings_text, state_text, thread_text}
 use Rattle.std.proofs.lemmas.List.Sums.{get_or-le-sum_by}
-use Rattle.mg_model.specs.Ranges.{IsObjectRow}
-use Rattle.mg_model.specs.State.{Object, State}
-use Rattle.mg_model.specs.WellFormed.{IsObject, IsWellFormed}
-use Rattle.mg_show.specs.StateText.{accounts_text, counters_text, object_text, pages_paid, rows_in, settings_text, state_text, thread_text}
 use Rattle.mg_show_laws.proofs.Cutting.{flat_map-over, level, list-level, list-told}
 use Rattle.mg_show_laws.proofs.ObjectsTold.{IsFunds, accounts-told, object-at, object-told}
 use Rattle.mg_show_laws.proofs.SettingsTold.{counters-told, settings-told, within-fits}

@@ -1,13 +1,5 @@
 -- Threads, with their registers, frames and slots: the lines of each tell it, whatever stands behind.
-use Rattle.std.specs.Prelude.{codes, flat_map}
-use Rattle.std.specs.Fmt.{decimal}
-use Rattle.std.proofs.Common.{◌≡◌, ℕ, ◌^◌, ◌<◌, List, [], ◌∷◌, ◌++◌, drop, map, refl, ap, sym, ◌∙◌, arith, append_assoc}
-use Rattle.std.proofs.lemmas.Fmt.{decimal_injective}
-use Rattle.mg_model.specs.Print.{hex_text, spaced}
-use Rattle.mg_model.specs.Ranges.{IsCallFrame, IsSlot, IsThreadRow, IsWord}
-use Rattle.mg_model.specs.State.{CallFrame, Thread, ThreadRow}
-use Rattle.mg_text.specs.NumberLemmas.{hex-high}
-use Rattle.mg_show.specs.StateText.{frame_text, line, registers_text, slot_text, thread_head, thread_state_text, thread_text}
+use Rattle.mg_show_laws.proofs.Names.{codes, flat_map, decimal, ◌≡◌, ℕ, ◌^◌, ◌<◌, List, [], ◌∷◌, ◌++◌, drop, map, refl, ap, sym, ◌∙◌, arith, append_assoc, decimal_injective, hex_text, spaced, IsCallFrame, IsSlot, IsThreadRow, IsWord, CallFrame, Thread, ThreadRow, state_row, hex-high, frame_text, line, registers_text, slot_text, thread_head, thread_text}
 use Rattle.mg_show_laws.proofs.Cutting.{AllHigh, IsAt, Tells, all-high-append, line-cut, list-told, map-high, map-told, nth, spaced-append}
 use Rattle.mg_show_laws.proofs.ObjectsTold.{slot-told}
 use Rattle.mg_show_laws.proofs.ValuesTold.{decimal-high, hex-told, state-high, state-spaced, state-told, state_words}
@@ -53,7 +45,7 @@ thread-line : (number : ℕ) (row : ThreadRow)
 unfolding thread_words
 thread-line number row =
     let front = decimal number ∷ decimal row.birth ∷ decimal row.creator ∷ hex_text row.pc ∷ [] in
-    let state = thread_state_text row.state ∷ [] in
+    let state = (state_row row.state).1 ∷ [] in
     let spelled = state_words row.state in
     let regs = map hex_text row.regs in
     ap (λ words. (codes "thread" ++ words) ++ (spaced regs ++ 10 ∷ [])) (spaced-append front state)

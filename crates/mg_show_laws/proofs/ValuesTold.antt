@@ -1,20 +1,10 @@
 -- Values as words: no two have one text, and no text has a blank.
-use Rattle.std.specs.Prelude.{◌==◌, codes, filter, ◌&&◌, if◌then◌else◌}
-use Rattle.std.specs.Fmt.{decimal, digit_glyph, digits, digits_onto}
-use Rattle.std.proofs.Common.{◌≡◌, ℕ, zero, suc, ◌+◌, ◌/◌, ◌%◌, ◌^◌, ◌<◌, ◌≤◌, Bool, true, false, eqb, leb, List, [], ◌∷◌, ◌++◌, Some, get_or, map, refl, ap, sym, ◌∙◌, arith, All}
-use Rattle.std.proofs.lemmas.Bool.{agree_below_at, and_parts, cond_both, eqb-true, leb-true}
-use Rattle.std.proofs.lemmas.Bool.Decides.{nat_tests}
-use Rattle.std.proofs.lemmas.Fmt.{decimal_injective}
-use Rattle.std.proofs.lemmas.List.{append_cancel_left}
-use Rattle.std.proofs.lemmas.List.Elements.{All-head, All-tail}
+use Rattle.mg_show_laws.proofs.Names.{◌==◌, codes, filter, ◌&&◌, if◌then◌else◌, decimal, digit_glyph, digits, digits_onto, ◌≡◌, ℕ, zero, suc, ◌+◌, ◌/◌, ◌%◌, ◌^◌, ◌<◌, ◌≤◌, Bool, true, false, eqb, leb, List, [], ◌∷◌, ◌++◌, Some, get_or, map, refl, ap, sym, ◌∙◌, arith, All, agree_below_at, and_parts, cond_both, eqb-true, leb-true, nat_tests, decimal_injective, append_cancel_left, All-head, All-tail, hex_digit, hex_text, spaced, IsWord, state_row, Digits, High, decimal-digits, high-append, number_of-hex, rights_text, seed_text, step_text, until_text}
+use Rattle.mg_model.specs.declared.rights.Right.{Right}
 use Rattle.mg_model.specs.declared.threads.Fault.TheVariants.{Align, Denied, Opcode}
 use Rattle.mg_model.specs.declared.threads.ThrState.{ThrState}
 use Rattle.mg_model.specs.declared.threads.ThrState.TheVariants.{Faulted, Ready, Stopped}
-use Rattle.mg_model.specs.Print.{fault_text, hex_digit, hex_text, spaced}
-use Rattle.mg_model.specs.Ranges.{IsWord}
 use Rattle.mg_model.specs.Words.{number_of}
-use Rattle.mg_text.specs.NumberLemmas.{Digits, High, decimal-digits, high-append, number_of-hex}
-use Rattle.mg_show.specs.StateText.{rights_text, seed_text, step_text, thread_state_text, until_text}
 use Rattle.mg_show_laws.proofs.Cutting.{AllHigh, cut}
 
 -- a text of known bytes has no blank, by computation
@@ -70,10 +60,10 @@ rights-back rights few =
 pub rights-told : (m n : ℕ) → m < 64 → n < 64 → rights_text m ≡ rights_text n → m ≡ n
 rights-told m n few few' e = sym (rights-back m few) ∙ ap bits_of e ∙ rights-back n few'
 
-abbrev letters_of : List (ℕ × ℕ) → List ℕ
-letters_of letters = map (λ (l : ℕ × ℕ). l.0) letters
+abbrev letters_of : List (ℕ × Right) → List ℕ
+letters_of letters = map (λ (l : ℕ × Right). l.0) letters
 
-letters-high : (has : ℕ × ℕ → Bool) (letters : List (ℕ × ℕ)) → High (letters_of letters) → High (letters_of (filter has letters))
+letters-high : (has : ℕ × Right → Bool) (letters : List (ℕ × Right)) → High (letters_of letters) → High (letters_of (filter has letters))
 letters-high has [] high = tt
 letters-high has (l ∷ letters) high = grind (arith, (letters-high has letters high.1), cond_both)
 
@@ -143,9 +133,11 @@ seed-high (b ∷ bytes) = (hex_digit-high (b / 16 % 16), (hex_digit-high (b % 16
 abbrev pub state_words : ThrState → List (List ℕ)
 state_words Ready = codes "Ready" ∷ []
 state_words Stopped = codes "Stopped" ∷ []
-state_words (Faulted kind) = codes "Faulted" ∷ fault_text kind ∷ []
+state_words (Faulted Align) = codes "Faulted" ∷ codes "Align" ∷ []
+state_words (Faulted Denied) = codes "Faulted" ∷ codes "Denied" ∷ []
+state_words (Faulted Opcode) = codes "Faulted" ∷ codes "Opcode" ∷ []
 
-pub state-spaced : (state : ThrState) → spaced (thread_state_text state ∷ []) ≡ spaced (state_words state)
+pub state-spaced : (state : ThrState) → spaced ((state_row state).1 ∷ []) ≡ spaced (state_words state)
 state-spaced Ready = refl
 state-spaced Stopped = refl
 state-spaced (Faulted Align) = refl

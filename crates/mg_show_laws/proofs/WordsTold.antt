@@ -1,15 +1,6 @@
 -- The words of objects: a line tells its address, so the words of one object end where those of the next begin.
-use Rattle.std.specs.Prelude.{AllPairs, codes, flat_map}
-use Rattle.std.proofs.Common.{◌≡◌, ℕ, suc, ◌+◌, ◌*◌, ◌^◌, ◌<◌, ◌≤◌, cond, eqb, List, [], ◌∷◌, ◌++◌, length, map, refl, ap, sym, subst, ◌∙◌, arith, append_assoc, All}
-use Rattle.std.proofs.lemmas.Bool.{cond_both, eqb-true}
-use Rattle.std.proofs.lemmas.List.Elements.{All-head, All-tail}
+use Rattle.mg_show_laws.proofs.Names.{AllPairs, codes, flat_map, ◌≡◌, ℕ, suc, ◌+◌, ◌*◌, ◌^◌, ◌<◌, ◌≤◌, cond, eqb, List, [], ◌∷◌, ◌++◌, length, map, refl, ap, sym, subst, ◌∙◌, arith, append_assoc, All, cond_both, eqb-true, All-head, All-tail, hex_text, IsWord, Object, ObjectRow, IsBefore, IsObject, hex-high, line, words_text}
 use Rattle.mg_model.specs.Objects.{page_behind}
-use Rattle.mg_model.specs.Print.{hex_text}
-use Rattle.mg_model.specs.Ranges.{IsWord}
-use Rattle.mg_model.specs.State.{Object, ObjectRow}
-use Rattle.mg_model.specs.WellFormed.{IsBefore, IsObject}
-use Rattle.mg_text.specs.NumberLemmas.{hex-high}
-use Rattle.mg_show.specs.StateText.{line, words_text}
 use Rattle.mg_show_laws.proofs.Cutting.{AllHigh, Same, level, line-cut, nth}
 use Rattle.mg_show_laws.proofs.ValuesTold.{hex-told}
 

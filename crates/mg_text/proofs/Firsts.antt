@@ -3,7 +3,8 @@ use Rattle.std.proofs.Common.{◌≡◌, ℕ, zero, suc, ◌+◌, ◌==◌, ◌&
 use Rattle.std.specs.List.{prefix_len}
 use Rattle.std.specs.Option.{option_map_or}
 use Rattle.std.proofs.lemmas.Bool.Decides.{nat_tests}
-use Rattle.mg_model.specs.Words.{below_word, hex_part, is_blank, value_of_digits, words}
+use Rattle.mg_model.specs.Abbreviations.{below_word}
+use Rattle.mg_model.specs.Words.{hex_part, is_blank, value_of_digits, words}
 use Rattle.mg_text.specs.Fronts.{before_blank, first_number, from_blank}
 use Rattle.mg_text.specs.PieceLemmas.{pieces-found, pieces-lacking}
 

@@ -6,7 +6,8 @@ use Rattle.std.specs.List.{prefix_len}
 use Rattle.std.proofs.lemmas.Bool.{ltb-false, ltb-true}
 use Rattle.std.proofs.lemmas.Bool.Decides.{nat_tests}
 use Rattle.std.proofs.lemmas.List.Sums.{prefix_len-drop_yes, prefix_len-le-length}
-use Rattle.mg_model.specs.Words.{and_then, below_word, digit_of, is_blank, value_from, value_of_digits}
+use Rattle.mg_model.specs.Abbreviations.{below_word}
+use Rattle.mg_model.specs.Words.{and_then, digit_of, is_blank, value_from, value_of_digits}
 use Rattle.mg_text.specs.Fronts.{digits_front, from_blank, number_before_blank}
 use Rattle.mg_text.proofs.Values.{value_from-large}
 

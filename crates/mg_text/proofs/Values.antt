@@ -2,7 +2,8 @@
 use Rattle.std.proofs.Common.{◌≡◌, ℕ, ◌+◌, ◌*◌, ◌^◌, ◌<◌, ◌≤◌, nat_lt, Bool, true, false, List, [], ◌∷◌, Some, None, if◌then◌else◌, refl, ap, arith}
 use Rattle.std.proofs.Math.Nat.{mul-le-mul_left}
 use Rattle.std.proofs.lemmas.Bool.{le-ltb, ltb-false, ltb-true}
-use Rattle.mg_model.specs.Words.{and_then, below_word, digit_of, value_from}
+use Rattle.mg_model.specs.Abbreviations.{below_word}
+use Rattle.mg_model.specs.Words.{and_then, digit_of, value_from}
 
 -- once past 64 bits, always past them
 pub value_from-large : (base n : ℕ) (xs : List ℕ) → 0 < base → 2 ^ 64 ≤ n → below_word (value_from base n xs) ≡ None

@@ -2,7 +2,8 @@
 use Rattle.std.specs.Prelude.{ℕ, not, List, [], ◌∷◌, take, drop, Option, None, is_some}
 use Rattle.std.specs.List.{prefix_len}
 use Rattle.std.specs.Prelude.{option_map}
-use Rattle.mg_model.specs.Words.{below_word, digit_of, is_blank, number_of, value_of_digits}
+use Rattle.mg_model.specs.Abbreviations.{below_word}
+use Rattle.mg_model.specs.Words.{digit_of, is_blank, number_of, value_of_digits}
 
 -- the digits that these bytes begin with
 abbrev pub digits_front : ℕ → List ℕ → List ℕ

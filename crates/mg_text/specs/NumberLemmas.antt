@@ -5,7 +5,8 @@ use Rattle.std.specs.Option.{option_map_or}
 use Rattle.std.proofs.lemmas.Bool.Decides.{nat_tests}
 use Rattle.std.proofs.lemmas.Fmt.{decimal_by_steps, decimal_nonempty, length-decimal-le}
 use Rattle.mg_model.specs.Print.{hex_digit, hex_digits, hex_text}
-use Rattle.mg_model.specs.Words.{and_then, below_word, digit_of, hex_part, is_some_word, number_of, value_from, value_of_digits}
+use Rattle.mg_model.specs.Abbreviations.{below_word}
+use Rattle.mg_model.specs.Words.{and_then, digit_of, hex_part, is_some_word, number_of, value_from, value_of_digits}
 
 -- decimal digits
 abbrev pub Digits : List ℕ → Type 0

@@ -1,10 +1,10 @@
 -- The pieces between cuts that are not empty, taken one by one from the front.
 use Rattle.std.proofs.Common.{◌≡◌, ℕ, suc, ◌+◌, ◌<◌, Bool, true, false, not, List, [], ◌∷◌, filter, take, drop, refl, arith}
-use Rattle.std.specs.List.{prefix_len}
-use Rattle.mg_model.specs.Words.{is_some_word, onto_first, split_at}
+use Rattle.std.specs.List.{onto_first, prefix_len, slice_split}
+use Rattle.mg_model.specs.Words.{is_some_word}
 
 abbrev pieces : (ℕ → Bool) → List ℕ → List (List ℕ)
-pieces cuts bytes = filter is_some_word (split_at cuts bytes)
+pieces cuts bytes = filter is_some_word (slice_split cuts bytes)
 
 -- how many bytes are before the first cut
 abbrev before : (ℕ → Bool) → List ℕ → ℕ
@@ -28,15 +28,15 @@ grown b y w rest (p ∷ ps) e = cc
 
 -- a piece continues up to the first cut
 goes_case : (cuts : ℕ → Bool) (b y : ℕ) (ys : List ℕ) (v : Bool) → cuts y ≡ v
-    → filter is_some_word (onto_first y (split_at cuts ys)) ≡ (y ∷ take (before cuts ys) ys) ∷ pieces cuts (drop (before cuts ys) ys)
-    → filter is_some_word (onto_first b (split_at cuts (y ∷ ys))) ≡ (b ∷ take (before cuts (y ∷ ys)) (y ∷ ys)) ∷ pieces cuts (drop (before cuts (y ∷ ys)) (y ∷ ys))
+    → filter is_some_word (onto_first y (slice_split cuts ys)) ≡ (y ∷ take (before cuts ys) ys) ∷ pieces cuts (drop (before cuts ys) ys)
+    → filter is_some_word (onto_first b (slice_split cuts (y ∷ ys))) ≡ (b ∷ take (before cuts (y ∷ ys)) (y ∷ ys)) ∷ pieces cuts (drop (before cuts (y ∷ ys)) (y ∷ ys))
 goes_case cuts b y ys true e ih = rw (e, e)
 goes_case cuts b y ys false e ih =
     let s : 1 + before cuts ys ≡ suc (before cuts ys) = omega arith in
-    rw (e, s) (grown b y (take (before cuts ys) ys) (pieces cuts (drop (before cuts ys) ys)) (split_at cuts ys) ih)
+    rw (e, s) (grown b y (take (before cuts ys) ys) (pieces cuts (drop (before cuts ys) ys)) (slice_split cuts ys) ih)
 
 pieces-goes : (cuts : ℕ → Bool) (b : ℕ) (ys : List ℕ)
-    → filter is_some_word (onto_first b (split_at cuts ys)) ≡ (b ∷ take (before cuts ys) ys) ∷ pieces cuts (drop (before cuts ys) ys)
+    → filter is_some_word (onto_first b (slice_split cuts ys)) ≡ (b ∷ take (before cuts ys) ys) ∷ pieces cuts (drop (before cuts ys) ys)
 pieces-goes cuts b [] = refl
 pieces-goes cuts b (y ∷ ys) = goes_case cuts b y ys (cuts y) refl (pieces-goes cuts y ys)
 

@@ -17,6 +17,8 @@ mod words;
 pub use lines::read_line;
 pub use numbers::{digit, read_number};
 pub use outcomes::{print_numbers, print_small, print_words};
-pub use replies::{print_reply, push_number, push_text, push_word, refusal_word, value_line};
+pub use replies::{
+    print_reply, push_number, push_text, push_word, refusal_word, state_words, value_line,
+};
 pub use rights::read_rights;
 pub use words::is_word;

@@ -1,6 +1,6 @@
 // From the bytes of a line to its call.
 ghost use Rattle.std.specs.Prelude.{◌≡◌};
-ghost use Rattle.mg_model.specs.Lines.{call_line, is_among, is_note, line_of, line_with, lone_words, spelled_line, thread_line};
+ghost use Rattle.mg_model.specs.Lines.{call_line, is_note, line_of, line_with, spelled_line, thread_line, is_lone};
 ghost use Rattle.mg_model.specs.Words.{words};
 
 use crate::calls::read_call;
@@ -94,7 +94,7 @@ fn line_with(thread: u64, call: Call) -> Line
 
 /// Whether a call word begins its line, with no thread's number before it.
 fn stands_alone(word: &[u8]) -> bool
-    ensures { result ≡ is_among word.now lone_words }
+    ensures { result ≡ is_lone word.now }
 {
     is_word(word, b"next") || is_word(word, b"rent")
 }

@@ -1,7 +1,8 @@
 // From a word to the number that it spells.
 ghost use Rattle.std.specs.Prelude.{◌≡◌, ◌≤◌, ◌<◌, ◌+◌, ◌*◌, ◌⊎◌, ℕ, List, IfSome, Some, drop, is_some, length, nat_lt, option_map};
 ghost use Rattle.std.specs.List.{prefix_len};
-ghost use Rattle.mg_model.specs.Words.{below_word, digit_of, hex_part, number_of, value_of_digits, words};
+ghost use Rattle.mg_model.specs.Abbreviations.{below_word};
+ghost use Rattle.mg_model.specs.Words.{digit_of, hex_part, number_of, value_of_digits, words};
 ghost use Rattle.mg_text.specs.Fronts.{digits_front, first_number, number_before_blank};
 
 use crate::words::{at_blank, blanks};

@@ -1,14 +1,15 @@
 // From a reply to its line.
+ghost use Rattle.mg_model.specs.State.{state_row};
 ghost use Rattle.std.specs.Prelude.{◌≡◌, ◌+◌, ◌/◌, ◌%◌, ◌≤◌, ◌<◌, [], ◌∷◌, ◌++◌, drop, length, map};
 ghost use Rattle.std.specs.Fmt.{decimal};
 ghost use Rattle.arrayvec.specs.ArrayVec.{array_vec_len};
 ghost use Rattle.mg_model.specs.declared.replies.Reply.TheVariants as reply;
 ghost use Rattle.mg_model.specs.Print.{after_text, hex_digit, hex_digits, hex_text, reply_line, reply_text, spaced};
-ghost use Rattle.mg_model.specs.Refused.{refusal_text};
+ghost use Rattle.mg_model.specs.Abbreviations.{refusal_text};
 ghost use Rattle.mg_model.specs.FewSlots.{HasFewSlots};
 
 use arrayvec::ArrayVec;
-use mg_model::{After, Fault, Refusal, Reply};
+use mg_model::{Fault, Refusal, Reply, ThrState};
 
 /// The two hexadecimal digits of each byte, one after the other.
 static PAIRS: [u8; 512] = *b"\
@@ -69,14 +70,7 @@ fn push_reply(answer: &Reply, out: &mut Buffer)
             push_number(out, *number);
             push_word(out, *password);
         }
-        Reply::About {
-            base,
-            pages,
-            account,
-            passwords,
-            entries,
-            ext,
-        } => {
+        Reply::About(base, pages, account, passwords, entries, ext) => {
             push_word(out, *base);
             push_number(out, *pages);
             push_number(out, *account);
@@ -84,7 +78,7 @@ fn push_reply(answer: &Reply, out: &mut Buffer)
             push_number(out, *entries);
             push_number(out, *ext);
         }
-        Reply::Slots { count, bases } => {
+        Reply::Slots(count, bases) => {
             push_number(out, *count);
             push_words(out, &bases[..*count as usize]);
         }
@@ -132,17 +126,28 @@ pub fn refusal_word(refusal: Refusal) -> &'static [u8]
     }
 }
 
-fn after_words(state: After) -> &'static [u8]
-    ensures text { result.now ≡ after_text state }
+/// The text of what a thread is after its turn.
+fn after_words(left: Option<ThrState>) -> &'static [u8]
+    ensures text { result.now ≡ after_text left }
+    ensures short { length result.now ≤ 14 }
+{
+    match left {
+        Some(state) => state_words(state),
+        None => b"Ended",
+    }
+}
+
+/// The text of a thread's state, at most 14 bytes.
+pub fn state_words(state: ThrState) -> &'static [u8]
+    ensures text { result.now ≡ (state_row state).1 }
     ensures short { length result.now ≤ 14 }
 {
     match state {
-        After::Ready => b"Ready",
-        After::Stopped => b"Stopped",
-        After::Faulted(Fault::Align) => b"Faulted Align",
-        After::Faulted(Fault::Denied) => b"Faulted Denied",
-        After::Faulted(Fault::Opcode) => b"Faulted Opcode",
-        After::Ended => b"Ended",
+        ThrState::Ready => b"Ready",
+        ThrState::Stopped => b"Stopped",
+        ThrState::Faulted(Fault::Align) => b"Faulted Align",
+        ThrState::Faulted(Fault::Denied) => b"Faulted Denied",
+        ThrState::Faulted(Fault::Opcode) => b"Faulted Opcode",
     }
 }
 
@@ -155,13 +160,13 @@ pub fn push_text(out: &mut ArrayVec<u8, 256>, text: &[u8])
     let _ = out.try_extend_from_slice(text);
 }
 
-fn push_after(out: &mut Buffer, state: After)
+fn push_after(out: &mut Buffer, left: Option<ThrState>)
     requires { array_vec_len out.old ≤ 200 }
-    ensures text { out.new.items ≡ out.old.items ++ spaced (after_text state ∷ []) }
+    ensures text { out.new.items ≡ out.old.items ++ spaced (after_text left ∷ []) }
     ensures short { array_vec_len out.new ≤ array_vec_len out.old + 15 }
 {
     out.push(b' ');
-    push_text(out, after_words(state));
+    push_text(out, after_words(left));
 }
 
 /// Writes a space and a word in hexadecimal after what the buffer holds: `0x` and 16 digits.

@@ -8,7 +8,8 @@ use Rattle.std.proofs.lemmas.Option.{slice_get_past}
 use Rattle.mg_bank.specs.AccountLemmas.{length-taken}
 use Rattle.mg_check.specs.RowsRead.{placed_from}
 use Rattle.mg_model.specs.declared.accounts.AccRow.{AccRow}
-use Rattle.mg_model.specs.Bank.{account_of, given_to, taken_from, with_account}
+use Rattle.mg_model.specs.Abbreviations.{with_account}
+use Rattle.mg_model.specs.Bank.{account_of, credited, debited}
 use Rattle.mg_volume.specs.RowLists.{ArePlaced, row_at}
 use Rattle.mg_volume.specs.StagesAccounts.{DifferWithin}
 
@@ -51,10 +52,10 @@ changed_beside change rows n i other = by_row (account_of rows n)
     by_row None = refl
     by_row (Some row) = set_beside rows (n - 1) i (change row) other
 
-taken_beside : (rows : List AccRow) (n amount i : ℕ) → i ≢ n - 1 → slice_get (taken_from rows n amount) i ≡ slice_get rows i
+taken_beside : (rows : List AccRow) (n amount i : ℕ) → i ≢ n - 1 → slice_get (debited rows n amount) i ≡ slice_get rows i
 taken_beside rows n amount i other = changed_beside (λ row. record row { balance = row.balance - amount }) rows n i other
 
-given_beside : (rows : List AccRow) (n amount i : ℕ) → i ≢ n - 1 → slice_get (given_to rows n amount) i ≡ slice_get rows i
+given_beside : (rows : List AccRow) (n amount i : ℕ) → i ≢ n - 1 → slice_get (credited rows n amount) i ≡ slice_get rows i
 given_beside rows n amount i other = changed_beside (λ row. record row { balance = row.balance + amount }) rows n i other
 
 -- another block, another place
@@ -66,12 +67,18 @@ abbrev pub are_both : ℕ → ℕ → ℕ → Bool
 are_both a b k = (k == a) || (k == b)
 
 -- one account more differs in the blocks of the payer and of the last
-pub opened_within : (rows rows' : List AccRow) (payer amount : ℕ) (row : AccRow) (j k : ℕ) → rows' ≡ taken_from rows payer amount ++ row ∷ [] → j ≡ (payer - 1) / 64 → k ≡ length rows / 64 → DifferWithin (are_both j k) rows rows'
+pub opened_within : (rows rows' : List AccRow) (payer amount : ℕ) (row : AccRow) (j k : ℕ) → rows' ≡ debited rows payer amount ++ row ∷ [] → j ≡ (payer - 1) / 64 → k ≡ length rows / 64 → DifferWithin (are_both j k) rows rows'
 opened_within rows rows' payer amount row j k is first last = grind (arith, or_parts, length-taken, joined_beside, apart, taken_beside)
 
 -- a payment in those of both accounts
-pub paid_within : (rows rows' : List AccRow) (from to amount j k : ℕ) → rows' ≡ given_to (taken_from rows from amount) to amount → j ≡ (from - 1) / 64 → k ≡ (to - 1) / 64 → DifferWithin (are_both j k) rows rows'
-paid_within rows rows' from to amount j k is first second = grind (arith, or_parts, given_beside, apart, taken_beside)
+pub paid_within : (rows rows' : List AccRow) (from to amount j k : ℕ) → rows' ≡ credited (debited rows from amount) to amount → j ≡ (from - 1) / 64 → k ≡ (to - 1) / 64 → DifferWithin (are_both j k) rows rows'
+paid_within rows rows' from to amount j k is first second = record {
+  each = λ i _ other.
+      let (here, there) = or_parts (i / 64 == j) (i / 64 == k) other in
+      ap (λ rs. slice_get rs i) is
+      ∙ given_beside (debited rows from amount) to amount i (apart i (to - 1) k second there)
+      ∙ taken_beside rows from amount i (apart i (from - 1) j first here);
+}
 
 -- as many rows differ in the blocks that hold one alone
 pub all_within : (blocks : ℕ) (old new : List AccRow) → length new ≡ length old → length old ≤ 64 * blocks → DifferWithin (λ k. nat_lt k blocks) old new

@@ -10,7 +10,7 @@ use Rattle.mg_model.specs.KeptListLemmas.{AllPairs-head, AllPairs-tail}
 use Rattle.mg_model.specs.Limits.{thread_limit}
 use Rattle.mg_model.specs.Ranges.{IsThreadRow}
 use Rattle.mg_model.specs.State.{ThreadRow}
-use Rattle.mg_model.specs.Volume.{with_live}
+use Rattle.mg_model.specs.Abbreviations.{with_live}
 use Rattle.mg_objects.specs.Held.{live_from}
 use Rattle.mg_volume.proofs.ObjectLists.{distinct_map, placed_distinct}
 use Rattle.mg_volume.proofs.ThreadLists.{numbered_set}

@@ -5,7 +5,7 @@ use Rattle.std.proofs.Common.{sym, ap, ◌∙◌, arith}
 use Rattle.mg_bank.specs.Bank.{pages_at}
 use Rattle.mg_disk.specs.Disk.{Image}
 use Rattle.mg_model.specs.declared.accounts.AccRow.{AccRow}
-use Rattle.mg_model.specs.Bank.{all_charged, all_paid, given_to, rate_now, rate_of, rent_accounts, rent_paid, used}
+use Rattle.mg_model.specs.Bank.{all_charged, all_paid, credited, rate_now, rate_of, rent_accounts, rent_paid, used}
 use Rattle.mg_model.specs.KeptListLemmas.{sum_by-filter-le}
 use Rattle.mg_model.specs.State.{Object, ObjectRow}
 use Rattle.mg_rent.specs.Charging.{ArePagesOf}
@@ -40,8 +40,11 @@ accounts-are v image = sym (now_accounts v image)
 
 -- the accounts that were charged at the rate of the state are those after its rent
 pub rented : (v : VolumeHeld) (rows : List AccRow) (rate : ℕ) (image : Image) → rate ≡ rate_now (now_of v image)
-    → ((objects : List Object) → AreRowsOf objects v.objects → rows ≡ given_to (all_charged objects rate 1 v.accounts) 1 (all_paid objects rate 1 v.accounts)) → rows ≡ rent_accounts (now_of v image)
-rented v rows rate image rate_is told = grind (arith, objects_are, accounts-are)
+    → ((objects : List Object) → AreRowsOf objects v.objects → rows ≡ credited (all_charged objects rate 1 v.accounts) 1 (all_paid objects rate 1 v.accounts)) → rows ≡ rent_accounts (now_of v image)
+rented v rows rate image rate_is told =
+    let state = now_of v image in
+    let charged : ℕ → List AccRow → List AccRow = λ r accounts. credited (all_charged state.objects r 1 accounts) 1 (all_paid state.objects r 1 accounts) in
+    told state.objects (objects_are v image) ∙ ap (charged rate) (accounts-are v image) ∙ ap (λ r. charged r state.accounts) rate_is
 
 -- and what they paid is the rent
 pub rent_is : (v : VolumeHeld) (paid rate : ℕ) (image : Image) → rate ≡ rate_now (now_of v image)

@@ -12,7 +12,8 @@ use Rattle.mg_model.specs.Layout.{total_blocks}
 use Rattle.mg_model.specs.Objects.{page_of}
 use Rattle.mg_model.specs.Replay.{replay}
 use Rattle.mg_model.specs.State.{ObjectRow}
-use Rattle.mg_model.specs.Volume.{Is, object_spelled, volume, whole_table}
+use Rattle.mg_model.specs.Abbreviations.{whole_table}
+use Rattle.mg_model.specs.Volume.{Is, object_spelled, volume}
 use Rattle.mg_pages.specs.ComingLemmas.{length_coming, low_coming}
 use Rattle.mg_pages.specs.Committing.{HasContents}
 use Rattle.mg_pages.specs.declared.pages.Pages.{Pages}

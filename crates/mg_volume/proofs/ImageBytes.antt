@@ -12,8 +12,9 @@ use Rattle.mg_journal.specs.JournalLemmas.{open_writes, replayed-is}
 use Rattle.mg_model.specs.Bytes.{block_words, bytes_at, number_at, numbers_at}
 use Rattle.mg_model.specs.Layout.{first_frame, segment_count}
 use Rattle.mg_model.specs.Ranges.{IsWord}
-use Rattle.mg_model.specs.Replay.{block_of, body_count, is_open, replay, writes_from, writes_of, writes_since, written}
-use Rattle.mg_model.specs.Volume.{page_words, pages_words}
+use Rattle.mg_model.specs.Abbreviations.{pages_words, writes_from, writes_since}
+use Rattle.mg_model.specs.Replay.{block_of, body_count, is_open, replay, writes_of, written}
+use Rattle.mg_model.specs.Volume.{page_words}
 
 -- a byte, or 0 past the end
 byte-at : (bytes : List ℕ) (k : ℕ) → IsBytes bytes → slice_index bytes k < 256

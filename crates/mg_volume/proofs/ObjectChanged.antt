@@ -15,7 +15,8 @@ use Rattle.mg_model.specs.Objects as model
 use Rattle.mg_model.specs.Objects.{page_of}
 use Rattle.mg_model.specs.Ranges.{IsObjectRow}
 use Rattle.mg_model.specs.State.{ObjectRow}
-use Rattle.mg_model.specs.Volume.{bound_pages, object_spelled, pages_words}
+use Rattle.mg_model.specs.Abbreviations.{pages_words}
+use Rattle.mg_model.specs.Volume.{bound_pages, object_spelled}
 use Rattle.mg_objects.specs.Held.{with_row}
 use Rattle.mg_pages.specs.declared.pages.Pages.{Pages}
 use Rattle.mg_pages.specs.Meaning as pages

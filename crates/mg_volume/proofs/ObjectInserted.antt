@@ -11,7 +11,8 @@ use Rattle.mg_model.specs.Limits.{object_limit}
 use Rattle.mg_model.specs.Objects.{page_behind, page_of, with_object}
 use Rattle.mg_model.specs.Ranges.{IsObjectRow}
 use Rattle.mg_model.specs.State.{ObjectRow}
-use Rattle.mg_model.specs.Volume.{page_words, pages_words}
+use Rattle.mg_model.specs.Abbreviations.{pages_words}
+use Rattle.mg_model.specs.Volume.{page_words}
 use Rattle.mg_pages.specs.declared.pages.Pages.{Pages}
 use Rattle.mg_pages.specs.Meaning as pages
 use Rattle.mg_volume.proofs.BareRows.{sum_bare}

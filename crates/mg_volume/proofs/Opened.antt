@@ -17,7 +17,7 @@ use Rattle.mg_journal.specs.Contents.{SameContents}
 use Rattle.mg_journal.specs.Standing as journal
 use Rattle.mg_journal.specs.Held.{Store}
 use Rattle.mg_model.specs.declared.accounts.AccRow.{AccRow}
-use Rattle.mg_model.specs.Abbreviations.{account_row_bytes, object_row_bytes, table_of, thread_row_bytes}
+use Rattle.mg_model.specs.Abbreviations.{account_row_bytes, is_page_of, object_row_bytes, table_of, thread_row_bytes, whole_table}
 use Rattle.mg_model.specs.Bytes.{are_zeros}
 use Rattle.mg_model.specs.Layout.{globals_block, total_blocks}
 use Rattle.mg_model.specs.Limits.{account_limit, thread_limit, object_limit}
@@ -26,7 +26,7 @@ use Rattle.mg_model.specs.Replay.{block_of, replay}
 use Rattle.mg_model.specs.Spelling.{account_read, globals_read, object_read, thread_read}
 use Rattle.mg_model.specs.State.{Object, ObjectRow, State, ThreadRow}
 use Rattle.mg_model.specs.Tests.{all_distinct}
-use Rattle.mg_model.specs.Volume.{Rows, accounts_fit, bound_pages, is_page_of, live_rows, objects_fit, replayed_volume, state_fits, threads_fit, volume, whole_table}
+use Rattle.mg_model.specs.Volume.{Rows, accounts_fit, bound_pages, live_rows, objects_fit, replayed_volume, state_fits, threads_fit, volume}
 use Rattle.mg_objects.specs.Held as held
 use Rattle.mg_objects.specs.Held.{AreApart, by_base}
 use Rattle.mg_pages.specs.declared.pages.Pages.{Pages}

@@ -10,7 +10,7 @@ use Rattle.std.proofs.lemmas.List.Elements.{All-nil, All-weaker}
 use Rattle.std.proofs.lemmas.List.Kept.{AllPairs-cons}
 use Rattle.mg_disk.specs.Disk.{AreBytes, Image}
 use Rattle.mg_model.specs.declared.accounts.AccRow.{AccRow}
-use Rattle.mg_model.specs.Abbreviations.{thread_row_bytes}
+use Rattle.mg_model.specs.Abbreviations.{pages_words, thread_row_bytes}
 use Rattle.mg_model.specs.Bank.{used}
 use Rattle.mg_model.specs.KeptListLemmas.{All-both, All-change, All-unmap, AllPairs-change, AllPairs-head, AllPairs-nil, AllPairs-tail}
 use Rattle.mg_model.specs.Limits.{thread_limit}
@@ -20,7 +20,7 @@ use Rattle.mg_model.specs.Spelling.{thread_read}
 use Rattle.mg_model.specs.State.{Object, ObjectRow, Thread, ThreadRow}
 use Rattle.mg_model.specs.Tests.{all_distinct}
 use Rattle.mg_model.specs.RowTestLemmas.{distinct-tells, list_all-tells}
-use Rattle.mg_model.specs.Volume.{accounts_fit, are_apart, begins_with_first, object_spelled, objects_fit, pages_words, threads_fit}
+use Rattle.mg_model.specs.Volume.{accounts_fit, are_apart, begins_with_first, object_spelled, objects_fit, threads_fit}
 use Rattle.mg_model.specs.WellFormed.{AreAccounts, AreObjects, AreThreads, IsAccount, IsBefore, IsFirst, IsObject, IsSettings, IsThread, IsWellFormed}
 use Rattle.mg_pages.specs.SpelledLemmas as laws
 use Rattle.mg_pages.specs.Meaning as pages

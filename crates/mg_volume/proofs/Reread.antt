@@ -9,14 +9,14 @@ use Rattle.mg_check.specs.declared.volume_rows.VolumeRows.{VolumeRows}
 use Rattle.mg_disk.specs.Disk.{Image, SeenBut}
 use Rattle.mg_journal.specs.Contents.{InJournal, SameContents}
 use Rattle.mg_model.specs.declared.accounts.AccRow.{AccRow}
-use Rattle.mg_model.specs.Abbreviations.{account_row_bytes, object_row_bytes, thread_row_bytes}
+use Rattle.mg_model.specs.Abbreviations.{account_row_bytes, object_row_bytes, thread_row_bytes, whole_table}
 use Rattle.mg_model.specs.Bytes.{are_zeros}
 use Rattle.mg_model.specs.Layout.{first_frame, globals_block, total_blocks}
 use Rattle.mg_model.specs.Limits.{account_limit, thread_limit, object_limit}
 use Rattle.mg_model.specs.Replay.{block_of, replay}
 use Rattle.mg_model.specs.Spelling.{account_read, globals_read, object_read, thread_read}
 use Rattle.mg_model.specs.State.{Counters, ObjectRow, ThreadRow}
-use Rattle.mg_model.specs.Volume.{Damaged, Is, Rows, live_rows, replayed_volume, rows_of, volume, volume_behind, whole_table}
+use Rattle.mg_model.specs.Volume.{Damaged, Is, Rows, live_rows, replayed_volume, rows_of, volume, volume_behind}
 use Rattle.mg_model.specs.VolumeLemmas.{rows_from, rows_with, volume-opened}
 use Rattle.mg_volume.specs.Contents.{IsSet, contents_set, opened, replay_set, rows_behind, same_behind, volume_contents}
 

@@ -5,7 +5,7 @@ use Rattle.std.specs.Prelude.{◌≡◌, ◌+◌, ℕ, List, MatchOption, Option
 use Rattle.std.specs.List.{splice}
 use Rattle.std.proofs.Common.{ap, subst, ◌∙◌}
 use Rattle.std.proofs.lemmas.List.{set-set}
-use Rattle.mg_model.specs.Bytes.{word_bytes}
+use Rattle.mg_model.specs.Abbreviations.{word_bytes}
 use Rattle.mg_model.specs.Spelling.{thread_bytes}
 use Rattle.mg_model.specs.State.{ThreadRow}
 use Rattle.mg_pages.specs.declared.pages.Pages.{Pages}

@@ -3,7 +3,7 @@ use Rattle.std.specs.Prelude.{◌≡◌, ◌+◌, ℕ, List, true, is_some, IfSo
 use Rattle.std.specs.List.{splice}
 use Rattle.std.proofs.Common.{refl, sym, ap, subst, ◌∙◌}
 use Rattle.mg_disk.specs.Disk.{Image, block_at}
-use Rattle.mg_model.specs.Bytes.{word_bytes}
+use Rattle.mg_model.specs.Abbreviations.{word_bytes}
 use Rattle.mg_model.specs.Layout.{globals_block}
 use Rattle.mg_model.specs.Ranges.{IsCounters}
 use Rattle.mg_model.specs.Replay.{block_of}

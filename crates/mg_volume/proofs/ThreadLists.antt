@@ -7,7 +7,7 @@ use Rattle.std.proofs.Common.{refl, sym, ap, ⊎_elim, arith}
 use Rattle.std.proofs.lemmas.Bool.{cases_eq, cases_lt}
 use Rattle.mg_model.specs.State.{Thread, ThreadRow}
 use Rattle.mg_model.specs.Threads.{with_new_thread}
-use Rattle.mg_model.specs.Volume.{with_live}
+use Rattle.mg_model.specs.Abbreviations.{with_live}
 use Rattle.mg_volume.proofs.Found.{as_thread}
 use Rattle.mg_volume.specs.RowLists.{ArePlaced, placed_wider, row_set}
 use Rattle.mg_volume.specs.Staging.{threads_with}

@@ -6,7 +6,7 @@ use Rattle.std.proofs.lemmas.Bool.{and_parts, eqb-true, le-leb, leb-true}
 use Rattle.std.proofs.lemmas.Bool.Decides.{nat_tests}
 use Rattle.mg_disk.specs.Disk.{Image, SameBut, SeenBut}
 use Rattle.mg_journal.specs.Contents.{InJournal, SameContents}
-use Rattle.mg_model.specs.Abbreviations.{account_row_bytes, object_row_bytes, thread_row_bytes}
+use Rattle.mg_model.specs.Abbreviations.{account_row_bytes, fitting, object_row_bytes, pages_words, table_entries, thread_row_bytes, whole_table}
 use Rattle.mg_model.specs.Bytes.{block_words}
 use Rattle.mg_model.specs.Layout.{first_account_block, first_frame, first_object_block, first_thread_block, gate_block, gate_open, globals_block, super_block, table_block, table_blocks, total_blocks}
 use Rattle.mg_model.specs.Limits.{account_limit, thread_limit, object_limit}
@@ -15,7 +15,7 @@ use Rattle.mg_model.specs.Replay.{block_of, replay}
 use Rattle.mg_model.specs.Settings.{Settings}
 use Rattle.mg_model.specs.Spelling.{Spells, account_read, globals_read, object_read, super_read, thread_read}
 use Rattle.mg_model.specs.State.{ObjectRow}
-use Rattle.mg_model.specs.Volume.{Damaged, Rows, fitting, has_open_gate, live_rows, objects_spelled, page_words, pages_words, replayed_volume, rows_of, state_spelled, table_entries, volume, volume_behind, whole_table, IsOpened, gate_byte}
+use Rattle.mg_model.specs.Volume.{Damaged, Rows, has_open_gate, live_rows, objects_spelled, page_words, replayed_volume, rows_of, state_spelled, volume, volume_behind, IsOpened, gate_byte}
 use Rattle.mg_model.specs.VolumeLemmas.{live_rows-same, rows_from, state_with, table_short, volume-opened}
 use Rattle.mg_pages.specs.ComingLemmas.{length_replay, replay_low}
 use Rattle.mg_pages.specs.Committing.{HasContents}

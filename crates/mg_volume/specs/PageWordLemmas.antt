@@ -7,13 +7,13 @@ use Rattle.std.proofs.lemmas.Bool.{and_from, and_parts, both_ways, cases_Bool, c
 use Rattle.std.proofs.lemmas.List.{get_or_append_left, get_or-append_right, set-append_left, set-append_right}
 use Rattle.std.proofs.lemmas.List.Elements.{All-head, All-tail}
 use Rattle.mg_disk.specs.Disk.{Image}
-use Rattle.mg_model.specs.Abbreviations.{word_in}
+use Rattle.mg_model.specs.Abbreviations.{pages_words, word_in}
 use Rattle.mg_model.specs.Access.{at, covers}
 use Rattle.mg_model.specs.Limits.{first_page}
 use Rattle.mg_model.specs.Objects.{page_behind, page_of, with_word, word_at}
 use Rattle.mg_model.specs.Ranges.{IsObjectRow}
 use Rattle.mg_model.specs.State.{ObjectRow}
-use Rattle.mg_model.specs.Volume.{object_spelled, page_words, pages_words}
+use Rattle.mg_model.specs.Volume.{object_spelled, page_words}
 use Rattle.mg_pages.specs.LengthLemmas.{length-page}
 use Rattle.mg_volume.specs.Meaning.{is_page_in}
 use Rattle.mg_volume.specs.Sound.{all_spelled}

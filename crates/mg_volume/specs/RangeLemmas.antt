@@ -4,13 +4,13 @@ use Rattle.std.specs.List.{list_all}
 use Rattle.std.proofs.Common.{refl, ap, ◌∙◌, subst}
 use Rattle.std.proofs.lemmas.Bool.{and_from, and_parts}
 use Rattle.mg_disk.specs.Disk.{Image}
-use Rattle.mg_model.specs.Abbreviations.{object_row_bytes}
+use Rattle.mg_model.specs.Abbreviations.{object_row_bytes, with_live}
 use Rattle.mg_model.specs.Bytes.{are_zeros}
 use Rattle.mg_model.specs.Limits.{object_limit}
 use Rattle.mg_model.specs.Spelling.{Read, object_bytes, object_fields, object_read}
 use Rattle.mg_model.specs.State.{ObjectRow}
 use Rattle.mg_model.specs.Tests.{is_object_row}
-use Rattle.mg_model.specs.Volume.{live_rows, with_live}
+use Rattle.mg_model.specs.Volume.{live_rows}
 use Rattle.mg_model.specs.Words.{and_then, same_bytes}
 use Rattle.mg_pages.specs.Meaning as pages
 use Rattle.mg_volume.specs.Held.{VolumeHeld}

@@ -4,7 +4,8 @@ use Rattle.std.specs.Prelude.{◌≡◌, ◌≢◌, ◌+◌, ◌≤◌, ◌<◌,
 use Rattle.std.proofs.Common.{refl, sym, ap, subst, ◌∙◌, ⊎_elim, arith}
 use Rattle.std.proofs.lemmas.Bool.{cases_eq, cases_lt, eq-eqb, le-ltb, lt-ltb, ne_eqb}
 use Rattle.mg_model.specs.Spelling.{Read}
-use Rattle.mg_model.specs.Volume.{live_rows, with_live}
+use Rattle.mg_model.specs.Abbreviations.{with_live}
+use Rattle.mg_model.specs.Volume.{live_rows}
 use Rattle.mg_model.specs.Words.{and_then}
 
 -- the row at a place

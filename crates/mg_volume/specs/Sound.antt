@@ -7,14 +7,14 @@ use Rattle.std.proofs.lemmas.Bool.{and_from, and_parts, cases_Bool, eq-eqb}
 use Rattle.std.proofs.lemmas.List.Sums.{sum_by-cons}
 use Rattle.mg_disk.specs.Disk.{Image}
 use Rattle.mg_model.specs.declared.accounts.AccRow.{AccRow}
-use Rattle.mg_model.specs.Abbreviations.{accounts_spelled, table_of, threads_spelled}
+use Rattle.mg_model.specs.Abbreviations.{accounts_spelled, fitting, is_page_of, table_of, threads_spelled, whole_table}
 use Rattle.mg_model.specs.Bank.{used}
 use Rattle.mg_model.specs.Bytes.{are_zeros}
 use Rattle.mg_model.specs.Objects.{page_behind, page_of, with_object}
 use Rattle.mg_model.specs.Settings.{Settings}
 use Rattle.mg_model.specs.State.{Counters, Object, ObjectRow, State, Thread, ThreadRow}
 use Rattle.mg_model.specs.Tests.{all_distinct}
-use Rattle.mg_model.specs.Volume.{Damaged, Is, Rows, accounts_fit, are_apart, bound_pages, fitting, has_no_gap, is_page_of, object_spelled, objects_fit, objects_spelled, replayed_volume, rows_of, state_fits, state_spelled, threads_fit, whole_table}
+use Rattle.mg_model.specs.Volume.{Damaged, Is, Rows, accounts_fit, are_apart, bound_pages, has_no_gap, object_spelled, objects_fit, objects_spelled, replayed_volume, rows_of, state_fits, state_spelled, threads_fit}
 use Rattle.mg_model.specs.VolumeLemmas.{rows-read, rows_with}
 use Rattle.mg_pages.specs.SpelledLemmas as laws
 use Rattle.mg_pages.specs.Meaning as pages

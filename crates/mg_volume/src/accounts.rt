@@ -2,7 +2,7 @@
 ghost use Rattle.std.specs.Prelude.{List, ◌≡◌, ◌≤◌, ◌<◌, ◌+◌, ◌-◌, ◌*◌, ◌/◌, ◌++◌, ◌∷◌, ◌^◌, ◌==◌, [], ℕ, IfOk, MatchResult, None, OnErr, OnOk, Some, false, length, true};
 ghost use Rattle.mg_bank.specs.Bank.{credits_of};
 ghost use Rattle.mg_bank.specs.Refusals.{opening_refusal, paying_refusal};
-ghost use Rattle.mg_model.specs.Bank.{given_to, rate_now, taken_from};
+ghost use Rattle.mg_model.specs.Bank.{credited, rate_now, debited};
 ghost use Rattle.mg_model.specs.declared.replies.Refusal.TheVariants.{Calendar};
 ghost use Rattle.mg_model.specs.Limits.{period_limit};
 ghost use Rattle.mg_rent.specs.Charging.{OweAtMost};
@@ -51,7 +51,7 @@ impl Volume {
         requires at_most_158_staged { staged_of self.old ≤ 158 }
         ensures refusal { MatchResult result (λ _. opening_refusal (accounts_in self.old) account password credits ≡ None) (λ word. opening_refusal (accounts_in self.old) account password credits ≡ Some word) }
         ensures number { IfOk result (λ number. number ≡ length (accounts_in self.old) + 1) }
-        ensures now { OnOk result ((image : List (List ℕ)) → now_of self.new image ≡ record (now_of self.old image) { accounts = taken_from (accounts_in self.old) account credits ++ record { password = fresh; balance = credits; owed = 0 } ∷ [] }) }
+        ensures now { OnOk result ((image : List (List ℕ)) → now_of self.new image ≡ record (now_of self.old image) { accounts = debited (accounts_in self.old) account credits ++ record { password = fresh; balance = credits; owed = 0 } ∷ [] }) }
         ensures rows { OnOk result (objects_in self.new ≡ objects_in self.old) }
         ensures stages { OnOk result (Stages 2 self.old self.new) }
         ensures objects { OnOk result (ObjectsStillStaged self.old self.new) }
@@ -70,7 +70,7 @@ impl Volume {
     pub fn pay(&mut self, from: u64, password: u64, to: u64, credits: u64) -> Result<(), Refusal>
         requires at_most_158_staged { staged_of self.old ≤ 158 }
         ensures refusal { MatchResult result (λ _. paying_refusal (accounts_in self.old) from password to credits ≡ None) (λ word. paying_refusal (accounts_in self.old) from password to credits ≡ Some word) }
-        ensures now { OnOk result ((image : List (List ℕ)) → now_of self.new image ≡ record (now_of self.old image) { accounts = given_to (taken_from (accounts_in self.old) from credits) to credits }) }
+        ensures now { OnOk result ((image : List (List ℕ)) → now_of self.new image ≡ record (now_of self.old image) { accounts = credited (debited (accounts_in self.old) from credits) to credits }) }
         ensures rows { OnOk result (objects_in self.new ≡ objects_in self.old) }
         ensures stages { OnOk result (Stages 2 self.old self.new) }
         ensures objects { OnOk result (ObjectsStillStaged self.old self.new) }

@@ -12,7 +12,7 @@ use Rattle.mg_model.specs.Settings.{Settings}
 use Rattle.mg_model.specs.Volume.{Is, volume}
 use Rattle.mg_serve.specs.declared.status.Status.{Status}
 use Rattle.mg_serve.specs.declared.status.Status.TheVariants as status
-use Rattle.mg_serve.specs.Sessions.{disk_use, sink_use, source_use}
+use Rattle.mg_serve.specs.Sessions.{use_of}
 use Rattle.mg_volume_session.specs.Headline.{DryKeeps, EndsRun, RunKeeps, session_of}
 
 fresh_image : (settings : Settings) (told told' : Option Image) (image : Image) → told ≡ Some image → ReadsFresh settings told told' → (c : Image) × (told' ≡ Some c) × (volume c ≡ Is (fresh settings))
@@ -38,8 +38,8 @@ none_rose rose = ⊎_elim (λ (less : 0 < 0). omega (arith, less)) (λ (spent : 
 
 pub dry_keeps : {D S K : Type 0} (facts : Ghosts D) (from : sources.Ghosts S) (to : sinks.Ghosts K) (settings : Settings) (result : Status) (before d d' : D) (zeros : Image) (source source' : S) (sink sink' : K) (steps steps' : ℕ)
     → facts.seen before ≡ Some zeros → ReadsFresh settings (facts.seen before) (facts.seen d) → (CountRose facts d d' → ⊥)
-    → RunKeeps (session_of 64 result (disk_use facts d d') (source_use from source source') (sink_use to sink sink') steps steps')
-    → DryKeeps settings result (source_use from source source') (sink_use to sink sink') steps steps'
+    → RunKeeps (session_of 64 result (use_of facts d d') (use_of from source source') (use_of to sink sink') steps steps')
+    → DryKeeps settings result (use_of from source source') (use_of to sink sink') steps steps'
 dry_keeps facts from to settings result before d d' zeros source source' sink sink' steps steps' told made quiet h =
     let (image, seen, is) = fresh_image settings (facts.seen before) (facts.seen d) zeros told made in record {
       answers = h.lines.answers image seen (fresh settings) is;

@@ -30,7 +30,7 @@ use Rattle.mg_model.specs.Step.{after, step}
 use Rattle.mg_model.specs.Warmth.{cost, events}
 use Rattle.mg_serve.specs.declared.status.Status.{Status}
 use Rattle.mg_serve.specs.declared.status.Status.TheVariants as status
-use Rattle.mg_serve.specs.Sessions.{sink_use}
+use Rattle.mg_serve.specs.Sessions.{use_of}
 use Rattle.mg_volume_session.specs.Generating.{At, Counted, Counts}
 use Rattle.mg_volume_session.specs.Headline.{GenKeeps, replies_from, run_lines}
 use Rattle.mg_volume_session.proofs.Texts.{after-append}
@@ -121,7 +121,7 @@ pub run_keeps : {K : Type 0} (to : sinks.Ghosts K) → CountsAreTold → (number
     → (result ≡ status.Done → Appends (to.taken k) (to.taken k') (tally_text tally))
     → AppendsPrefix (to.taken k) (to.taken k') (tally_text tally)
     → (result ≡ status.Sink → Rose (to.faults k) (to.faults k') (to.is_spent k'))
-    → GenKeeps number count result (sink_use to k k') n n'
+    → GenKeeps number count result (use_of to k k') n n'
 run_keeps to are_told number count result k k' n n' tally counts spent ends put prefix rose = record {
   done = λ h. subst (λ t. Appends (to.taken k) (to.taken k') t) told (put h);
   prefix = subst (λ t. AppendsPrefix (to.taken k) (to.taken k') t) told prefix;

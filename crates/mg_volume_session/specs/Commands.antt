@@ -69,14 +69,11 @@ abbrev pub is_check : List (List ℕ) → Bool
 is_check (volume ∷ word ∷ []) = same_bytes word (codes "check")
 is_check words = false
 
--- a batch of this many replies, if it may have as many
-abbrev pub batch_within : ℕ → Option ℕ
-batch_within batch = if nat_le 1 batch && nat_le batch 64 then Some batch else None
-
--- `VOLUME run` and `VOLUME run BATCH`
+-- `VOLUME run` and `VOLUME run BATCH`: the number of replies in a batch, 1 to 64
 abbrev pub run_of : List (List ℕ) → Option ℕ
 run_of (volume ∷ word ∷ []) = if same_bytes word (codes "run") then Some 1 else None
-run_of (volume ∷ word ∷ batch ∷ []) = if same_bytes word (codes "run") then and_then (number_of batch) batch_within else None
+run_of (volume ∷ word ∷ batch ∷ []) =
+    if same_bytes word (codes "run") then and_then (number_of batch) (λ n. if nat_le 1 n && nat_le n 64 then Some n else None) else None
 run_of words = None
 
 -- a run of this many lines, if it may have as many

@@ -1,5 +1,5 @@
 -- What the words of a command spell, whatever the volume is called, and parts of them: what the functions that read them promise.
-use Rattle.std.specs.Prelude.{ℕ, List, [], ◌∷◌, if◌then◌else◌, Option, Some, None, codes}
+use Rattle.std.specs.Prelude.{ℕ, ◌&&◌, nat_le, List, [], ◌∷◌, if◌then◌else◌, Option, Some, None, codes}
 use Rattle.mg_model.specs.Settings.{Settings}
 use Rattle.mg_model.specs.Words.{and_then, same_bytes}
 use Rattle.mg_volume_session.specs.Commands.{dry_of, format_of, gen_of, run_of, settings_of}
@@ -20,6 +20,10 @@ format_usual word frames seed credits = format_of ([] ∷ word ∷ frames ∷ se
 abbrev pub format_with : Option (List (ℕ × ℕ)) → List ℕ → List ℕ → List ℕ → List ℕ → Option Settings
 format_with tariff word frames seed credits =
     if same_bytes word (codes "format") then and_then tariff (λ steps. settings_of (λ _. steps) frames seed credits) else None
+
+-- a batch of this many replies, if it may have as many
+abbrev pub batch_within : ℕ → Option ℕ
+batch_within batch = if nat_le 1 batch && nat_le batch 64 then Some batch else None
 
 -- `run`
 abbrev pub run_alone : List ℕ → Option ℕ

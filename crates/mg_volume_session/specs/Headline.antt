@@ -11,7 +11,7 @@ use Rattle.mg_disk.specs.declared.disk.Disk as disks
 use Rattle.mg_faults.specs.Faults.{Rose}
 use Rattle.mg_gen.specs.Generated.{line_text, run_settings}
 use Rattle.mg_gen.specs.Summary.{summary_text}
-use Rattle.mg_io.specs.Arguments.{usage_line}
+use Rattle.mg_io.specs.Arguments.{PutsUsage}
 use Rattle.mg_io.specs.Known.{AppendsPrefix}
 use Rattle.mg_io.specs.declared.traits.Sink as sinks
 use Rattle.mg_layout.specs.MayFormat.{IsNoState, MayFormat, ReadsFresh}
@@ -23,13 +23,13 @@ use Rattle.mg_model.specs.Ended.{ended_lines}
 use Rattle.mg_model.specs.Fresh.{fresh, root_base}
 use Rattle.mg_model.specs.Layout.{total_blocks}
 use Rattle.mg_model.specs.Lines.{line_of, lines}
-use Rattle.mg_model.specs.Print.{hex_text, ok_text, spaced, text}
+use Rattle.mg_model.specs.Print.{hex_text, ok_text, replies_text, spaced}
 use Rattle.mg_model.specs.Settings.{Settings}
 use Rattle.mg_model.specs.State.{State}
 use Rattle.mg_model.specs.Step.{after, step}
 use Rattle.mg_model.specs.Volume.{Damaged, Is, NotVolume, OldVolume, VolumeRead, volume}
 use Rattle.mg_model.specs.Warmth.{cost}
-use Rattle.mg_serve.specs.Sessions.{AlwaysLeft, Answers, DiskRose, DiskUse, Ends, EndsSession, Holds, HoldsExactly, IfShort, IsCut, IsDoneOrMemory, OfInput, Puts, PutsPrefix, SinkRose, SinkUse, SourceRose, SourceUse, SpellsNow, input_limit, left_at, left_now, taken_of}
+use Rattle.mg_serve.specs.Sessions.{AlwaysLeft, Answers, DiskRose, DiskUse, Ends, EndsSession, Holds, HoldsExactly, IfShort, IsCut, IsDoneOrMemory, OfInput, Puts, PutsPrefix, SinkRose, SinkUse, SourceRose, SourceUse, SpellsNow, input_limit, left_at, left_now, consumed}
 use Rattle.mg_serve.specs.declared.status.Status.{Status}
 use Rattle.mg_serve.specs.declared.status.Status.TheVariants as status
 
@@ -57,8 +57,8 @@ CostsAtMost s ls steps steps' = steps' ≤ steps + cost s ls
 -- It rose by no more than the lines of the bytes that were taken may cost. If the last of them was cut, it is not among them.
 abbrev pub IsWithinCost : State → Status → Option (List ℕ) → Option (List ℕ) → ℕ → ℕ → Type 0
 IsWithinCost s result left left' steps steps' =
-    IfSome left (λ input. IsSomeAnd left' (λ rest. CostsAtMost s (lines (taken_of input rest)) steps steps'
-    × (IsCut result rest → CostsAtMost s (ended_lines (taken_of input rest)) steps steps')))
+    IfSome left (λ input. IsSomeAnd left' (λ rest. CostsAtMost s (lines (consumed input rest)) steps steps'
+    × (IsCut result rest → CostsAtMost s (ended_lines (consumed input rest)) steps steps')))
 
 -- `VOLUME run` and `VOLUME run BATCH`
 
@@ -140,9 +140,9 @@ pub record RunCosts {D S K : Type 0} (s : Session D S K) : Type 0 where
   pub none_steps : s.result ≡ status.NoVolume → s.steps' ≡ s.steps
   pub untouched_steps : OfNoState s.disk (s.steps' ≡ s.steps)
 
--- What `run` keeps: the machine's replies are `text`, and its states `after`; and what it may cost.
+-- What `run` keeps: the machine's replies are `replies_text`, and its states `after`; and what it may cost.
 pub record RunKeeps {D S K : Type 0} (s : Session D S K) : Type 0 where
-  pub lines : LinesKeep text after s
+  pub lines : LinesKeep replies_text after s
   pub costs : RunCosts s
 
 -- `VOLUME dry FRAMES SEED CREDITS`
@@ -150,7 +150,7 @@ pub record RunKeeps {D S K : Type 0} (s : Session D S K) : Type 0 where
 -- What `dry` keeps, from the fresh state of these settings, in batches of 64 replies.
 pub record DryKeeps {S K : Type 0} (settings : Settings) (result : Status) (i : SourceUse S) (o : SinkUse K)
     (steps steps' : ℕ) : Type 0 where
-  pub answers : Answers (text (fresh settings)) result i o
+  pub answers : Answers (replies_text (fresh settings)) result i o
   -- At each status the counter rose by no more than the lines that were read may cost.
   pub cost : IsWithinCost (fresh settings) result (left_at i) (left_now i) steps steps'
   pub ends : Ends 64 input_limit result i o
@@ -271,10 +271,6 @@ pub record PutsLast {K : Type 0} (to : sinks.Ghosts K) (ran : Status) (last : Li
 -- What is kept if the words spell no command.
 pub record UsageKeeps {D S K : Type 0} (to : sinks.Ghosts K) (result : Status)
     (disk disk' : D) (source source' : S) (sink sink' : K) : Type 0 where
-  pub which : (result ≡ status.Usage) ⊎ (result ≡ status.Sink)
-  -- The line `usage` was printed, or a prefix of it if the sink failed, which is only if its count rose.
-  pub usage_text : result ≡ status.Usage → Appends (to.taken sink) (to.taken sink') usage_line
-  pub usage_prefix : AppendsPrefix (to.taken sink) (to.taken sink') usage_line
-  pub sink_failed : result ≡ status.Sink → Rose (to.faults sink) (to.faults sink') (to.is_spent sink')
+  pub put : PutsUsage to (result ≡ status.Usage) (result ≡ status.Sink) sink sink'
   -- The disk and the source are left alone.
   pub alone : (disk' ≡ disk) × (source' ≡ source)

@@ -7,7 +7,7 @@ use Rattle.mg_io.specs.Known.{Appends-then, AppendsPrefix, AppendsPrefix-longer}
 use Rattle.mg_io.specs.declared.traits.Sink as sinks
 use Rattle.mg_model.specs.declared.calls.Line.{Line}
 use Rattle.mg_serve.specs.Parts.{replies}
-use Rattle.mg_serve.specs.Sessions.{Answers, IsDoneOrMemory, SourceUse, left_at, left_now, sink_use}
+use Rattle.mg_serve.specs.Sessions.{Answers, IsDoneOrMemory, SourceUse, left_at, left_now, use_of}
 use Rattle.mg_serve.specs.declared.status.Status.{Status}
 use Rattle.mg_serve.specs.declared.status.Status.TheVariants as status
 use Rattle.mg_volume_session.specs.Headline.{EndsRun, PutsLast}
@@ -80,7 +80,7 @@ module _ {K : Type 0} (to : sinks.Ghosts K) (ran : Status) (last : List ℕ) (re
       at_end done = ⊎_elim (λ p. inl p.0) (λ p. absurd (none (then_rose _ _ _ _ _ _ goes p.2))) (ends.done done)
 
   -- `tail` is what the last lines are after a whole input
-  module _ {S : Type 0} (said : List Line → List ℕ) (i : SourceUse S) (sink : K) (answers : Answers said ran i (sink_use to sink replied)) (tail : List ℕ → List ℕ) (same : ran ≡ status.Done → IfSome (left_at i) (λ bytes. last ≡ tail bytes)) where
+  module _ {S : Type 0} (said : List Line → List ℕ) (i : SourceUse S) (sink : K) (answers : Answers said ran i (use_of to sink replied)) (tail : List ℕ → List ℕ) (same : ran ≡ status.Done → IfSome (left_at i) (λ bytes. last ≡ tail bytes)) where
     abbrev left : Option (List ℕ)
     left = left_at i
 

@@ -12,7 +12,7 @@ use Rattle.mg_disk.specs.Runs.{leaves_then, leaves_wider}
 use Rattle.mg_disk.specs.Stops.{CountGoes, CountRose, Leaves, NothingPending, WritesNothing}
 use Rattle.mg_disk.specs.declared.disk.Disk.{Ghosts}
 use Rattle.mg_faults.specs.Faults.{Rose, then_rose}
-use Rattle.mg_io.specs.Known.{Appends-none, AppendsPrefix, AppendsPrefix-longer, AppendsPrefix-none}
+use Rattle.mg_io.specs.Known.{Appends-none, AppendsPrefix, AppendsPrefix-longer, AppendsPrefix-none, TakesAtMost}
 use Rattle.mg_io.specs.declared.traits.Sink as sinks
 use Rattle.mg_io.specs.declared.traits.Source as sources
 use Rattle.mg_kernel.specs.declared.kernel.Kernel.{Kernel}
@@ -30,9 +30,9 @@ use Rattle.mg_model.specs.Warmth.{cost}
 use Rattle.mg_serve.specs.declared.machine.Machine as machines
 use Rattle.mg_serve.specs.declared.status.Status.{Status}
 use Rattle.mg_serve.specs.declared.status.Status.TheVariants as status
-use Rattle.mg_serve.specs.Serving.{Serves, Traces}
+use Rattle.mg_serve.specs.Serving.{IsWithin, Serves, Traces}
 use Rattle.mg_serve.specs.Parts.{AnswersLines, AnswersPrefix, AreAnswered, IsPrefix, KeepsAnswered, SpellsAfter, replies}
-use Rattle.mg_serve.specs.Sessions.{Answers, DiskUse, EndsSession, EndsTaking, Holds, HoldsExactly, IsDoneOrMemory, IsWithin, SinkUse, SourceUse, TakesAtMost, disk_use, input_limit, left_at, sink_use, source_use, taken_of}
+use Rattle.mg_serve.specs.Sessions.{Answers, DiskUse, EndsSession, EndsTaking, Holds, HoldsExactly, IsDoneOrMemory, SinkUse, SourceUse, use_of, input_limit, left_at, consumed}
 use Rattle.mg_volume_session.specs.Headline.{EndsRun, EndsUnopened, IsWithinCost, LinesKeep, OnVolume, TellsLine, TellsOfNone, check_line, session_of}
 use Rattle.mg_volume_session.specs.Unopened.{EndsUnopenedBy, FaultTells, TellsNothing, TellsState, fault_line, summary_line}
 
@@ -56,7 +56,7 @@ none_spent s result (Some input) steps = (omega arith, λ cut. omega arith)
 
 -- a command that ended before the first call of the source and of the sink
 first_answers : {S K : Type 0} (from : sources.Ghosts S) (to : sinks.Ghosts K) (said : List Line → List ℕ) → said [] ≡ [] → (result : Status) (source : S) (sink : K) → result ≢ status.Done
-    → Answers said result (source_use from source source) (sink_use to sink sink)
+    → Answers said result (use_of from source source) (use_of to sink sink)
 first_answers from to said none result source sink early = record {
   prefix = none_put said (from.left source) (to.taken sink);
   done = λ ended. absurd (early ended);
@@ -104,10 +104,10 @@ unopened fault.Memory told P tells p = λ image is s spelled. p tt image is s sp
 
 -- what the sink took if the volume was not opened
 unopened_answers : {S K : Type 0} (from : sources.Ghosts S) (to : sinks.Ghosts K) (said : State → List Line → List ℕ) → ((s : State) → said s [] ≡ []) → (f : OpenFault) (told : Option Image) (result : Status) (source : S) (sink sink' : K)
-    → FaultTells f told → EndsUnopenedBy f result → (TellsNothing f → sink' ≡ sink) → OnVolume told (λ s. Answers (said s) result (source_use from source source) (sink_use to sink sink'))
+    → FaultTells f told → EndsUnopenedBy f result → (TellsNothing f → sink' ≡ sink) → OnVolume told (λ s. Answers (said s) result (use_of from source source) (use_of to sink sink'))
 unopened_answers from to said none f told result source sink sink' tells ends same =
-    unopened f told (λ s. Answers (said s) result (source_use from source source) (sink_use to sink sink')) tells
-    (λ quiet image is s spelled. subst (λ k. Answers (said s) result (source_use from source source) (sink_use to sink k)) (sym (same quiet)) (first_answers from to (said s) (none s) result source sink (quiet_early f result quiet ends)))
+    unopened f told (λ s. Answers (said s) result (use_of from source source) (use_of to sink sink')) tells
+    (λ quiet image is s spelled. subst (λ k. Answers (said s) result (use_of from source source) (use_of to sink k)) (sym (same quiet)) (first_answers from to (said s) (none s) result source sink (quiet_early f result quiet ends)))
 
 not_taking : (result : Status) → EndsTaking result → result ≢ status.Source → result ≢ status.TooLong → ⊥
 not_taking result taking source too_long = ⊎_elim source too_long taking
@@ -267,12 +267,12 @@ module _ {D : Type 0} (facts : Ghosts D) (d mid : D) where
   -- an opening, and then a session
   opened_holds : {S K : Type 0} (i : SourceUse S) (o : SinkUse K) (kept : State → List Line → State) → ((s : State) → kept s [] ≡ s) → (k : Kernel) (d' : D) → ForSome (facts.seen d) (λ image. Opens (volume image) k (facts.seen mid))
       → ForSome (facts.seen d) (λ image. Leaves facts d mid (λ c. volume c ≡ volume image))
-      → ForSome (facts.seen mid) (λ image. Holds (kept (now_of k image)) (disk_use facts mid d') i o)
-      → OnVolume (facts.seen d) (λ s. Holds (kept s) (disk_use facts d d') i o)
+      → ForSome (facts.seen mid) (λ image. Holds (kept (now_of k image)) (use_of facts mid d') i o)
+      → OnVolume (facts.seen d) (λ s. Holds (kept s) (use_of facts d d') i o)
   opened_holds i o kept none k d' opens first second = λ image is.
       let opened : Opens (volume image) k (facts.seen mid) = opens image is in
-      let h : Holds (kept opened.state) (disk_use facts mid d') i o = subst (λ (s : State). Holds (kept s) (disk_use facts mid d') i o) opened.holds.now (second opened.holds.image opened.holds.is) in
-      state_is (volume image) opened.state (λ s. Holds (kept s) (disk_use facts d d') i o) opened.is
+      let h : Holds (kept opened.state) (use_of facts mid d') i o = subst (λ (s : State). Holds (kept s) (use_of facts mid d') i o) opened.holds.now (second opened.holds.image opened.holds.is) in
+      state_is (volume image) opened.state (λ s. Holds (kept s) (use_of facts d d') i o) opened.is
       record {
         moments = prefix_then d' (left_at i) (kept opened.state) (prefix_yet (left_at i) image (kept opened.state) (opened.is ∙ ap (λ v. Is v) (sym (none opened.state))) (first image is)) h.moments;
         held = h.held;
@@ -281,11 +281,11 @@ module _ {D : Type 0} (facts : Ghosts D) (d mid : D) where
   -- an opening that failed
   unopened_holds : {S K : Type 0} (from : sources.Ghosts S) (to : sinks.Ghosts K) (kept : State → List Line → State) → ((s : State) → kept s [] ≡ s) → (f : OpenFault) (source : S) (sink sink' : K)
       → FaultTells f (facts.seen d) → (TellsNothing f → sink' ≡ sink) → NothingPending facts d → ForSome (facts.seen d) (λ image. Leaves facts d mid (λ c. volume c ≡ volume image))
-      → OnVolume (facts.seen d) (λ s. Holds (kept s) (disk_use facts d mid) (source_use from source source) (sink_use to sink sink'))
+      → OnVolume (facts.seen d) (λ s. Holds (kept s) (use_of facts d mid) (use_of from source source) (use_of to sink sink'))
   unopened_holds from to kept none f source sink sink' tells same only first =
-      unopened f (facts.seen d) (λ s. Holds (kept s) (disk_use facts d mid) (source_use from source source) (sink_use to sink sink')) tells (λ quiet image is s spelled.
+      unopened f (facts.seen d) (λ s. Holds (kept s) (use_of facts d mid) (use_of from source source) (use_of to sink sink')) tells (λ quiet image is s spelled.
       let here : volume image ≡ Is (kept s []) = spelled ∙ ap (λ v. Is v) (sym (none s)) in
-      subst (λ k. Holds (kept s) (disk_use facts d mid) (source_use from source source) (sink_use to sink k)) (sym (same quiet)) record {
+      subst (λ k. Holds (kept s) (use_of facts d mid) (use_of from source source) (use_of to sink k)) (sym (same quiet)) record {
         moments = prefix_yet (from.left source) image (kept s) here (first image is);
         held = none_held (facts.left_since mid (facts.moment mid)) (kept s) (from.left source) (to.taken sink) (λ c left. ⊎_elim
             (λ (before : facts.left_since d (facts.moment d) c). ap volume (some_image image c (sym is ∙ only c before)) ∙ here)
@@ -336,24 +336,24 @@ fault_disk fault.Memory result ends h = let e : result ≡ status.Memory = ends 
 
 module _ {D S K : Type 0} (facts : Ghosts D) (from : sources.Ghosts S) (to : sinks.Ghosts K) (said : State → List Line → List ℕ) (kept : State → List Line → State) (batch : ℕ) where
   -- what is held exactly at the end rests on no disk before
-  exactly_since : (kept : List Line → State) (result : Status) (mid d d' : D) (i : SourceUse S) (o : SinkUse K) → HoldsExactly kept result (disk_use facts mid d') i o → HoldsExactly kept result (disk_use facts d d') i o
+  exactly_since : (kept : List Line → State) (result : Status) (mid d d' : D) (i : SourceUse S) (o : SinkUse K) → HoldsExactly kept result (use_of facts mid d') i o → HoldsExactly kept result (use_of facts d d') i o
   exactly_since kept result mid d d' i o h = record { held_taking = h.held_taking; held_sink = h.held_sink }
 
   -- a volume was opened, and a machine over its kernel served the lines
   pub lines_opened : {M : Type 0} (is : machines.Ghosts M) (k : Kernel) (m m' : M) (result : Status) (d mid d' : D) (source source' : S) (sink sink' : K) (steps steps' : ℕ)
       → ForSome (facts.seen d) (λ image. Opens (volume image) k (facts.seen mid)) → (NothingPending facts d → ForSome (facts.seen d) (λ image. Leaves facts d mid (λ c. volume c ≡ volume image))) → CountGoes facts d mid
       → ((image : Image) → is.said m image ≡ said (now_of k image)) → ((image : Image) → is.kept m image ≡ kept (now_of k image)) → ((s : State) → kept s [] ≡ s)
-      → Serves is batch input_limit result m m' (disk_use facts mid d') (source_use from source source') (sink_use to sink sink') steps steps'
-      → LinesKeep said kept (session_of batch result (disk_use facts d d') (source_use from source source') (sink_use to sink sink') steps steps')
+      → Serves is batch input_limit result m m' (use_of facts mid d') (use_of from source source') (use_of to sink sink') steps steps'
+      → LinesKeep said kept (session_of batch result (use_of facts d d') (use_of from source source') (use_of to sink sink') steps steps')
   lines_opened is k m m' result d mid d' source source' sink sink' steps steps' opens first count says keeps none serves = record {
-    answers = opened_then k (facts.seen d) (facts.seen mid) (λ s. Answers (said s) result (source_use from source source') (sink_use to sink sink')) opens
-        (λ image seen. subst (λ (v : List Line → List ℕ). Answers v result (source_use from source source') (sink_use to sink sink')) (says image) (serves.answers image seen));
+    answers = opened_then k (facts.seen d) (facts.seen mid) (λ s. Answers (said s) result (use_of from source source') (use_of to sink sink')) opens
+        (λ image seen. subst (λ (v : List Line → List ℕ). Answers v result (use_of from source source') (use_of to sink sink')) (says image) (serves.answers image seen));
     kept = λ done. opened_then k (facts.seen d) (facts.seen mid) (λ s. IfSome (from.left source) (λ input. SpellsAfter (kept s) input (facts.seen d'))) opens
         (λ image seen. subst (λ (v : List Line → State). IfSome (from.left source) (λ input. SpellsAfter v input (facts.seen d'))) (keeps image) (serves.kept done image seen));
-    holds = λ pending. opened_holds facts d mid (source_use from source source') (sink_use to sink sink') kept none k d' opens (first pending)
-        (λ image seen. subst (λ (v : List Line → State). Holds v (disk_use facts mid d') (source_use from source source') (sink_use to sink sink')) (keeps image) (serves.holds image seen));
-    holds_exactly = opened_then k (facts.seen d) (facts.seen mid) (λ s. HoldsExactly (kept s) result (disk_use facts d d') (source_use from source source') (sink_use to sink sink')) opens
-        (λ image seen. subst (λ (v : List Line → State). HoldsExactly v result (disk_use facts d d') (source_use from source source') (sink_use to sink sink')) (keeps image) (exactly_since (is.kept m image) result mid d d' (source_use from source source') (sink_use to sink sink') (serves.holds_exactly image seen)));
+    holds = λ pending. opened_holds facts d mid (use_of from source source') (use_of to sink sink') kept none k d' opens (first pending)
+        (λ image seen. subst (λ (v : List Line → State). Holds v (use_of facts mid d') (use_of from source source') (use_of to sink sink')) (keeps image) (serves.holds image seen));
+    holds_exactly = opened_then k (facts.seen d) (facts.seen mid) (λ s. HoldsExactly (kept s) result (use_of facts d d') (use_of from source source') (use_of to sink sink')) opens
+        (λ image seen. subst (λ (v : List Line → State). HoldsExactly v result (use_of facts d d') (use_of from source source') (use_of to sink sink')) (keeps image) (exactly_since (is.kept m image) result mid d d' (use_of from source source') (use_of to sink sink') (serves.holds_exactly image seen)));
     ends = serves.ends;
     which = inr serves.which;
     disk_failed = λ h. then_rose _ _ _ _ _ _ count (serves.disk_failed h);
@@ -372,14 +372,14 @@ module _ {D S K : Type 0} (facts : Ghosts D) (from : sources.Ghosts S) (to : sin
       → (result ≡ status.NoVolume → Appends (to.taken sink) (to.taken sink') (fault_line f)) → AppendsPrefix (to.taken sink) (to.taken sink') (fault_line f)
       → (result ≡ status.Sink → Rose (to.faults sink) (to.faults sink') (to.is_spent sink')) → (◌≡◌ {A = Result Kernel OpenFault} (Err f) (Err fault.Disk) → CountRose facts d d')
       → (NothingPending facts d → ForSome (facts.seen d) (λ image. Leaves facts d d' (λ c. volume c ≡ volume image))) → ((s : State) → said s [] ≡ []) → ((s : State) → kept s [] ≡ s)
-      → LinesKeep said kept (session_of batch result (disk_use facts d d') (source_use from source source) (sink_use to sink sink') steps steps)
+      → LinesKeep said kept (session_of batch result (use_of facts d d') (use_of from source source) (use_of to sink sink') steps steps)
   lines_unopened f result d d' source sink sink' steps tells ends writes none_written quiet put prefix sink_rose disk_rose first says none =
       let un : EndsUnopened result = fault_ends f result ends in
       let disk : result ≡ status.Disk → CountRose facts d d' = λ h. disk_rose (fault_disk f result ends h) in record {
         answers = unopened_answers from to said says f (facts.seen d) result source sink sink' tells ends quiet;
         kept = λ done. absurd (other_end result status.Done un (λ h. cc) (λ h. cc) (λ h. cc) (λ h. cc) done);
         holds = λ pending. unopened_holds facts d d' from to kept none f source sink sink' tells quiet pending (first pending);
-        holds_exactly = unopened_exactly (disk_use facts d d') (source_use from source source) (sink_use to sink sink') kept f (facts.seen d) result tells ends;
+        holds_exactly = unopened_exactly (use_of facts d d') (use_of from source source) (use_of to sink sink') kept f (facts.seen d) result tells ends;
         ends = record {
           few = λ h. absurd (not_taking result h (other_end result status.Source un (λ h. cc) (λ h. cc) (λ h. cc) (λ h. cc)) (other_end result status.TooLong un (λ h. cc) (λ h. cc) (λ h. cc) (λ h. cc)));
           memory = λ h. (refl, quiet (fault_quiet f result ends (λ line. cc) (λ sink. cc)));
@@ -415,7 +415,7 @@ traced_cost is less batch result m m' image s None left' taken taken' steps step
 traced_cost is less batch result m m' image s (Some input) None taken taken' steps steps' stepped stopped t = absurd t
 traced_cost is less batch result m m' image s (Some input) (Some rest) taken taken' steps steps' stepped stopped t =
     let spent : steps' ≤ steps + cost s (take t.stepped (lines input)) = by_status result t.at_disk t.after in
-    (within (lines (taken_of input rest)) spent t.came, λ cut. within (ended_lines (taken_of input rest)) spent (t.ended cut))
+    (within (lines (consumed input rest)) spent t.came, λ cut. within (ended_lines (consumed input rest)) spent (t.ended cut))
   where
     -- first lines cost no more than all
     within : (all : List Line) → steps' ≤ steps + cost s (take t.stepped (lines input)) → (more : List Line) × (all ≡ take t.stepped (lines input) ++ more) → steps' ≤ steps + cost s all

@@ -1,7 +1,7 @@
 -- What a session of a kernel keeps.
 use Rattle.std.specs.Prelude.{ℕ, OnOk, Result}
 use Rattle.mg_model.specs.Lines.{lines}
-use Rattle.mg_model.specs.Print.{text}
+use Rattle.mg_model.specs.Print.{replies_text}
 use Rattle.mg_model.specs.State.{State}
 use Rattle.mg_model.specs.Step.{after}
 use Rattle.mg_serve.specs.declared.ended.Ended.{Ended}
@@ -11,7 +11,7 @@ use Rattle.mg_volume_session.specs.Headline.{IsWithinCost}
 -- A session from the state `s` on: what the sink took, what the disk holds and a stop leaves of it, and what the lines cost.
 pub record ServesFrom {D S K T : Type 0} (s : State) (result : Result T Ended)
     (d : DiskUse D) (i : SourceUse S) (o : SinkUse K) (steps steps' : ℕ) : Type 0 where
-  pub answers : Answers (text s) (status_of result) i o
+  pub answers : Answers (replies_text s) (status_of result) i o
   -- At the end reads give the state after all lines.
   pub kept : OnOk result (OfInput i (λ input. SpellsNow d (after s (lines input))))
   pub holds : Holds (after s) d i o

@@ -6,7 +6,7 @@ ghost use Rattle.mg_disk.specs.Stops.{DiskCallsBy, WritesNothing};
 ghost use Rattle.mg_faults.specs.Faults.{Rose};
 ghost use Rattle.mg_io.specs.Known.{AppendsPrefix};
 ghost use Rattle.mg_model.specs.Volume.{Damaged, NotVolume, OldVolume, volume};
-ghost use Rattle.mg_serve.specs.Sessions.{disk_use, sink_use};
+ghost use Rattle.mg_serve.specs.Sessions.{use_of};
 ghost use Rattle.mg_volume_session.specs.Headline.{CheckKeeps};
 ghost use Rattle.mg_volume_session.specs.Unopened.{TellsState, summary_line};
 
@@ -21,7 +21,7 @@ use std::alloc::Global;
 
 /// Reports whether the disk holds a volume, and prints the line of it. It writes nothing.
 pub fn check<D: Disk, K: Sink>(alloc: Global, disk: &mut D, sink: &mut K) -> Status
-    ensures { CheckKeeps result (disk_use D.Disk disk.old disk.new) (sink_use K.Sink sink.old sink.new) }
+    ensures { CheckKeeps result (use_of D.Disk disk.old disk.new) (use_of K.Sink sink.old sink.new) }
 {
     match examined(alloc, disk) {
         Ok(summary) => put_summary(&summary, sink),

@@ -1,5 +1,5 @@
 // The command `dry`: a session on a fresh volume that is kept nowhere.
-ghost use Rattle.mg_serve.specs.Sessions.{sink_use, source_use};
+ghost use Rattle.mg_serve.specs.Sessions.{use_of};
 ghost use Rattle.mg_volume_session.specs.Headline.{DryKeeps};
 
 use crate::running::run;
@@ -19,7 +19,7 @@ pub fn dry<S: Source, K: Sink, L: Ledger>(
     sink: &mut K,
     steps: &mut Steps<L>,
 ) -> Status
-    ensures { DryKeeps params.now result (source_use S.Source source.old source.new) (sink_use K.Sink sink.old sink.new) steps.old steps.new }
+    ensures { DryKeeps params.now result (use_of S.Source source.old source.new) (use_of K.Sink sink.old sink.new) steps.old steps.new }
 {
     let blocks = Geometry::of(params.frames()).total;
     let mut disk = match ScratchDisk::new(alloc, blocks) {

@@ -3,7 +3,7 @@ ghost use Rattle.std.specs.Prelude.{OnErr, OnOk};
 ghost use Rattle.std.specs.Io.KnownBytes.{Appends};
 ghost use Rattle.mg_faults.specs.Faults.{Rose};
 ghost use Rattle.mg_io.specs.Known.{AppendsPrefix};
-ghost use Rattle.mg_serve.specs.Sessions.{disk_use, sink_use};
+ghost use Rattle.mg_serve.specs.Sessions.{use_of};
 ghost use Rattle.mg_volume_session.specs.Headline.{FormatKeeps, made_line, small_line};
 
 use arrayvec::ArrayVec;
@@ -19,7 +19,7 @@ use mg_text::{print_small, print_words};
 /// Makes a volume and prints its line. If the disk has too few blocks it is not called, and the line
 /// says how many are needed and how many there are. If a call of the disk failed nothing is printed.
 pub fn make_volume<D: Disk, K: Sink>(params: &Params, disk: &mut D, sink: &mut K) -> Status
-    ensures { FormatKeeps params.now result (disk_use D.Disk disk.old disk.new) (sink_use K.Sink sink.old sink.new) }
+    ensures { FormatKeeps params.now result (use_of D.Disk disk.old disk.new) (use_of K.Sink sink.old sink.new) }
 {
     match format(disk, params) {
         Ok(()) => match put_made(params, sink) {

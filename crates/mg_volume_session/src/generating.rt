@@ -9,7 +9,7 @@ ghost use Rattle.mg_gen.specs.Tallies.{tally_of, tally_text};
 ghost use Rattle.mg_io.specs.Known.{AppendsPrefix};
 ghost use Rattle.mg_kernel.specs.Meaning.{StandsOn, is_live, now_of, staged_of};
 ghost use Rattle.mg_model.specs.Warmth.{cost};
-ghost use Rattle.mg_serve.specs.Sessions.{sink_use};
+ghost use Rattle.mg_serve.specs.Sessions.{use_of};
 ghost use Rattle.mg_volume_session.specs.Generating.{Counts, IsFresh};
 ghost use Rattle.mg_volume_session.specs.Headline.{GenKeeps, replies_from, run_lines};
 
@@ -37,7 +37,7 @@ pub fn count_run<K: Sink, L: Ledger>(
     steps: &mut Steps<L>,
 ) -> Status
     requires count_at_most_1000000 { count ≤ 1000000 }
-    ensures { GenKeeps number count result (sink_use K.Sink sink.old sink.new) steps.old steps.new }
+    ensures { GenKeeps number count result (use_of K.Sink sink.old sink.new) steps.old steps.new }
 {
     counts_add_up();
     let (mut disk, mut kernel) = match fresh_machine(alloc, &settings()) {

@@ -1,7 +1,7 @@
 // The command `run`: a session on the volume of a disk.
 ghost use Rattle.std.specs.Prelude.{◌≡◌, ◌≤◌};
 ghost use Rattle.mg_faults.specs.Faults.{CountGoesOn};
-ghost use Rattle.mg_serve.specs.Sessions.{disk_use, sink_use, source_use};
+ghost use Rattle.mg_serve.specs.Sessions.{use_of};
 ghost use Rattle.mg_volume_session.specs.Headline.{RunKeeps, session_of};
 
 use crate::fault_line::put_fault;
@@ -26,8 +26,8 @@ pub fn run<D: Disk, S: Source, K: Sink, L: Ledger>(
 ) -> Status
     requires batch_at_least_1 { 1 ≤ batch }
     requires small { batch ≤ 64 }
-    ensures keeps { RunKeeps (session_of batch result (disk_use D.Disk disk.old disk.new)
-        (source_use S.Source source.old source.new) (sink_use K.Sink sink.old sink.new) steps.old steps.new) }
+    ensures keeps { RunKeeps (session_of batch result (use_of D.Disk disk.old disk.new)
+        (use_of S.Source source.old source.new) (use_of K.Sink sink.old sink.new) steps.old steps.new) }
     ensures disk_blocks { D.block_count disk.new ≡ D.block_count disk.old }
     ensures sink_count { CountGoesOn (K.faults sink.old) (K.faults sink.new) (K.is_spent sink.old) (K.is_spent sink.new) }
 {

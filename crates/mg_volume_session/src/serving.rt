@@ -6,8 +6,8 @@ ghost use Rattle.mg_faults.specs.Faults.{CountGoesOn, Rose};
 ghost use Rattle.mg_kernel.specs.Meaning.{is_live, now_of, staged_of};
 ghost use Rattle.mg_model.specs.Step.{after};
 ghost use Rattle.mg_serve.specs.Parts.{KeepsExactly};
-ghost use Rattle.mg_serve.specs.Serving.{Keeps, MayServe};
-ghost use Rattle.mg_serve.specs.Sessions.{Ends, IsWithin, disk_use, sink_use, source_use, status_of};
+ghost use Rattle.mg_serve.specs.Serving.{IsWithin, Keeps, MayServe};
+ghost use Rattle.mg_serve.specs.Sessions.{Ends, use_of, status_of};
 ghost use Rattle.mg_volume_session.specs.Serving.{ServesFrom};
 
 use mg_disk::Disk;
@@ -44,9 +44,9 @@ pub fn serve<D: Disk, S: Source, K: Sink, L: Ledger>(
     requires ready { MayServe ⟦<Kernel as Machine>⟧ D.Disk batch kernel.old disk.old }
 
     // What the sink took, what a stop leaves, and how the session ends.
-    ensures serves { ForSome (D.seen disk.old) (λ image. ServesFrom (now_of kernel.old image) result (disk_use D.Disk disk.old disk.new)
-        (source_use S.Source source.old source.new) (sink_use K.Sink sink.old sink.new) steps.old steps.new) }
-    ensures ends { Ends batch limit (status_of result) (source_use S.Source source.old source.new) (sink_use K.Sink sink.old sink.new) }
+    ensures serves { ForSome (D.seen disk.old) (λ image. ServesFrom (now_of kernel.old image) result (use_of D.Disk disk.old disk.new)
+        (use_of S.Source source.old source.new) (use_of K.Sink sink.old sink.new) steps.old steps.new) }
+    ensures ends { Ends batch limit (status_of result) (use_of S.Source source.old source.new) (use_of K.Sink sink.old sink.new) }
 
     // If no call failed and the input is not too long, all is done.
     ensures complete { (CountRose D.Disk disk.old disk.new → ⊥)

@@ -1,16 +1,13 @@
 // The top call: every command of `mungi` but `migrate`.
 ghost use Rattle.std.specs.Prelude.{◌≡◌, ◌≢◌, ◌⊎◌, ℕ, None, Some};
-ghost use Rattle.std.specs.Io.KnownBytes.{Appends};
-ghost use Rattle.mg_faults.specs.Faults.{Rose};
-ghost use Rattle.mg_io.specs.Known.{AppendsPrefix};
-ghost use Rattle.mg_model.specs.Print.{text};
+ghost use Rattle.mg_model.specs.Print.{replies_text};
 ghost use Rattle.mg_model.specs.Settings.{Settings};
 ghost use Rattle.mg_model.specs.Step.{after};
-ghost use Rattle.mg_serve.specs.Sessions.{disk_use, sink_use, source_use};
+ghost use Rattle.mg_serve.specs.Sessions.{use_of};
 ghost use Rattle.mg_volume_session.specs.Commands.{run_of, spelled};
 ghost use Rattle.mg_volume_session.specs.declared.words.Command.TheVariants.{Check, Dry, Format, Gen, Run};
 ghost use Rattle.mg_volume_session.specs.Headline.{CheckKeeps, DryKeeps, FormatKeeps, GenKeeps, LinesKeep, RunCosts, UsageKeeps, session_of};
-ghost use Rattle.mg_io.specs.Arguments.{arguments, usage_line};
+ghost use Rattle.mg_io.specs.Arguments.{PutsUsage, arguments};
 
 use crate::checking::check;
 use crate::dry::dry;
@@ -27,10 +24,7 @@ use std::sync::ledger::Ledger;
 
 /// Prints the line `usage`.
 pub fn put_usage<K: Sink>(sink: &mut K) -> Status
-    ensures either { (result ≡ Status.Usage) ⊎ (result ≡ Status.Sink) }
-    ensures text { result ≡ Status.Usage → Appends (K.taken sink.old) (K.taken sink.new) usage_line }
-    ensures prefix { AppendsPrefix (K.taken sink.old) (K.taken sink.new) usage_line }
-    ensures sink { result ≡ Status.Sink → Rose (K.faults sink.old) (K.faults sink.new) (K.is_spent sink.new) }
+    ensures { PutsUsage K.Sink (result ≡ Status.Usage) (result ≡ Status.Sink) sink.old sink.new }
 {
     match put_all(sink, b"usage\n") {
         Ok(()) => Status::Usage,
@@ -75,21 +69,21 @@ pub fn top<D: Disk, S: Source, K: Sink, L: Ledger>(
     steps: &mut Steps<L>,
 ) -> Status
     // What each command keeps. `dry` makes no call on the disk, and `gen` none on the disk and the source.
-    ensures run { (batch : ℕ) → run_of (arguments words.now) ≡ Some batch → LinesKeep text after
-        (session_of batch result (disk_use D.Disk disk.old disk.new) (source_use S.Source source.old source.new)
-        (sink_use K.Sink sink.old sink.new) steps.old steps.new) }
+    ensures run { (batch : ℕ) → run_of (arguments words.now) ≡ Some batch → LinesKeep replies_text after
+        (session_of batch result (use_of D.Disk disk.old disk.new) (use_of S.Source source.old source.new)
+        (use_of K.Sink sink.old sink.new) steps.old steps.new) }
     ensures run_costs { (batch : ℕ) → run_of (arguments words.now) ≡ Some batch → RunCosts
-        (session_of batch result (disk_use D.Disk disk.old disk.new) (source_use S.Source source.old source.new)
-        (sink_use K.Sink sink.old sink.new) steps.old steps.new) }
+        (session_of batch result (use_of D.Disk disk.old disk.new) (use_of S.Source source.old source.new)
+        (use_of K.Sink sink.old sink.new) steps.old steps.new) }
     ensures dry { (settings : Settings) → spelled words.now ≡ Some (Dry settings) → DryKeeps settings result
-        (source_use S.Source source.old source.new) (sink_use K.Sink sink.old sink.new) steps.old steps.new }
+        (use_of S.Source source.old source.new) (use_of K.Sink sink.old sink.new) steps.old steps.new }
     ensures disk_alone { (settings : Settings) → spelled words.now ≡ Some (Dry settings) → disk.new ≡ disk.old }
     ensures check { spelled words.now ≡ Some Check → CheckKeeps result
-        (disk_use D.Disk disk.old disk.new) (sink_use K.Sink sink.old sink.new) }
+        (use_of D.Disk disk.old disk.new) (use_of K.Sink sink.old sink.new) }
     ensures format { (settings : Settings) → spelled words.now ≡ Some (Format settings) → FormatKeeps settings result
-        (disk_use D.Disk disk.old disk.new) (sink_use K.Sink sink.old sink.new) }
+        (use_of D.Disk disk.old disk.new) (use_of K.Sink sink.old sink.new) }
     ensures generated { (number count : ℕ) → spelled words.now ≡ Some (Gen number count) → GenKeeps number count result
-        (sink_use K.Sink sink.old sink.new) steps.old steps.new }
+        (use_of K.Sink sink.old sink.new) steps.old steps.new }
     ensures generated_alone { (number count : ℕ) → spelled words.now ≡ Some (Gen number count) →
         (disk.new ≡ disk.old) × (source.new ≡ source.old) }
     ensures usage { spelled words.now ≡ None → UsageKeeps K.Sink result disk.old disk.new source.old source.new sink.old sink.new }

@@ -2,8 +2,8 @@
 ghost use Rattle.std.specs.Prelude.{◌≡◌, ◌≤◌, ℕ, IfSome, Some, length};
 ghost use Rattle.mg_model.specs.Tariff.{usual_tariff};
 ghost use Rattle.mg_io.specs.Arguments.{arguments};
-ghost use Rattle.mg_volume_session.specs.Commands.{batch_within, before_colon, byte_of, dry_of, format_of, gen_of, is_check, lines_within, run_of, seed_of, settings_of, spelled, step_of, step_parts, tariff_of};
-ghost use Rattle.mg_volume_session.specs.Forms.{dry_words, format_usual, format_with, gen_with, run_alone, run_with};
+ghost use Rattle.mg_volume_session.specs.Commands.{before_colon, byte_of, dry_of, format_of, gen_of, is_check, lines_within, run_of, seed_of, settings_of, spelled, step_of, step_parts, tariff_of};
+ghost use Rattle.mg_volume_session.specs.Forms.{batch_within, dry_words, format_usual, format_with, gen_with, run_alone, run_with};
 ghost use Rattle.mg_volume_session.specs.declared.words.Command.TheVariants.{Gen, Run};
 
 use mg_model::{Params, Tariff};

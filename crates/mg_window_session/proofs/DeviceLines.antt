@@ -12,7 +12,8 @@ use Rattle.mg_io.specs.declared.traits.Source as sources
 use Rattle.mg_model.specs.Lines.{lines}
 use Rattle.mg_model.specs.State.{State}
 use Rattle.mg_model.specs.Volume.{volume}
-use Rattle.mg_serve.specs.Sessions.{IsDoneOrMemory, IsWithin, disk_use, input_limit, sink_use, source_use}
+use Rattle.mg_serve.specs.Serving.{IsWithin}
+use Rattle.mg_serve.specs.Sessions.{IsDoneOrMemory, use_of, input_limit}
 use Rattle.mg_volume_session.specs.Headline.{OnVolume, PutsLast, session_of}
 use Rattle.mg_serve.specs.declared.status.Status.{Status}
 use Rattle.mg_serve.specs.declared.status.Status.TheVariants as status
@@ -37,19 +38,19 @@ on_volume_both told P Q R then p q = λ image is s spelled. then s (p image is s
 
 -- what is kept once the lines of the devices are printed
 pub dev_keeps : {D S K : Type 0} (facts : disks.Ghosts D) (from : sources.Ghosts S) (to : sinks.Ghosts K) (ran result : Status) (windows windows' : Attached) (d d' : D) (source source' : S) (sink replied sink' : K) (steps steps' : ℕ)
-    → DevicesKeep windows windows' (session_of 1 ran (disk_use facts d d') (source_use from source source') (sink_use to sink replied) steps steps') → PutsLast to ran (device_lines windows') result replied sink'
+    → DevicesKeep windows windows' (session_of 1 ran (use_of facts d d') (use_of from source source') (use_of to sink replied) steps steps') → PutsLast to ran (device_lines windows') result replied sink'
     → CountGoesOn (to.faults sink) (to.faults replied) (to.is_spent sink) (to.is_spent replied) → CountGoesOn (to.faults replied) (to.faults sink') (to.is_spent replied) (to.is_spent sink')
-    → DevKeeps windows windows' (session_of 1 result (disk_use facts d d') (source_use from source source') (sink_use to sink sink') steps steps')
+    → DevKeeps windows windows' (session_of 1 result (use_of facts d d') (use_of from source source') (use_of to sink sink') steps steps')
 dev_keeps facts from to ran result windows windows' d d' source source' sink replied sink' steps steps' keeps ends before after = record {
   ran = ran;
   replied = replied;
   keeps = keeps;
   ends = ends;
   prefix = on_volume_both (facts.seen d) _ _ _
-      (λ s answers devices. put_prefix to ran (device_lines windows') result replied sink' ends (device_text (equipped windows s)) (source_use from source source') sink answers
+      (λ s answers devices. put_prefix to ran (device_lines windows') result replied sink' ends (device_text (equipped windows s)) (use_of from source source') sink answers
       (λ bytes. device_lines (device_after (equipped windows s) (lines bytes)).windows) (λ done. if_some_then (from.left source) _ _ (λ bytes are. ap device_lines are) (devices.all done))) keeps.lines.answers keeps.devices;
   done = λ is. on_volume_both (facts.seen d) _ _ _
-      (λ s answers devices. put_all to ran (device_lines windows') result replied sink' ends (device_text (equipped windows s)) (source_use from source source') sink answers
+      (λ s answers devices. put_all to ran (device_lines windows') result replied sink' ends (device_text (equipped windows s)) (use_of from source source') sink answers
       (λ bytes. device_lines (device_after (equipped windows s) (lines bytes)).windows) (λ done. if_some_then (from.left source) _ _ (λ bytes are. ap device_lines are) (devices.all done)) is) keeps.lines.answers keeps.devices;
   which = ends_run to ran (device_lines windows') result replied sink' ends keeps.lines.which;
   disk_failed = λ is. keeps.lines.disk_failed (disk_ran to ran (device_lines windows') result replied sink' ends is);
@@ -62,7 +63,7 @@ dev_keeps facts from to ran result windows windows' d d' source source' sink rep
 
 -- when there is not enough memory before anything was begun
 pub not_begun : {D S K : Type 0} (facts : disks.Ghosts D) (from : sources.Ghosts S) (to : sinks.Ghosts K) (windows : Attached) (d : D) (source : S) (sink : K) (steps : ℕ) → facts.has_been d (facts.moment d)
-    → DevKeeps windows windows (session_of 1 status.Memory (disk_use facts d d) (source_use from source source) (sink_use to sink sink) steps steps)
+    → DevKeeps windows windows (session_of 1 status.Memory (use_of facts d d) (use_of from source source) (use_of to sink sink) steps steps)
 not_begun facts from to windows d source sink steps been = dev_keeps facts from to status.Memory status.Memory windows windows d d source source sink sink sink steps steps
     record {
       lines = lines_unopened facts from to (λ s. device_text (equipped windows s)) (λ s. device_state (equipped windows s)) 1 fault.Memory status.Memory d d source sink sink steps tt refl

@@ -5,7 +5,7 @@ use Rattle.mg_io.specs.declared.traits.Sink as sinks
 use Rattle.mg_model.specs.Lines.{lines}
 use Rattle.mg_model.specs.Print.{answered, hex_text, spaced}
 use Rattle.mg_model.specs.State.{State}
-use Rattle.mg_serve.specs.Sessions.{DiskRose, IfShort, IsDoneOrMemory, OfInput, Puts, PutsPrefix, SinkRose, SourceRose, left_at, left_now, sink_use}
+use Rattle.mg_serve.specs.Sessions.{DiskRose, IfShort, IsDoneOrMemory, OfInput, Puts, PutsPrefix, SinkRose, SourceRose, left_at, left_now, use_of}
 use Rattle.mg_serve.specs.declared.status.Status.{Status}
 use Rattle.mg_serve.specs.declared.status.Status.TheVariants as status
 use Rattle.mg_volume_session.specs.Headline.{EndsRun, LinesKeep, OfNoState, OfState, PutsLast, Session, UsageKeeps, session_of}
@@ -84,7 +84,7 @@ pub record DevKeeps {D S K : Type 0} (windows windows' : Attached) (s : Session 
   -- How the lines ended, and the sink once all replies were printed: what is answered are the replies alone.
   pub ran : Status
   pub replied : K
-  pub keeps : DevicesKeep windows windows' (session_of s.batch ran s.disk s.source (sink_use s.sink.facts s.sink.old replied)
+  pub keeps : DevicesKeep windows windows' (session_of s.batch ran s.disk s.source (use_of s.sink.facts s.sink.old replied)
       s.steps s.steps')
   -- Then the lines of the devices that are left are printed.
   pub ends : PutsLast s.sink.facts ran (device_lines windows') s.result replied s.sink.new

@@ -1,6 +1,6 @@
 // A run of the source's lines on a volume with device windows.
 ghost use Rattle.mg_faults.specs.Faults.{CountGoesOn};
-ghost use Rattle.mg_serve.specs.Sessions.{disk_use, sink_use, source_use};
+ghost use Rattle.mg_serve.specs.Sessions.{use_of};
 ghost use Rattle.mg_volume_session.specs.Headline.{session_of};
 ghost use Rattle.mg_window.specs.Attached.{seen};
 ghost use Rattle.mg_window_session.specs.Headline.{DevKeeps, DevicesKeep};
@@ -35,8 +35,8 @@ pub(crate) fn run_and_tell<T: Device, D: Disk, S: Source, K: Sink, L: Ledger>(
     sink: &mut K,
     steps: &mut Steps<L>,
 ) -> Status
-    ensures { DevKeeps (seen T.held windows.old) (seen T.held windows.new) (session_of 1 result (disk_use D.Disk disk.old disk.new)
-        (source_use S.Source source.old source.new) (sink_use K.Sink sink.old sink.new) steps.old steps.new) }
+    ensures { DevKeeps (seen T.held windows.old) (seen T.held windows.new) (session_of 1 result (use_of D.Disk disk.old disk.new)
+        (use_of S.Source source.old source.new) (use_of K.Sink sink.old sink.new) steps.old steps.new) }
 {
     match Windows::new(alloc) {
         Ok(none) => {
@@ -59,8 +59,8 @@ fn run<T: Device, D: Disk, S: Source, K: Sink, L: Ledger>(
     sink: &mut K,
     steps: &mut Steps<L>,
 ) -> Served<T>
-    ensures keeps { DevicesKeep (seen T.held windows) (seen T.held result.windows) (session_of 1 result.status (disk_use D.Disk disk.old disk.new)
-        (source_use S.Source source.old source.new) (sink_use K.Sink sink.old sink.new) steps.old steps.new) }
+    ensures keeps { DevicesKeep (seen T.held windows) (seen T.held result.windows) (session_of 1 result.status (use_of D.Disk disk.old disk.new)
+        (use_of S.Source source.old source.new) (use_of K.Sink sink.old sink.new) steps.old steps.new) }
     ensures sink_count { CountGoesOn (K.faults sink.old) (K.faults sink.new) (K.is_spent sink.old) (K.is_spent sink.new) }
 {
     match Kernel::open(alloc, disk) {

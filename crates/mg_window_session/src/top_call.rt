@@ -1,6 +1,6 @@
 // All that is done with device windows.
 ghost use Rattle.std.specs.Prelude.{◌≡◌, IsTrue, false};
-ghost use Rattle.mg_serve.specs.Sessions.{disk_use, sink_use, source_use};
+ghost use Rattle.mg_serve.specs.Sessions.{use_of};
 ghost use Rattle.mg_io.specs.Arguments.{arguments};
 ghost use Rattle.mg_volume_session.specs.Headline.{session_of};
 ghost use Rattle.mg_window.specs.Attached.{seen};
@@ -58,8 +58,8 @@ pub fn top_dev<D: Disk, S: Source, K: Sink, L: Ledger>(
 ) -> Status
     ensures dev { IsTrue (asks_for (arguments words.now) (seen ⟦<Box<dyn Device> as Device>⟧.held windows.old)) → DevKeeps
         (seen ⟦<Box<dyn Device> as Device>⟧.held windows.old) (seen ⟦<Box<dyn Device> as Device>⟧.held windows.new)
-        (session_of 1 result (disk_use D.Disk disk.old disk.new)
-        (source_use S.Source source.old source.new) (sink_use K.Sink sink.old sink.new) steps.old steps.new) }
+        (session_of 1 result (use_of D.Disk disk.old disk.new)
+        (use_of S.Source source.old source.new) (use_of K.Sink sink.old sink.new) steps.old steps.new) }
     ensures usage { asks_for (arguments words.now) (seen ⟦<Box<dyn Device> as Device>⟧.held windows.old) ≡ false → NoDevKeeps K.Sink result
         (seen ⟦<Box<dyn Device> as Device>⟧.held windows.old) (seen ⟦<Box<dyn Device> as Device>⟧.held windows.new)
         disk.old disk.new source.old source.new sink.old sink.new }
@@ -78,8 +78,8 @@ pub fn top_dev_of<T: Device, D: Disk, S: Source, K: Sink, L: Ledger>(
     steps: &mut Steps<L>,
 ) -> Status
     ensures dev { IsTrue (asks_for (arguments words.now) (seen T.held windows.old)) → DevKeeps
-        (seen T.held windows.old) (seen T.held windows.new) (session_of 1 result (disk_use D.Disk disk.old disk.new)
-        (source_use S.Source source.old source.new) (sink_use K.Sink sink.old sink.new) steps.old steps.new) }
+        (seen T.held windows.old) (seen T.held windows.new) (session_of 1 result (use_of D.Disk disk.old disk.new)
+        (use_of S.Source source.old source.new) (use_of K.Sink sink.old sink.new) steps.old steps.new) }
     ensures usage { asks_for (arguments words.now) (seen T.held windows.old) ≡ false → NoDevKeeps K.Sink result
         (seen T.held windows.old) (seen T.held windows.new) disk.old disk.new source.old source.new sink.old sink.new }
 {

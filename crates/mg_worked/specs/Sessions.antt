@@ -1,7 +1,7 @@
 -- What a worked session is: lines, each with the reply that it gets.
 use Rattle.std.specs.Prelude.{◌≡◌, ℕ, ◌+◌, List, [], ◌∷◌, ◌++◌, codes}
 use Rattle.mg_model.specs.Lines.{lines}
-use Rattle.mg_model.specs.Print.{hex_text, text}
+use Rattle.mg_model.specs.Print.{hex_text, replies_text}
 use Rattle.mg_model.specs.Settings.{Settings}
 use Rattle.mg_model.specs.State.{State}
 use Rattle.mg_model.specs.Tariff.{usual_tariff}
@@ -21,7 +21,7 @@ output ((line, reply) ∷ more) = (reply ++ 10 ∷ []) ++ output more
 
 -- from this state the lines get these replies
 abbrev pub IsAnswered : State → Session → Type 0
-IsAnswered state session = text state (lines (input session)) ≡ output session
+IsAnswered state session = replies_text state (lines (input session)) ≡ output session
 
 -- the settings of most sessions: 64 frames, the zero seed, 1000 credits and the usual tariff
 abbrev pub small : Settings

@@ -8,7 +8,7 @@ ghost use Rattle.std.specs.Prelude.{◌≡◌, [], ◌∷◌, codes};
 ghost use Rattle.mg_model.specs.Draw.{password_drawn};
 ghost use Rattle.mg_model.specs.Fresh.{fresh};
 ghost use Rattle.mg_model.specs.Lines.{lines};
-ghost use Rattle.mg_model.specs.Print.{text};
+ghost use Rattle.mg_model.specs.Print.{replies_text};
 ghost use Rattle.mg_worked.specs.Access.{alignment_first, creator_has_no_capability, domain_locks_itself_out, first_line, large_count_is_cut, lowest_pages_are_taken, new_object_reads_zeros, revocation_acts_at_once, slot_needs_its_right, stored_capability_reads};
 ghost use Rattle.mg_worked.specs.Rights.{all_frames_are_taken, each_right_alone, each_right_is_needed, edges_of_an_object, rights_by_their_bits};
 ghost use Rattle.mg_worked.specs.Domains.{domain_ends_with_its_frame, eight_slots, entry_is_there_once, sixteen_frames};
@@ -130,7 +130,7 @@ pub fn sessions_of_forms()
     ensures numbers { IsAnswered (fresh small) numbers }
     ensures forms { IsAnswered (fresh small) forms }
     ensures blanks { IsAnswered (fresh small) blanks }
-    ensures passed_over { text (fresh small) (lines notes) ≡ notes_replies }
+    ensures passed_over { replies_text (fresh small) (lines notes) ≡ notes_replies }
 {}
 
 /// What sessions may cost, in words: one for each that a line loads, stores or fetches, and 4,088 for each search.

@@ -3,7 +3,7 @@ use Rattle.std.specs.Prelude.{ℕ, ◌≡◌, ◌≢◌, ◌⊎◌, false, true,
 use Rattle.std.specs.declared.alloc.Global.{Global}
 use Rattle.mg_migrate_session.specs.Commands.{is_migrate}
 use Rattle.mg_migrate_session.specs.Headline.{MigrateKeeps}
-use Rattle.mg_model.specs.Print.{text}
+use Rattle.mg_model.specs.Print.{replies_text}
 use Rattle.mg_model.specs.Settings.{Settings}
 use Rattle.mg_model.specs.Step.{after}
 use Rattle.mg_serve.specs.declared.status.Status.{Status}
@@ -17,7 +17,7 @@ use Rattle.mg_volume_session.specs.declared.words.Command.TheVariants.{Check, Dr
 -- What every command but `migrate` did, with this status at the end.
 pub record Ran {D S K : Type 0} (words : List (String Global)) (result : Status) (d : DiskUse D) (i : SourceUse S) (o : SinkUse K)
     (steps steps' : ℕ) : Type 0 where
-  pub run : (batch : ℕ) → run_of (arguments words) ≡ Some batch → LinesKeep text after (session_of batch result d i o steps steps')
+  pub run : (batch : ℕ) → run_of (arguments words) ≡ Some batch → LinesKeep replies_text after (session_of batch result d i o steps steps')
   pub run_costs : (batch : ℕ) → run_of (arguments words) ≡ Some batch → RunCosts (session_of batch result d i o steps steps')
   pub dry : (settings : Settings) → spelled words ≡ Some (Dry settings) → DryKeeps settings result i o steps steps'
   pub check : spelled words ≡ Some Check → CheckKeeps result d o

@@ -1,7 +1,7 @@
 // The program, over any disks, source and sink.
 ghost use Rattle.mg_console.specs.Programs.{EndsAs, ThenReads};
 ghost use Rattle.mg_disk.specs.Stops.{WritesNothing};
-ghost use Rattle.mg_serve.specs.Sessions.{code_of, disk_use, sink_use, source_use};
+ghost use Rattle.mg_serve.specs.Sessions.{code_of, use_of};
 ghost use Rattle.mungi.specs.Program.{Did, Ran};
 
 use crate::NAME;
@@ -39,8 +39,8 @@ pub(crate) fn carry_out<
     steps: &mut Steps<L>,
 ) -> u8
     ensures { EndsAs code_of (λ status. ThenReads D.Disk (λ left. Did words.now status
-        (disk_use D.Disk disk.old left) (disk_use E.Disk old.old old.new)
-        (source_use S.Source source.old source.new) (sink_use K.Sink sink.old sink.new) steps.old steps.new) disk.new) result }
+        (use_of D.Disk disk.old left) (use_of E.Disk old.old old.new)
+        (use_of S.Source source.old source.new) (use_of K.Sink sink.old sink.new) steps.old steps.new) disk.new) result }
 {
     let status = command(rt.alloc(), words, disk, old, source, sink, steps);
     report_end(rt, words, status, disk, old, source.error(), sink.error());
@@ -57,8 +57,8 @@ fn command<D: Disk, E: Disk, S: Source, K: Sink, L: Ledger>(
     sink: &mut K,
     steps: &mut Steps<L>,
 ) -> Status
-    ensures { Did words.now result (disk_use D.Disk disk.old disk.new) (disk_use E.Disk old.old old.new)
-        (source_use S.Source source.old source.new) (sink_use K.Sink sink.old sink.new) steps.old steps.new }
+    ensures { Did words.now result (use_of D.Disk disk.old disk.new) (use_of E.Disk old.old old.new)
+        (use_of S.Source source.old source.new) (use_of K.Sink sink.old sink.new) steps.old steps.new }
 {
     if is_migrate(words) {
         top_migrate(alloc, words, disk, old, sink)
@@ -76,8 +76,8 @@ fn ran<D: Disk, S: Source, K: Sink, L: Ledger>(
     sink: &mut K,
     steps: &mut Steps<L>,
 ) -> Status
-    ensures { Ran words.now result (disk_use D.Disk disk.old disk.new)
-        (source_use S.Source source.old source.new) (sink_use K.Sink sink.old sink.new) steps.old steps.new }
+    ensures { Ran words.now result (use_of D.Disk disk.old disk.new)
+        (use_of S.Source source.old source.new) (use_of K.Sink sink.old sink.new) steps.old steps.new }
 {
     top(alloc, words, disk, source, sink, steps)
 }

@@ -26,9 +26,9 @@ type Row = (Call, Reply);
 const MAKING: [Row; 8] = [
     (
         Call::Create {
-            pages: 2,
-            account: 1,
-            password: TREASURY,
+            n: 2,
+            acc: 1,
+            pw: TREASURY,
         },
         Reply::Made(OTHER, GIVEN),
     ),
@@ -36,26 +36,20 @@ const MAKING: [Row; 8] = [
     (
         Call::Store {
             a: ROOT + 32,
-            value: OTHER,
+            v: OTHER,
         },
         Reply::Done,
     ),
     (
         Call::Store {
             a: ROOT + 40,
-            value: GIVEN,
+            v: GIVEN,
         },
         Reply::Done,
     ),
-    (Call::Store { a: ROOT, value: 2 }, Reply::Done),
+    (Call::Store { a: ROOT, v: 2 }, Reply::Done),
     (Call::Load { a: OTHER + 8 }, Reply::Value(0)),
-    (
-        Call::Store {
-            a: OTHER + 8,
-            value: 5,
-        },
-        Reply::Done,
-    ),
+    (Call::Store { a: OTHER + 8, v: 5 }, Reply::Done),
     (Call::Load { a: OTHER + 8 }, Reply::Value(5)),
 ];
 
@@ -65,7 +59,7 @@ const REACHING: [Row; 2] = [
     (
         Call::Store {
             a: OTHER + 16,
-            value: 6,
+            v: 6,
         },
         Reply::Done,
     ),

@@ -78,7 +78,10 @@ fn is_stored<D: Disk, L: Ledger>(
     requires { StandsOn D.Disk kernel.old disk.old }
     ensures { StandsOn D.Disk kernel.new disk.new }
 {
-    let call = Call::Store { a: address, value };
+    let call = Call::Store {
+        a: address,
+        v: value,
+    };
     answered(kernel, disk, &Line { thread: 1, call }, steps) == Some(Reply::Done)
 }
 

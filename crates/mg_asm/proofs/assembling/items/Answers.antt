@@ -5,7 +5,8 @@ use Rattle.mg_asm.specs.Reading.{line_reading}
 use Rattle.mg_asm.proofs.Loops.{lines-next}
 use Rattle.mg_asm.proofs.Stepwise.{items-stepwise, items_behind, words_in-more}
 use Rattle.mg_asm.proofs.assembling.items.Goals as goal
-use Rattle.mg_model.specs.Words.{is_newline, split_at}
+use Rattle.std.specs.List.{slice_split}
+use Rattle.mg_model.specs.Words.{is_newline}
 
 pub lines-preserved : goal.lines-preserved
 lines-preserved c =
@@ -20,7 +21,7 @@ lines-preserved c =
     let keeps : KeepsLabel c.lines.labels c.add_label.new.labels c.in-Ok.item c.lines.count = search rules in
     record {
       labels = subst (λ items. AreLabels c.add_label.new.labels items) (sym pushed) (keeps before (line_reading c.cut.result.0.now) c.lines.invariant.labels c.lines.invariant.counted read);
-      same = ap (λ items. items_behind items (split_at is_newline c.in-Some.more.now)) pushed
+      same = ap (λ items. items_behind items (slice_split is_newline c.in-Some.more.now)) pushed
           ∙ sym (lines-next before c.lines.rest.now c.cut.result.0.now c.in-Some.more.now c.in-Ok.item pieces read)
           ∙ c.lines.invariant.same;
       counted = omega (arith, c.size-count.ensures.value);
@@ -29,7 +30,7 @@ lines-preserved c =
 
 pub lines-init : goal.lines-init
 lines-init c = record {
-  same = ap (λ items. items_behind items (split_at is_newline c.args.text.now)) (search rules) ∙ items-stepwise (split_at is_newline c.args.text.now);
+  same = ap (λ items. items_behind items (slice_split is_newline c.args.text.now)) (search rules) ∙ items-stepwise (slice_split is_newline c.args.text.now);
   labels = search rules;
   counted = search rules;
   few = search rules;

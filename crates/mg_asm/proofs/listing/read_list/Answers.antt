@@ -1,11 +1,12 @@
 use Rattle.std.proofs.Common.{rules, ap, ◌∙◌}
 use Rattle.mg_asm.proofs.Stepwise.{listed-stepwise, listed_behind}
 use Rattle.mg_asm.proofs.listing.read_list.Goals as goal
-use Rattle.mg_model.specs.Words.{is_newline, split_at}
+use Rattle.std.specs.List.{slice_split}
+use Rattle.mg_model.specs.Words.{is_newline}
 
 pub lines-init : goal.lines-init
 lines-init c = record {
-  same = ap (λ words. listed_behind words 1 (split_at is_newline c.args.text.now)) (search rules) ∙ listed-stepwise (split_at is_newline c.args.text.now);
+  same = ap (λ words. listed_behind words 1 (slice_split is_newline c.args.text.now)) (search rules) ∙ listed-stepwise (slice_split is_newline c.args.text.now);
   few = search rules;
   counted = search rules;
 }

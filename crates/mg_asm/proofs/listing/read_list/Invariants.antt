@@ -1,13 +1,14 @@
 use Rattle.std.proofs.Common.{◌≡◌, ◌+◌, ◌≤◌, length}
 use Rattle.mg_asm.specs.Listed.{listed}
-use Rattle.mg_model.specs.Words.{is_newline, split_at}
+use Rattle.std.specs.List.{slice_split}
+use Rattle.mg_model.specs.Words.{is_newline}
 use Rattle.mg_asm.proofs.Stepwise.{listed_behind}
 use Rattle.mg_asm.proofs.listing.read_list.Given as goal
 
 -- the words so far, and those of the lines that are left
 abbrev pub invariant-lines : goal.invariant-lines
 invariant-lines l = record {
-  same : listed_behind l.words.items l.number (split_at is_newline l.rest) ≡ listed l.fn.text;
+  same : listed_behind l.words.items l.number (slice_split is_newline l.rest) ≡ listed l.fn.text;
   few : length l.words.items ≤ 524288;
   counted : l.number + length l.rest ≤ 1 + length l.fn.text;
 }

@@ -2,7 +2,8 @@ use Rattle.std.proofs.Common.{◌≡◌, ◌≤◌, ◌+◌, ◌-◌, ℕ, true,
 use Rattle.std.proofs.lemmas.List.Sums.{sum_by-set}
 use Rattle.mg_bank.specs.AccountLemmas.{account_there, balance_of-row}
 use Rattle.mg_bank.specs.Bank.{credits_of}
-use Rattle.mg_model.specs.Bank.{account_of, balance_of, with_account}
+use Rattle.mg_model.specs.Abbreviations.{with_account}
+use Rattle.mg_model.specs.Bank.{account_of, balance_of}
 use Rattle.mg_model.specs.declared.accounts.AccRow.{AccRow}
 use Rattle.mg_bank.proofs.rows.take.Goals as goal
 

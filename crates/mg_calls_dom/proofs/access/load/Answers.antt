@@ -8,10 +8,10 @@ use Rattle.mg_model.specs.declared.calls.Call.TheVariants as call
 use Rattle.mg_model.specs.declared.calls.Line.{Line}
 use Rattle.mg_model.specs.declared.replies.Reply.TheVariants.{No, Value}
 use Rattle.mg_model.specs.declared.rights.Right.TheVariants.{R}
-use Rattle.mg_model.specs.Accesses.{words_of}
+use Rattle.mg_model.specs.Accesses.{line_words}
 use Rattle.mg_model.specs.Kept.{KeepsLine}
 use Rattle.mg_model.specs.Objects.{word_at}
-use Rattle.mg_model.specs.Refused.{unless_refused}
+use Rattle.mg_model.specs.Abbreviations.{unless_refused}
 use Rattle.mg_vcache.specs.Seats.{AllBacked, is_kept}
 use Rattle.mg_volume.specs.Meaning.{now_of}
 use Rattle.mg_volume.specs.RunLemmas.{reads_then, told_since}
@@ -24,7 +24,7 @@ returns-in_ok-word-in-Ok g c =
     let state = now_of c.args.volume.now image in
     let refusal = rw c.in-Ok.is at (c.in_ok-word_base.ensures.refusal image told) in
     let reached = (rw c.in-Ok.is at c.in_ok-word_base.ensures.row) image told in
-    let own : words_of state line ≡ 1 = own-word state c.args.thread c.args.address R reached.row reached.found refusal in
+    let own : line_words state line ≡ 1 = own-word state c.args.thread c.args.address R reached.row reached.found refusal in
     let (n, rose, words) = c.word_base.ensures.finds.reads.counted in
     let one = c.in_ok-word-in-Ok.ensures.counts in
     keeps_line state line (λ key. is_kept c.args.cache.now key) (λ key. is_kept c.word_base.new.cache key) c.args.steps.now c.word.new.steps (c.word_base.new.steps - c.args.steps.now) (c.in_ok-word_base.ensures.finds.rules image told) (omega arith) in

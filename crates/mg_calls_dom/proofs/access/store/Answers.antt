@@ -10,11 +10,11 @@ use Rattle.mg_model.specs.declared.calls.Call.TheVariants as call
 use Rattle.mg_model.specs.declared.calls.Line.{Line}
 use Rattle.mg_model.specs.declared.replies.Reply.TheVariants.{Done, No}
 use Rattle.mg_model.specs.declared.rights.Right.TheVariants.{W}
-use Rattle.mg_model.specs.Accesses.{words_of}
+use Rattle.mg_model.specs.Accesses.{line_words}
 use Rattle.mg_model.specs.Kept.{KeepsLine}
 use Rattle.mg_model.specs.ObjectCalls.{store}
 use Rattle.mg_model.specs.Objects.{with_word}
-use Rattle.mg_model.specs.Refused.{unless_refused}
+use Rattle.mg_model.specs.Abbreviations.{unless_refused}
 use Rattle.mg_model.specs.State.{State}
 use Rattle.mg_vcache.specs.Seats.{AllBacked, is_kept}
 use Rattle.mg_volume.specs.Meaning.{now_of}
@@ -39,7 +39,7 @@ returns-in_ok-set_word-in-Ok g c =
     let state = now_of c.args.volume.now image in
     let refusal = rw c.in-Ok.is at (c.in_ok-base.ensures.refusal image told) in
     let reached = (rw c.in-Ok.is at c.in_ok-base.ensures.row) image told in
-    let own : words_of state line ≡ 1 = own-word state c.args.thread c.args.address W reached.row reached.found refusal in
+    let own : line_words state line ≡ 1 = own-word state c.args.thread c.args.address W reached.row reached.found refusal in
     let dropped = dropped-at c.args.address c.word_base.new.cache c.drop_written.new.cache c.in-Ok.base reached.row reached.is c.drop_written.ensures in
     let (n, rose, words) = reads.counted in
     let one = c.in_ok-set_word-in-Ok.ensures.counts in

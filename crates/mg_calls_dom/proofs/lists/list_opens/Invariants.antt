@@ -3,7 +3,8 @@ use Rattle.std.specs.List.{list_any}
 use Rattle.std.specs.Option.{ForSome}
 use Rattle.mg_volume.specs.Calls.{Reads}
 use Rattle.mg_calls_dom.specs.Searching.{opens, words_based}
-use Rattle.mg_model.specs.Access.{entries_from, entries_of}
+use Rattle.mg_model.specs.Abbreviations.{pairs_from}
+use Rattle.mg_model.specs.Access.{pairs_of}
 use Rattle.mg_volume.specs.Meaning.{now_of}
 use Rattle.mg_calls_dom.proofs.lists.list_opens.Given as goal
 
@@ -14,8 +15,8 @@ invariant-loop-from g l = record {
   reads : Reads g.D.Disk l.fn.volume l.volume l.fn.disk l.disk l.fn.steps l.steps;
   few : l.steps ≤ l.fn.steps + 1 + 2 * l.from;
   rest : ForSome (g.D.Disk.seen l.fn.disk) (λ image.
-      list_any (λ entry. opens l.sought entry) (entries_of (words_based (now_of l.fn.volume image).objects l.list))
-      ≡ list_any (λ entry. opens l.sought entry) (entries_from (words_based (now_of l.fn.volume image).objects l.list) l.from (l.count - l.from)));
+      list_any (λ entry. opens l.sought entry) (pairs_of (words_based (now_of l.fn.volume image).objects l.list))
+      ≡ list_any (λ entry. opens l.sought entry) (pairs_from (words_based (now_of l.fn.volume image).objects l.list) l.from (l.count - l.from)));
 }
 
 -- the entries that are left

@@ -6,7 +6,7 @@ use Rattle.mg_calls_dom.specs.Searching.{opens, words_based}
 use Rattle.mg_calls_dom.proofs.Apart.{first-page-in, found-any, found-based}
 use Rattle.mg_calls_dom.proofs.Reached.{slot-none, slot-some}
 use Rattle.mg_volume.specs.RunLemmas.{told_rows}
-use Rattle.mg_model.specs.Access.{entries_of}
+use Rattle.mg_model.specs.Access.{pairs_of}
 use Rattle.mg_model.specs.Ranges.{IsPlace}
 use Rattle.mg_model.specs.State.{ObjectRow}
 use Rattle.mg_volume.specs.Meaning.{is_page_in, now_of, objects_in}
@@ -19,7 +19,7 @@ returns-in_default-clause-opens g c image told =
 pub returns-then-not-holds-clause-opens : goal.returns-then-not-holds-clause-opens
 returns-then-not-holds-clause-opens g c image told =
     sym (slot-some (now_of c.args.volume.now image) c.args.sought.now c.args.slot.now c.in-Some.clist.now (told_rows c.args.volume.now image (λ row. row.base == c.args.slot.now.base) (Some c.in-Some.clist.now) (sym c.in-Some.ensures))
-    ∙ ap (λ v. list_any (λ entry. opens c.args.sought.now entry) (if v then entries_of (words_based (now_of c.args.volume.now image).objects c.args.slot.now.base) else [])) (sym c.holds.ensures ∙ c.if-not-holds.true))
+    ∙ ap (λ v. list_any (λ entry. opens c.args.sought.now entry) (if v then pairs_of (words_based (now_of c.args.volume.now image).objects c.args.slot.now.base) else [])) (sym c.holds.ensures ∙ c.if-not-holds.true))
 
 pub list_opens-requires-clause-held : goal.list_opens-requires-clause-held
 list_opens-requires-clause-held g c =
@@ -42,7 +42,7 @@ returns-clause-opens g c =
     let is = ap (λ (row : ObjectRow). row.base) c.clist.view_is ∙ found-based rows c.args.slot.now.base c.in-Some.clist.now (sym c.in-Some.ensures) in
     IfOk-weaker c.list_opens.result _ _
     (λ found opened image told. opened image told
-    ∙ ap (λ base. list_any (λ entry. opens c.args.sought.now entry) (entries_of (words_based (now_of c.args.volume.now image).objects base))) is
+    ∙ ap (λ base. list_any (λ entry. opens c.args.sought.now entry) (pairs_of (words_based (now_of c.args.volume.now image).objects base))) is
     ∙ sym (slot-some (now_of c.args.volume.now image) c.args.sought.now c.args.slot.now c.in-Some.clist.now (told_rows c.args.volume.now image (λ row. row.base == c.args.slot.now.base) (Some c.in-Some.clist.now) (sym c.in-Some.ensures))
-    ∙ ap (λ v. list_any (λ entry. opens c.args.sought.now entry) (if v then entries_of (words_based (now_of c.args.volume.now image).objects c.args.slot.now.base) else [])) (sym c.holds.ensures ∙ c.if-not-holds.false)))
+    ∙ ap (λ v. list_any (λ entry. opens c.args.sought.now entry) (if v then pairs_of (words_based (now_of c.args.volume.now image).objects c.args.slot.now.base) else [])) (sym c.holds.ensures ∙ c.if-not-holds.false)))
     c.list_opens.ensures.opens

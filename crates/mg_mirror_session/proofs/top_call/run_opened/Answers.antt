@@ -6,7 +6,7 @@ use Rattle.mg_mirror_session.proofs.Copying.{left_stayed, right_stayed}
 use Rattle.mg_mirror_session.proofs.Through.{through}
 use Rattle.mg_mirror_session.specs.Mirrored.{Two, mirror}
 use Rattle.mg_mirror_session.specs.Ran.{as_two}
-use Rattle.mg_serve.specs.Sessions.{disk_use, sink_use, source_use}
+use Rattle.mg_serve.specs.Sessions.{use_of}
 use Rattle.mg_volume_session.specs.Headline.{RunKeeps, session_of}
 use Rattle.mg_mirror_session.proofs.top_call.run_opened.Goals as goal
 
@@ -24,8 +24,8 @@ returns g c =
     let told = c.sides-left.ensures in
     let opened_is : as_two d e g.J.Opened known ≡ as_two d e g.O.Opened first = λ i. record { left = same.left i; right = same.right i; blocks = same.blocks i; alone = same.alone i; failed = same.count i } in
     let closed : Two g.row.D.Denot g.row.E.Denot = record { left = left; right = right; blocks = first.blocks; alone = c.alone-alone.result; failed = disk.count } in
-    let source = source_use g.S.Source c.args.source.now c.run-ran.new.source in
-    let sink = sink_use g.K.Sink c.args.sink.now c.run-ran.new.sink in
+    let source = use_of g.S.Source c.args.source.now c.run-ran.new.source in
+    let sink = use_of g.K.Sink c.args.sink.now c.run-ran.new.sink in
     let blocks = c.run-ran.ensures.disk_blocks ∙ same.blocks in
     let left_is = sym told.left in
     let right_is = sym told.right in
@@ -35,8 +35,8 @@ returns g c =
       failed = disk.count;
       ran = ran;
       replied = c.run-ran.new.sink;
-      keeps = subst (λ o. RunKeeps (session_of 1 ran (disk_use (mirror d e) o closed) source sink c.args.steps.now c.run-ran.new.steps)) opened_is
-          (subst (λ x. RunKeeps (session_of 1 ran (disk_use (mirror d e) (as_two d e g.J.Opened known) x) source sink c.args.steps.now c.run-ran.new.steps)) closed_is
+      keeps = subst (λ o. RunKeeps (session_of 1 ran (use_of (mirror d e) o closed) source sink c.args.steps.now c.run-ran.new.steps)) opened_is
+          (subst (λ x. RunKeeps (session_of 1 ran (use_of (mirror d e) (as_two d e g.J.Opened known) x) source sink c.args.steps.now c.run-ran.new.steps)) closed_is
           (through (mirror d e) (as_two d e g.J.Opened) 1 ran known disk source sink c.args.steps.now c.run-ran.new.steps c.run-ran.ensures.keeps));
       ends = c.put_side-status.ensures.ends;
       before = c.run-ran.ensures.sink_count;

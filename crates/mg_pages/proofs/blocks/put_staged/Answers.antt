@@ -1,7 +1,8 @@
 use Rattle.std.proofs.Common.{◌≡◌, ◌+◌, ◌*◌, List, ℕ, Option, Some, None, IfSome, MatchOption, length, slice_set}
 use Rattle.std.specs.List.{splice}
 use Rattle.mg_journal.specs.Staged.{staged, waiting}
-use Rattle.mg_model.specs.Bytes.{block_words, word_bytes}
+use Rattle.mg_model.specs.Abbreviations.{word_bytes}
+use Rattle.mg_model.specs.Bytes.{block_words}
 use Rattle.mg_pages.specs.Parts.{StagesBlock}
 use Rattle.mg_pages.proofs.Spliced.{words-spliced}
 use Rattle.mg_pages.proofs.blocks.put_staged.Goals as goal

@@ -1,6 +1,6 @@
 use Rattle.std.proofs.Common.{◌≡◌, ◌+◌, ap, sym, ◌∙◌, length, arith}
 use Rattle.std.specs.List.{list_all}
-use Rattle.mg_model.specs.Spelling.{passwords_at}
+use Rattle.mg_model.specs.Abbreviations.{passwords_at}
 use Rattle.mg_model.specs.State.{ObjectRow}
 use Rattle.mg_model.specs.Tests.{is_password}
 use Rattle.mg_rows.specs.ObjectParts.{are_passwords, password_at, passwords_in}

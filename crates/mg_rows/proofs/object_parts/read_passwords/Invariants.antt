@@ -1,6 +1,6 @@
 use Rattle.std.proofs.Common.{◌≡◌, true}
 use Rattle.std.specs.List.{list_all}
-use Rattle.mg_model.specs.Spelling.{passwords_at}
+use Rattle.mg_model.specs.Abbreviations.{passwords_at}
 use Rattle.mg_model.specs.Tests.{is_password}
 use Rattle.mg_rows.proofs.object_parts.read_passwords.Given as goal
 

@@ -1,9 +1,9 @@
 use Rattle.std.proofs.Common.{◌≡◌, min, nat_le, ◌∙◌, arith}
 use Rattle.std.specs.List.{list_all}
 use Rattle.std.proofs.lemmas.Bool.{and_left, and_right, lt-leb}
-use Rattle.mg_model.specs.Abbreviations.{is_call_frame}
+use Rattle.mg_model.specs.Abbreviations.{frames_at, is_call_frame}
 use Rattle.mg_model.specs.Bytes.{number_at}
-use Rattle.mg_model.specs.Spelling.{frames_at, thread_fields}
+use Rattle.mg_model.specs.Spelling.{thread_fields}
 use Rattle.mg_model.specs.Tests.{is_thread_row}
 use Rattle.mg_rows.specs.ThreadParts.{begins, with_frames}
 use Rattle.mg_rows.proofs.ThreadReads.{begins-first, count-broken, fields-found, none-if, none-is, rule-of, some-are}

@@ -1,8 +1,8 @@
 use Rattle.std.proofs.Common.{◌≡◌, ◌+◌, ◌*◌, true, length, refl, sym, ap, ◌∙◌, arith}
 use Rattle.std.specs.List.{list_all}
 use Rattle.std.proofs.lemmas.Bool.{and_from}
-use Rattle.mg_model.specs.Abbreviations.{is_call_frame}
-use Rattle.mg_model.specs.Spelling.{frame_at, frames_at}
+use Rattle.mg_model.specs.Abbreviations.{frames_at, is_call_frame}
+use Rattle.mg_model.specs.Spelling.{frame_at}
 use Rattle.mg_model.specs.State.{ThreadRow}
 use Rattle.mg_rows.specs.ThreadParts.{with_frames}
 use Rattle.mg_rows.proofs.ThreadReads.{Are, frames-broken, frames-kept, length-frames_at, none-if, none-is, some-are, some-if, thread-more}

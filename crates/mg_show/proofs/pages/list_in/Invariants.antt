@@ -1,9 +1,9 @@
-use Rattle.mg_show.proofs.Names.{◌≡◌, length, entries_from, block_words, named_by}
+use Rattle.mg_show.proofs.Names.{◌≡◌, length, pairs_from, block_words, named_by}
 use Rattle.mg_show.proofs.pages.list_in.Given as goal
 
 -- the entries before this one
 abbrev pub invariant-loop-k : goal.invariant-loop-k
 invariant-loop-k l = record {
-  list : named_by l.list ≡ entries_from (block_words l.block) 0 l.k;
+  list : named_by l.list ≡ pairs_from (block_words l.block) 0 l.k;
   long : length l.list ≡ l.k;
 }

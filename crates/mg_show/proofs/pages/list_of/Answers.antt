@@ -1,4 +1,4 @@
-use Rattle.mg_show.proofs.Names.{◌/◌, ap, length, ◌∙◌, entries_of, page_of, page_words}
+use Rattle.mg_show.proofs.Names.{◌/◌, ap, length, ◌∙◌, pairs_of, page_of, page_words}
 use Rattle.mg_show.proofs.Listing.{list_first}
 use Rattle.mg_show.proofs.pages.list_of.Goals as goal
 
@@ -9,8 +9,8 @@ returns g c =
     record {
       is = λ none r told.
           c.list_read.ensures
-          ∙ ap entries_of (c.read_page-is_held.ensures.page none r told)
-          ∙ ap (λ base. entries_of (page_words r (length table) table (base / 4096))) c.base.ensures.value
+          ∙ ap pairs_of (c.read_page-is_held.ensures.page none r told)
+          ∙ ap (λ base. pairs_of (page_words r (length table) table (base / 4096))) c.base.ensures.value
           ∙ list_first r (length table) table (page_of row) row.pages c.base.ensures.kept.place.some;
       reads = c.read_page-is_held.ensures.reads;
     }

@@ -1,5 +1,5 @@
 use Rattle.std.proofs.Common.{◌+◌, ◌<◌, ◌∙◌, ℕ, ap, arith, length, sym, take}
-use Rattle.mg_model.specs.ObjectCalls.{no_row}
+use Rattle.mg_model.specs.Abbreviations.{no_row}
 use Rattle.mg_model.specs.State.{ObjectRow}
 use Rattle.mg_space.specs.Space.{share}
 use Rattle.mg_space.proofs.Paid.{paid-few, paid-more}

@@ -1,5 +1,5 @@
 use Rattle.std.proofs.Common.{◌+◌, ◌<◌, ℕ, arith, length}
-use Rattle.mg_model.specs.ObjectCalls.{no_row}
+use Rattle.mg_model.specs.Abbreviations.{no_row}
 use Rattle.mg_model.specs.State.{ObjectRow}
 use Rattle.mg_space.proofs.Spans.{sum-more, sum-part}
 use Rattle.mg_space.proofs.space.pages_of.Goals as goal

@@ -3,7 +3,8 @@ use Rattle.std.specs.Prelude.{is_some}
 use Rattle.std.specs.List.{prefix_len}
 use Rattle.std.proofs.lemmas.Bool.{ltb-true}
 use Rattle.std.proofs.lemmas.List.Sums.{prefix_len-drop_no}
-use Rattle.mg_model.specs.Words.{below_word, digit_of, value_from}
+use Rattle.mg_model.specs.Abbreviations.{below_word}
+use Rattle.mg_model.specs.Words.{digit_of, value_from}
 use Rattle.mg_text.specs.Fronts.{digits_front}
 use Rattle.mg_text.proofs.Leads.{front-digit, front-large, front-more, front-none, front-past}
 use Rattle.mg_text.proofs.Values.{below_word-none, below_word-some}

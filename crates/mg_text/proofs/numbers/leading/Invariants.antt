@@ -1,7 +1,8 @@
 use Rattle.std.proofs.Common.{◌≡◌, ◌+◌, ◌<◌, ◌^◌, drop}
 use Rattle.std.specs.Prelude.{is_some}
 use Rattle.std.specs.List.{prefix_len}
-use Rattle.mg_model.specs.Words.{below_word, digit_of, value_from}
+use Rattle.mg_model.specs.Abbreviations.{below_word}
+use Rattle.mg_model.specs.Words.{digit_of, value_from}
 use Rattle.mg_text.specs.Fronts.{digits_front}
 use Rattle.mg_text.proofs.numbers.leading.Given as goal
 

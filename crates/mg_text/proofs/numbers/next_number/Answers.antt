@@ -1,5 +1,6 @@
 use Rattle.std.proofs.Common.{sym, ◌∙◌}
-use Rattle.mg_model.specs.Words.{below_word, value_of_digits}
+use Rattle.mg_model.specs.Abbreviations.{below_word}
+use Rattle.mg_model.specs.Words.{value_of_digits}
 use Rattle.mg_text.specs.Fronts.{before_blank, from_blank}
 use Rattle.mg_text.proofs.Firsts.{behind-words, first-decimal, first-hexadecimal}
 use Rattle.mg_text.proofs.numbers.next_number.Goals as goal

@@ -2,7 +2,7 @@ use Rattle.std.proofs.Common.{refl, subst}
 use Rattle.mg_disk.specs.Stops.{WritesNothing}
 use Rattle.mg_kernel.specs.Meaning.{now_of}
 use Rattle.mg_layout.specs.MayFormat.{IsNoState}
-use Rattle.mg_model.specs.Print.{text}
+use Rattle.mg_model.specs.Print.{replies_text}
 use Rattle.mg_model.specs.Step.{after}
 use Rattle.mg_volume_session.specs.Headline.{IsWithinCost}
 use Rattle.mg_volume_session.specs.OpeningLemmas.{fault_tells, lines_opened, lines_unopened, no_volume, none_spent, opened_then, traced_cost, unopened, untouched}
@@ -10,7 +10,7 @@ use Rattle.mg_volume_session.proofs.running.run.Goals as goal
 
 pub returns-in-Ok-clause-keeps : goal.returns-in-Ok-clause-keeps
 returns-in-Ok-clause-keeps g c = record {
-  lines = lines_opened g.D.Disk g.S.Source g.K.Sink text after c.args.batch _ c.in-Ok.kernel c.in-Ok.kernel c.run.new.machine c.run.result c.args.disk.now c.open.new.disk c.run.new.disk c.args.source.now c.run.new.source c.args.sink.now c.run.new.sink c.args.steps.now c.run.new.steps
+  lines = lines_opened g.D.Disk g.S.Source g.K.Sink replies_text after c.args.batch _ c.in-Ok.kernel c.in-Ok.kernel c.run.new.machine c.run.result c.args.disk.now c.open.new.disk c.run.new.disk c.args.source.now c.run.new.source c.args.sink.now c.run.new.sink c.args.steps.now c.run.new.steps
       c.in-Ok.ensures.opens c.in-Ok.ensures.any_moment c.in-Ok.ensures.calls.count (λ image. refl) (λ image. refl) (λ s. refl) c.run.ensures.serves;
   costs = record {
     cost = opened_then c.in-Ok.kernel (g.D.Disk.seen c.args.disk.now) (g.D.Disk.seen c.open.new.disk) (λ s. IsWithinCost s c.run.result (g.S.Source.left c.args.source.now) (g.S.Source.left c.run.new.source) c.args.steps.now c.run.new.steps)
@@ -24,7 +24,7 @@ returns-in-Ok-clause-keeps g c = record {
 
 pub returns-in-Err-clause-keeps : goal.returns-in-Err-clause-keeps
 returns-in-Err-clause-keeps g c = record {
-  lines = lines_unopened g.D.Disk g.S.Source g.K.Sink text after c.args.batch c.in-Err.fault c.put_fault.result c.args.disk.now c.open.new.disk c.args.source.now c.args.sink.now c.put_fault.new.sink c.args.steps.now
+  lines = lines_unopened g.D.Disk g.S.Source g.K.Sink replies_text after c.args.batch c.in-Err.fault c.put_fault.result c.args.disk.now c.open.new.disk c.args.source.now c.args.sink.now c.put_fault.new.sink c.args.steps.now
       (fault_tells c.in-Err.fault (g.D.Disk.seen c.args.disk.now) (λ h. (c.in-Err.ensures.not h).is) (λ h. (c.in-Err.ensures.old h).is) (λ h. (c.in-Err.ensures.damaged h).is)) c.put_fault.ensures.ends
       (untouched c.in-Err.fault (WritesNothing g.D.Disk c.args.disk.now c.open.new.disk) (λ h. (c.in-Err.ensures.not h).untouched) (λ h. (c.in-Err.ensures.old h).untouched) (λ h. (c.in-Err.ensures.damaged h).untouched))
       c.in-Err.ensures.untouched c.put_fault.ensures.quiet c.put_fault.ensures.put c.put_fault.ensures.prefix c.put_fault.ensures.sink c.in-Err.ensures.calls.cause c.in-Err.ensures.any_moment (λ s. refl) (λ s. refl);

@@ -2,7 +2,7 @@ use Rattle.std.proofs.Common.{◌≡◌, Result, Err, ◌+◌, ◌++◌, ◌∙�
 use Rattle.mg_disk.specs.Disk.{Image}
 use Rattle.std.specs.Prelude.{IsSome}
 use Rattle.mg_model.specs.Layout.{segment_count}
-use Rattle.mg_model.specs.Replay.{segments_fit}
+use Rattle.mg_model.specs.Abbreviations.{segments_fit}
 use Rattle.mg_disk.specs.Runs.{nothing_then}
 use Rattle.mg_journal.specs.declared.faults.ViewFault.TheVariants.{Damaged}
 use Rattle.mg_journal.specs.JournalLemmas.{replay-none, replay-some}

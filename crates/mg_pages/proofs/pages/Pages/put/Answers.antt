@@ -1,7 +1,7 @@
 use Rattle.std.proofs.Common.{◌+◌, refl, List, ℕ}
 use Rattle.std.specs.List.{splice}
 use Rattle.mg_journal.specs.Staged.{waiting}
-use Rattle.mg_model.specs.Bytes.{word_bytes}
+use Rattle.mg_model.specs.Abbreviations.{word_bytes}
 use Rattle.mg_pages.proofs.Restaged.{put-pages, put-sound, was-there}
 use Rattle.mg_pages.specs.Meaning.{waiting_in}
 use Rattle.mg_pages.proofs.pages.Pages.put.Goals as goal
