@@ -69,9 +69,10 @@ fn put_marked<K: Sink>(thread: u64, bytes: &[u8], shown: &Shown, out: &mut Write
     ensures { Puts K.Sink (marked_reach thread bytes.now shown.now.objects) sink.old sink.new out.old out.new }
 {
     for i in 0..shown.count() {
+        let bits = bytes[i];
         let row = shown.row(i);
-        put_rights(thread, row.base(), bytes[i], out, sink);
-        put_doors(thread, bytes[i], row, out, sink);
+        put_rights(thread, row.base(), bits, out, sink);
+        put_doors(thread, bits, row, out, sink);
     }
 }
 
