@@ -1,12 +1,11 @@
 // The states that a run may leave: those after its batches, and the one before the first.
 use crate::images::image_of;
-use crate::lines::{Kind, count_lines};
-use crate::parts::{Part, append, append_lines, count};
 use crate::running::dry;
 use mg_disk::{Left, MemDisk};
 use mg_volume_session::Status;
 use std::alloc::Global;
 use test_helpers::{Streams, command};
+use test_scenario_files::{Kind, Part, append, append_lines, count, count_lines};
 
 /// One run of a session on a volume.
 #[derive(Clone, Copy)]

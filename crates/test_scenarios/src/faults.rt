@@ -2,13 +2,12 @@
 use crate::bench::{Bench, copy};
 use crate::expected::{Expected, KnownState, Stage};
 use crate::images::image_of;
-use crate::lines::count_lines;
-use crate::report::Report;
 use crate::stops::{count_disk_calls, image_matches};
 use mg_disk::{BLOCK_SIZE, Disk, Left, MemDisk, ScratchDisk};
 use mg_volume_session::Status;
 use std::alloc::{AllocError, Global};
 use test_helpers::{Outcome, ROOM, Streams, command};
+use test_scenario_files::{Report, count_lines};
 
 /// The most bytes that a take gives. It is small, so that a session has many takes.
 const PIECE: usize = 64;

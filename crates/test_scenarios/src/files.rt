@@ -1,15 +1,11 @@
 // Runs files of sessions one after the other.
-use crate::lines::Kind;
-use crate::parts::count;
-use crate::reading::read_session;
-use crate::report::Report;
 use crate::running::run_all;
-use crate::session::Session;
 use crate::showing::{Shows, TEXTS};
 use crate::sweeps::{Sweep, sweep_all};
 use std::alloc::{AllocError, Global};
 use std::rt::{Env, Files};
 use std::{env, fs, io};
+use test_scenario_files::{Kind, Report, Session, count, read_session};
 
 /// How much of a file was compared.
 #[derive(Clone, Copy)]

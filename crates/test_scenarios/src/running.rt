@@ -1,14 +1,14 @@
 // Runs a session under `dry`, and under `run` with three batches.
 use crate::images::image_of;
-use crate::lines::{Kind, Line, first_line, is_newline, line_of};
-use crate::parts::{Part, append, append_line, count_runs, part_of, place_after};
-use crate::report::Report;
-use crate::session::{Session, Settings};
 use crate::showing::{Shows, show_all};
 use mg_disk::{Left, MemDisk, ScratchDisk};
 use mg_volume_session::Status;
 use std::alloc::{AllocError, Global};
 use test_helpers::{Outcome, Streams, command, volume};
+use test_scenario_files::{
+    Kind, Line, Part, Report, Session, Settings, append, append_line, count_runs, first_line,
+    is_newline, line_of, part_of, place_after,
+};
 
 /// A way to run a session on a volume.
 #[derive(Clone, Copy)]

@@ -1,11 +1,10 @@
 // Compares what is shown of the volume after the last run.
-use crate::lines::{first_line, is_newline};
-use crate::report::Report;
 use mg_disk::MemDisk;
 use mg_io::MemSink;
 use mg_volume_session::Status;
 use std::alloc::Global;
 use test_helpers::words_of;
+use test_scenario_files::{Report, first_line, is_newline};
 
 /// What prints the texts of a volume, as `mungi_show` does.
 pub trait Shows {

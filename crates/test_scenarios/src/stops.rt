@@ -2,11 +2,10 @@
 use crate::bench::Bench;
 use crate::expected::{Expected, KnownState, Stage};
 use crate::images::image_of;
-use crate::lines::count_lines;
-use crate::report::Report;
 use mg_disk::{Fuse, Left, MemDisk};
 use std::alloc::Global;
 use test_helpers::{Streams, command};
+use test_scenario_files::{Report, count_lines};
 
 /// What a stop may leave of the blocks that were written since the last sync.
 const WAYS: [Left; 3] = [Left::New, Left::Old, Left::Gates];

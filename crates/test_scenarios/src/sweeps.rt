@@ -2,13 +2,11 @@
 use crate::bench::Bench;
 use crate::expected::{Expected, Stage, fill_expected};
 use crate::faults::{fail_run, fail_streams};
-use crate::parts::{count_runs, part_of};
-use crate::report::Report;
 use crate::running::{fresh, reopen};
-use crate::session::Session;
 use crate::stops::stop_run;
 use mg_disk::MemDisk;
 use test_helpers::{Streams, command};
+use test_scenario_files::{Report, Session, count_runs, part_of};
 
 /// What happens at each call.
 #[derive(Clone, Copy)]

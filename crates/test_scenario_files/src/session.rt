@@ -1,6 +1,8 @@
 // A session as its file spells it.
 use std::alloc::{AllocError, Global};
-use test_helpers::SEED;
+
+/// The seed of a file that names none.
+const SEED: &str = "0000000000000000000000000000000000000000000000000000000000000000";
 
 /// The parameters of a session, and what is to be compared.
 #[derive(Clone, Copy)]
