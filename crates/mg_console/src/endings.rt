@@ -1,5 +1,5 @@
 // Lines on standard error: why a file or a stream failed.
-use mg_disk::FileFault;
+use mg_file::FileFault;
 use std::fmt;
 use std::fmt::Formatter;
 use std::io::{self, Eprint, ErrorKind};

@@ -1,6 +1,6 @@
 // Lines on standard error while a command runs.
 use crate::endings::cause_of;
-use mg_disk::{FileFault, Watch};
+use mg_file::{FileFault, Watch};
 use std::io::Eprint;
 
 /// The number of blocks between two lines that say how far a copy is: 8 MiB.

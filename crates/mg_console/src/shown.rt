@@ -1,5 +1,5 @@
 // What a program reads from a disk, a source or a sink after a command, to report it. None of this changes them.
-use mg_disk::{FileDisk, FileFault, Found, OneHolder, Watch};
+use mg_file::{FileDisk, FileFault, Found, OneHolder, Watch};
 use mg_io::{ReaderSource, WriterSink};
 use std::io::{self, Read, Write};
 use std::os::unix::fs::FileExt;

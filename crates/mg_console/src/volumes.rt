@@ -4,7 +4,8 @@ ghost use Rattle.mg_disk.specs.Stops.{WritesNothing};
 
 use crate::damage::report_damage;
 use crate::endings::report_of;
-use mg_disk::{BLOCK_SIZE, Block, Disk, Found};
+use mg_disk::{BLOCK_SIZE, Block, Disk};
+use mg_file::Found;
 use mg_layout::{GATE_BLOCK, GATE_OPEN, Geometry, SUPER_BLOCK, Super, read_super};
 use mg_model::Params;
 use std::io::Eprint;

@@ -9,10 +9,6 @@ Image = List (List ℕ)
 abbrev pub block_at : Image → ℕ → List ℕ
 block_at image k = slice_index_or image k []
 
--- the blocks of a disk in a file
-abbrev pub file_blocks : ℕ
-file_blocks = 70000
-
 -- every block holds bytes
 abbrev pub AreBytes : Image → Type 0
 AreBytes image = All (λ block. All (λ byte. byte < 256) block) image

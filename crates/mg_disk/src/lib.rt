@@ -1,9 +1,9 @@
-//! Disks: what a disk promises, also across a stop of the machine, and four that keep the promise.
+//! Disks: what a disk promises, also across a stop of the machine, and three in memory that keep the promise.
 //!
 //! A layer above takes any `D: Disk`. Its clauses say what reads give, which images a stop may leave since a moment, and
 //! that an answer [`Failed`] comes only if the disk's count of faults rose. [`MemDisk`] is a disk for tests, with calls that
 //! fail and stops at will. [`Fuse`] lets a disk die after some calls. [`ScratchDisk`] is a disk for one session alone.
-//! [`FileDisk`] is the file that a volume is kept in.
+//! The disk in a file is in `mg_file`.
 //!
 //! [`write_firmly`] is a write and then a sync. The layers above write in such steps.
 //!
@@ -14,18 +14,14 @@
 mod blocks;
 mod counted;
 mod disk;
-mod file;
 mod fuse;
 mod memory;
 mod scratch;
 mod syncing;
-mod watching;
 
 pub use disk::{BLOCK_SIZE, Block, COPY_BLOCKS, Disk, GATE_OPEN};
-pub use file::{FileDisk, Found, OneHolder};
 pub use fuse::Fuse;
 pub use memory::{Counts, Left, MemDisk};
 pub use mg_faults::Failed;
 pub use scratch::ScratchDisk;
 pub use syncing::write_firmly;
-pub use watching::{FileFault, Unwatched, Watch};

@@ -17,7 +17,7 @@ mod program;
 mod usage;
 
 use mg_console::{NO_WORDS, Notes, Task, begin, mode_of, word};
-use mg_disk::FileDisk;
+use mg_file::FileDisk;
 use mg_io::{ReaderSource, WriterSink};
 use mg_migrate_session::is_migrate;
 use mg_model::Steps;

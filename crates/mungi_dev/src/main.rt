@@ -14,7 +14,7 @@ use mg_console::{
     NO_WORDS, Notes, Task, are_one_file, begin, mode_of, report, report_status, word,
 };
 use mg_dev_program::{carry_out, is_mirror};
-use mg_disk::FileDisk;
+use mg_file::FileDisk;
 use mg_io::{ReaderSource, WriterSink};
 use mg_model::Steps;
 use mg_session::Status;

@@ -9,7 +9,7 @@
 mod program;
 
 use mg_console::{NO_WORDS, begin, word};
-use mg_disk::FileDisk;
+use mg_file::FileDisk;
 use mg_io::WriterSink;
 use program::carry_out;
 use std::process::ExitCode;

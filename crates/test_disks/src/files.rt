@@ -2,7 +2,8 @@
 ghost use Rattle.std.specs.Prelude.{◌≡◌, ◌+◌, ◌≤◌};
 
 use crate::calls::{byte_of, synced, wrote};
-use mg_disk::{BLOCK_SIZE, Block, Disk, FileDisk, FileFault, Found};
+use mg_disk::{BLOCK_SIZE, Block, Disk};
+use mg_file::{FileDisk, FileFault, Found};
 use std::alloc::Global;
 use std::fs;
 use std::os::unix::fs::PermissionsExt;

@@ -1,5 +1,5 @@
 // A volume in a real file.
-use mg_disk::{FileDisk, OneHolder};
+use mg_file::{FileDisk, OneHolder};
 use std::fs;
 use std::os::unix::fs::FileExt;
 use std::rt::{Clock, Files};

@@ -1,7 +1,8 @@
 // Real files. No contract says what these give.
 use crate::images::{IN_JOURNAL, MOVED, begins_with, copy, old_volume};
 use crate::outcomes::{checks, line_ends};
-use mg_disk::{Disk, FileDisk, MemDisk, OneHolder};
+use mg_disk::{Disk, MemDisk};
+use mg_file::{FileDisk, OneHolder};
 use std::alloc::{Alloc, Global};
 use std::fs;
 use std::os::unix::fs::FileExt;

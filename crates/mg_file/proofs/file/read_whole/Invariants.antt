@@ -1,5 +1,5 @@
 use Rattle.std.proofs.Common.{◌-◌, ◌≤◌, length}
-use Rattle.mg_disk.proofs.file.read_whole.Given as goal
+use Rattle.mg_file.proofs.file.read_whole.Given as goal
 
 -- no more than there is room for
 abbrev pub invariant-loop-filled : goal.invariant-loop-filled

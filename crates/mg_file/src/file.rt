@@ -2,10 +2,11 @@
 ghost use Rattle.std.specs.Prelude.{◌≡◌, ◌<◌, ◌≤◌, ◌^◌, false, None, IfOk, OnErr, OnOk, length};
 ghost use Rattle.std.proofs.Common.{rules};
 ghost use Rattle.mg_faults.specs.Faults.{CountGoesOn, Rose, is_last};
-ghost use Rattle.mg_disk.specs.Disk.{At, file_blocks};
+ghost use Rattle.mg_disk.specs.Disk.{At};
+ghost use Rattle.mg_file.specs.Blocks.{file_blocks};
 
 use crate::watching::{FileFault, Unwatched, Watch};
-use crate::{BLOCK_SIZE, Block, Disk, Failed};
+use mg_disk::{BLOCK_SIZE, Block, Disk, Failed};
 use mg_faults::FaultCount;
 use std::fs::{File, Metadata, OpenFile, OpenOptions};
 use std::io::{self, ErrorKind};
@@ -311,19 +312,26 @@ where
 
 /// The file, opened to be read and written, and whether it had to be made.
 fn open_or_make<R: Files>(rt: &R, path: &str, mode: u32) -> io::Result<(R::File, bool)> {
-    match OpenOptions::new().read(true).write(true).open(rt, path) {
+    match open_there(rt, path) {
         Ok(file) => Ok((file, false)),
-        Err(e) if e.kind() == ErrorKind::NotFound => {
-            let file = OpenOptions::new()
-                .read(true)
-                .write(true)
-                .create(true)
-                .mode(mode)
-                .open(rt, path)?;
-            Ok((file, true))
-        }
+        Err(e) if e.kind() == ErrorKind::NotFound => Ok((make(rt, path, mode)?, true)),
         Err(e) => Err(e),
     }
+}
+
+/// Opens the file for reading and writing, if it is there.
+fn open_there<R: Files>(rt: &R, path: &str) -> io::Result<R::File> {
+    OpenOptions::new().read(true).write(true).open(rt, path)
+}
+
+/// Makes an empty file with these permissions, and opens it.
+fn make<R: Files>(rt: &R, path: &str, mode: u32) -> io::Result<R::File> {
+    OpenOptions::new()
+        .read(true)
+        .write(true)
+        .create(true)
+        .mode(mode)
+        .open(rt, path)
 }
 
 /// The file, opened to be read and shared with others that read it; None if there is none.

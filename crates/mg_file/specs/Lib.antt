@@ -1,0 +1,2 @@
+-- What the disk in a file shows.
+pub mod Blocks
