@@ -13,7 +13,7 @@ use crate::places::{SEGMENTS, gate_of};
 use crate::writes::MOST_WRITES;
 use mg_disk::{BLOCK_SIZE, Block, Disk};
 use mg_faults::Failed;
-use mg_layout::{GLOBALS_BLOCK, SEGMENT_SIZE};
+use mg_model::layout::{GLOBALS_BLOCK, SEGMENT_SIZE};
 use std::alloc::{AllocError, Global};
 use std::marker::Model;
 

@@ -2,7 +2,7 @@
 ghost use Rattle.std.specs.Prelude.{◌≡◌, ◌==◌, ◌<◌, ◌≤◌, ◌%◌, [], ◌∷◌, ◌++◌, IfOk, None, length, position, slice_index_or};
 ghost use Rattle.mg_model.specs.Layout.{body_limit};
 
-use mg_layout::BODY_LIMIT;
+use mg_model::layout::BODY_LIMIT;
 use std::alloc::{AllocError, Global};
 use std::marker::Model;
 

@@ -3,8 +3,8 @@ ghost use Rattle.std.specs.Prelude.{◌≡◌, ◌<◌, ◌+◌, ◌*◌, ℕ};
 ghost use Rattle.mg_model.specs.Bytes.{number_at};
 ghost use Rattle.mg_model.specs.Layout.{body_limit};
 
+use mg_bytes::put_number;
 use mg_disk::Block;
-use mg_layout::put_number;
 
 /// Makes it the index of no bodies.
 pub(crate) fn clear_index(index: &mut Block)

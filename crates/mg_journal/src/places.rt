@@ -3,7 +3,7 @@ ghost use Rattle.std.specs.Prelude.{◌≡◌, ◌<◌, ◌==◌, false, slice_i
 ghost use Rattle.mg_model.specs.Layout.{gate_open, segment_count, segment_gate, segment_index};
 
 use mg_disk::{BLOCK_SIZE, Block, GATE_OPEN};
-use mg_layout::{FIRST_SEGMENT, SEGMENT_COUNT, SEGMENT_SIZE};
+use mg_model::layout::{FIRST_SEGMENT, SEGMENT_COUNT, SEGMENT_SIZE};
 
 /// How many segments there are.
 pub(crate) const SEGMENTS: u64 = SEGMENT_COUNT;

@@ -12,9 +12,10 @@ ghost use Rattle.mg_journal.specs.Places.{IsPlace, place_limit, places_from, pla
 use crate::faults::ViewFault;
 use crate::places::{gate_of, index_of, is_opened};
 use crate::table::Table;
+use mg_bytes::number_at;
 use mg_disk::{BLOCK_SIZE, Block, Disk};
 use mg_faults::Failed;
-use mg_layout::{BODY_LIMIT, GLOBALS_BLOCK, number_at};
+use mg_model::layout::{BODY_LIMIT, GLOBALS_BLOCK};
 
 // Whether a body may belong to this block: it lies after the journal and on the volume.
 fn is_home(block: u64, total: u64) -> bool

@@ -7,8 +7,9 @@ ghost use Rattle.mg_journal.specs.Staged.{IsRunOf, are_once, bytes_of, goes_to, 
 
 use crate::home_list::Homes;
 use crate::index::{add_home, clear_index};
+use mg_bytes::put_number;
 use mg_disk::{BLOCK_SIZE, Block};
-use mg_layout::{BODY_LIMIT, put_number};
+use mg_model::layout::BODY_LIMIT;
 use std::alloc::{AllocError, Global};
 use std::marker::Model;
 

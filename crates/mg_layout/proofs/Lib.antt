@@ -3,4 +3,3 @@ pub mod ChangedImages
 pub mod FormatSteps
 pub mod FreshBlocks
 pub mod FreshVolume
-mod Spliced

@@ -5,5 +5,4 @@ pub mod FreshBelow
 pub mod MayFormat
 pub mod Laws
 -- Lemmas that crates above cite. They are part of no statement.
-pub mod WordLemmas
 pub mod GateLemmas

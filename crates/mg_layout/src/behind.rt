@@ -8,7 +8,7 @@ ghost use Rattle.mg_layout.specs.FreshBelow.{fresh_until, with_block};
 ghost use Rattle.mg_layout.specs.FreshImage.{is_written};
 
 use crate::fresh::fresh_block;
-use crate::geometry::Geometry;
+use mg_bytes::Geometry;
 use mg_disk::{BLOCK_SIZE, Disk};
 use mg_faults::Failed;
 use mg_model::Params;

@@ -10,7 +10,7 @@ ghost use Rattle.mg_layout.specs.MayFormat.{IsUntouchedSmall, MayFormat, ReadsFr
 
 use crate::behind::write_behind;
 use crate::fresh::fresh_block;
-use crate::geometry::Geometry;
+use mg_bytes::Geometry;
 use mg_disk::{BLOCK_SIZE, Disk, write_firmly};
 use mg_faults::Failed;
 use mg_model::Params;

@@ -6,8 +6,8 @@ ghost use Rattle.mg_model.specs.Layout.{block_size, total_blocks};
 ghost use Rattle.mg_layout.specs.FreshImage.{accounts_bytes, frame_bytes, fresh_bytes, gate_bytes, objects_bytes, table_bytes, threads_bytes};
 
 use crate::filling::Filling;
-use crate::geometry::Geometry;
 use crate::superblock::write_super;
+use mg_bytes::Geometry;
 use mg_disk::{BLOCK_SIZE, Block, GATE_OPEN};
 use mg_model::layout::{
     FIRST_ACCOUNT_BLOCK, FIRST_OBJECT_BLOCK, FIRST_THREAD_BLOCK, GATE_BLOCK, GLOBALS_BLOCK,

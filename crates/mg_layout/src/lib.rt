@@ -1,6 +1,6 @@
 //! The places of everything on a volume, its superblock, and how a volume is made.
 //!
-//! A layer above gets the places of the parts of a volume ([`Geometry`]), reads and writes the superblock, and makes a
+//! A layer above gets the places of the parts of a volume ([`Geometry`], of `mg_bytes`), reads and writes the superblock, and makes a
 //! volume with [`format`]. At each moment of `format` a stop leaves what the blocks after the gate spelled before, no
 //! volume, or the fresh volume.
 //!
@@ -13,20 +13,17 @@
 #![tactic(auto)]
 
 mod behind;
-mod bytes;
 mod filling;
 mod formatting;
 mod fresh;
-mod geometry;
 mod laws;
 mod superblock;
 
-pub use bytes::{are_zeros, number_at, put_number};
 pub use filling::Filling;
 pub use formatting::{FormatFault, format};
 pub use fresh::fresh_block;
-pub use geometry::{BLOCK_WORDS, Geometry};
 pub use laws::images_are_read;
+pub use mg_bytes::{BLOCK_WORDS, Geometry, are_zeros, number_at, put_number};
 pub use mg_disk::GATE_OPEN;
 pub use mg_model::layout::{
     BODY_LIMIT, FIRST_ACCOUNT_BLOCK, FIRST_OBJECT_BLOCK, FIRST_SEGMENT, FIRST_THREAD_BLOCK,

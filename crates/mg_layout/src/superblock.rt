@@ -7,8 +7,8 @@ ghost use Rattle.mg_model.specs.Tariff.{is_tariff};
 ghost use Rattle.mg_model.specs.Words.{same_bytes};
 ghost use Rattle.mg_layout.specs.SuperBlock.{IsSuper};
 
-use crate::bytes::number_at;
 use crate::filling::Filling;
+use mg_bytes::number_at;
 use mg_disk::{BLOCK_SIZE, Block};
 use mg_model::layout::VERSION;
 use mg_model::{Params, Tariff};

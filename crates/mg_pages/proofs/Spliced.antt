@@ -6,7 +6,7 @@ use Rattle.std.proofs.Common.{refl, inl, inr, sym, ap, ◌∙◌, ⊎_elim, arit
 use Rattle.std.proofs.lemmas.Bool.{cases_lt}
 use Rattle.std.proofs.lemmas.Nat.{from_le_bytes-to_le_bytes_8}
 use Rattle.std.proofs.lemmas.Slice.{between-put_mid}
-use Rattle.mg_layout.specs.WordLemmas.{beside}
+use Rattle.mg_bytes.specs.WordLemmas.{beside}
 use Rattle.mg_model.specs.Abbreviations.{word_bytes}
 use Rattle.mg_model.specs.Bytes.{block_words, number_at}
 use Rattle.mg_pages.proofs.Numbers.{block-set}

@@ -15,10 +15,11 @@ ghost use Rattle.mg_pages.specs.Meaning.{replayed};
 
 use crate::blocks::Blocks;
 use crate::words::word_at;
+use mg_bytes::{BLOCK_WORDS, Geometry};
 use mg_disk::{BLOCK_SIZE, Block, Disk};
 use mg_faults::Failed;
 use mg_frames::Frames;
-use mg_layout::{BLOCK_WORDS, Geometry, TABLE_BLOCK};
+use mg_model::layout::TABLE_BLOCK;
 
 // Binds a page to a frame, which is free. Past the last frame, and if the page is 0 or is bound already, nothing is done.
 fn bind_entry(frames: &mut Frames, frame: u64, page: u64)

@@ -8,8 +8,9 @@ ghost use Rattle.mg_pages.specs.Parts.{StagesTable};
 
 use crate::blocks::Blocks;
 use crate::table::entries_block;
+use mg_bytes::{BLOCK_WORDS, Geometry};
 use mg_frames::Frames;
-use mg_layout::{BLOCK_WORDS, Geometry, TABLE_BLOCK};
+use mg_model::layout::TABLE_BLOCK;
 
 /// The most blocks that a frame table has.
 const MOST_BLOCKS: usize = 128;

@@ -10,10 +10,11 @@ ghost use Rattle.mg_pages.specs.Parts.{Begins, LooksAt, Stores};
 use crate::blocks::Blocks;
 use crate::table::{entries_block, frame_block};
 use crate::words::put_word;
+use mg_bytes::BLOCK_WORDS;
 use mg_disk::{BLOCK_SIZE, Disk};
 use mg_faults::Failed;
 use mg_frames::Frames;
-use mg_layout::{BLOCK_WORDS, TABLE_BLOCK};
+use mg_model::layout::TABLE_BLOCK;
 
 /// Writes a word at an index of a page. [`Failed`] comes from a read, before anything is changed.
 pub(crate) fn store_word<D: Disk>(

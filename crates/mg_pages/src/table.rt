@@ -4,8 +4,9 @@ ghost use Rattle.mg_model.specs.Layout.{first_frame};
 ghost use Rattle.mg_pages.specs.Entries.{HoldsEntries};
 
 use crate::words::put_word;
+use mg_bytes::{BLOCK_WORDS, Geometry};
 use mg_disk::{BLOCK_SIZE, Block};
-use mg_layout::{BLOCK_WORDS, Geometry, TABLE_BLOCK};
+use mg_model::layout::TABLE_BLOCK;
 
 /// The block of a frame, on a volume with this number of frames.
 pub(crate) fn frame_block(frames: u64, frame: u64) -> u64

@@ -3,9 +3,9 @@ ghost use Rattle.std.specs.Prelude.{◌≡◌, ◌≢◌, ◌<◌, ◌*◌, ℕ,
 ghost use Rattle.mg_journal.specs.Staged.{waiting};
 ghost use Rattle.mg_model.specs.Bytes.{number_at};
 
+use mg_bytes::{number_at, put_number};
 use mg_disk::Block;
 use mg_journal::Writes;
-use mg_layout::{number_at, put_number};
 
 /// The word at an index of a block, below 512.
 pub(crate) fn word_at(block: &Block, index: u64) -> u64

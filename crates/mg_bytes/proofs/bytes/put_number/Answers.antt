@@ -1,7 +1,7 @@
 use Rattle.std.proofs.Common.{rules, arith}
-use Rattle.mg_layout.proofs.Spliced.{spliced}
-use Rattle.mg_layout.specs.WordLemmas.{beside}
-use Rattle.mg_layout.proofs.bytes.put_number.Goals as goal
+use Rattle.mg_bytes.proofs.Spliced.{spliced}
+use Rattle.mg_bytes.specs.WordLemmas.{beside}
+use Rattle.mg_bytes.proofs.bytes.put_number.Goals as goal
 
 pub returns-clause-put : goal.returns-clause-put
 returns-clause-put c = search (rules, spliced)
