@@ -3,11 +3,11 @@ use Rattle.std.proofs.Common.{arith}
 use Rattle.std.specs.Prelude.{◌≡◌, ◌+◌, ℕ, length, sum_by}
 use Rattle.std.proofs.lemmas.List.{length-map}
 use Rattle.mg_check.specs.declared.examining.Summary.{Summary}
-use Rattle.mg_check.specs.declared.volume_rows.VolumeRows.{VolumeRows}
-use Rattle.mg_check.specs.RowsRead.{objects_of, state_in}
+use Rattle.mg_rules.specs.declared.volume_rows.VolumeRows.{VolumeRows}
+use Rattle.mg_rules.specs.RowsRead.{objects_of, state_in}
 use Rattle.mg_check.specs.Summaries.{summary_of}
-use Rattle.mg_check.proofs.ObjectOrder.{spelled-count, spelled-used}
-use Rattle.mg_check.proofs.StateFits.{accounts-placed}
+use Rattle.mg_rules.specs.ObjectOrderLemmas.{spelled-count, spelled-used}
+use Rattle.mg_rules.specs.ToldLemmas.{accounts-placed}
 use Rattle.mg_disk.specs.Disk.{Image}
 use Rattle.mg_model.specs.State.{ObjectRow, Thread, ThreadRow}
 

@@ -1,13 +1,2 @@
-pub mod Apart
 pub mod Counted
-pub mod Covered
-pub mod Entries
-pub mod Gaps
-pub mod LiveRows
-pub mod LiveTables
-pub mod NoRows
-pub mod ObjectOrder
-pub mod Placed
 pub mod RunsAtHand
-pub mod SettledVolume
-pub mod StateFits

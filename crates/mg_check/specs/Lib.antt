@@ -1,15 +1,6 @@
--- Definitions, in the order in which one reads them. First what a layer above learns.
-pub mod RowsRead
+-- Definitions, in the order in which one reads them. First what a layer above learns, beside `RowsRead` of mg_rules.
 pub mod Summaries
--- What was read, and which rows are live.
+-- What was read.
 pub mod Reads
-pub mod TableRows
--- What each table holds, and the rules between rows.
-pub mod TableTold
-pub mod RowsTold
-pub mod Spans
-pub mod Rules
-pub mod Tables
-pub mod Settled
 -- Lemmas that crates above cite. None of them is part of a statement.
 pub mod ReadRuns

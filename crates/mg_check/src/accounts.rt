@@ -5,7 +5,7 @@ ghost use Rattle.mg_model.specs.Limits.{account_limit};
 ghost use Rattle.mg_model.specs.Volume.{has_no_gap};
 ghost use Rattle.mg_rows.specs.Blocks.{account_in};
 ghost use Rattle.mg_rows.specs.Laws.{IsAccountRow};
-ghost use Rattle.mg_check.specs.RowsRead.{placed_from};
+ghost use Rattle.mg_rules.specs.RowsRead.{placed_from};
 
 use crate::lists::{add, with_room};
 use crate::table_rows::TableRow;

@@ -2,18 +2,17 @@
 ghost use Rattle.std.specs.Prelude.{◌≡◌, ◌≤◌, IfOk, length, sum_by};
 ghost use Rattle.std.specs.Option.{ForSome};
 ghost use Rattle.mg_disk.specs.Stops.{OnlyReadsBy};
-ghost use Rattle.mg_check.specs.RowsRead.{AreHeld};
+ghost use Rattle.mg_rules.specs.RowsRead.{AreHeld};
 ghost use Rattle.mg_check.specs.Summaries.{Tells, TellsOf};
-ghost use Rattle.mg_check.specs.Tables.{count_in, pages_in};
+ghost use Rattle.mg_rules.specs.Tables.{count_in, pages_in};
 ghost use Rattle.mg_model.specs.Layout.{total_blocks};
 ghost use Rattle.mg_model.specs.Limits.{object_limit};
 ghost use Rattle.mg_model.specs.Volume.{Damaged, NotVolume, OldVolume, volume};
 
 use crate::opening::read_volume;
-use crate::soundness::pages_in;
-use crate::volume_rows::VolumeRows;
 use mg_disk::Disk;
 use mg_model::ObjRow;
+use mg_rules::{VolumeRows, pages_in};
 use std::alloc::Global;
 use thiserror::Error;
 

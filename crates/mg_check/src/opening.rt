@@ -2,8 +2,8 @@
 ghost use Rattle.std.specs.Prelude.{◌≡◌, ◌≤◌, IfOk, IsSome, None, OnOk};
 ghost use Rattle.std.specs.Option.{ForSome};
 ghost use Rattle.mg_disk.specs.Stops.{OnlyReadsBy};
-ghost use Rattle.mg_check.specs.RowsRead.{AreKept, IsReadAs};
-ghost use Rattle.mg_check.specs.Settled.{IsSettled};
+ghost use Rattle.mg_rules.specs.RowsRead.{AreKept, IsReadAs};
+ghost use Rattle.mg_rules.specs.Settled.{IsSettled};
 ghost use Rattle.mg_journal.specs.Looked.{Fits};
 ghost use Rattle.mg_model.specs.Layout.{globals_block, total_blocks};
 ghost use Rattle.mg_model.specs.Replay.{replay};
@@ -12,11 +12,11 @@ ghost use Rattle.mg_model.specs.Volume.{Damaged, NotVolume, OldVolume, settled_v
 use crate::examining::OpenFault;
 use crate::settings::read_settings;
 use crate::tables::read_rows;
-use crate::volume_rows::VolumeRows;
 use mg_disk::Disk;
 use mg_journal::{View, ViewFault};
 use mg_layout::Geometry;
 use mg_model::Params;
+use mg_rules::VolumeRows;
 use std::alloc::Global;
 
 // Reads the rows of a volume with these settings, through a view of its journal.

@@ -4,7 +4,7 @@ ghost use Rattle.std.specs.Option.{ForSome};
 ghost use Rattle.mg_disk.specs.Stops.{OnlyReadsBy};
 ghost use Rattle.mg_model.specs.Layout.{first_frame};
 ghost use Rattle.mg_check.specs.Reads.{CanRead, contents};
-ghost use Rattle.mg_check.specs.TableTold.{AreEntries, HasRest, IsTable, entry_in};
+ghost use Rattle.mg_rules.specs.TableTold.{AreEntries, HasRest, IsTable, entry_in};
 
 use crate::lists::{add, with_room};
 use crate::reading::{BlockRun, Contents};

@@ -7,8 +7,8 @@ ghost use Rattle.mg_model.specs.Replay.{block_of};
 ghost use Rattle.mg_model.specs.Spelling.{Read};
 ghost use Rattle.mg_rows.specs.Answers.{as_read};
 ghost use Rattle.mg_check.specs.Reads.{CanRead, contents};
-ghost use Rattle.mg_check.specs.RowsRead.{ArePlaced, live_from};
-ghost use Rattle.mg_check.specs.TableRows.{AreLive, EachKeeps, NotSpelled, TakesRow};
+ghost use Rattle.mg_rules.specs.RowsRead.{ArePlaced, live_from};
+ghost use Rattle.mg_rules.specs.TableRows.{AreLive, EachKeeps, NotSpelled, TakesRow};
 
 use crate::lists::{add, with_room};
 use crate::reading::{BlockRun, Contents};

@@ -3,8 +3,8 @@ ghost use Rattle.std.specs.Prelude.{◌≡◌, ◌≤◌, IfOk, Some};
 ghost use Rattle.std.specs.Option.{ForSome};
 ghost use Rattle.mg_disk.specs.Stops.{OnlyReadsBy};
 ghost use Rattle.mg_check.specs.Reads.{CanRead, contents};
-ghost use Rattle.mg_check.specs.RowsRead.{AreHeld, AreKept};
-ghost use Rattle.mg_check.specs.RowsTold.{AreTold, HasNoState, NoCounters, TellsRows};
+ghost use Rattle.mg_rules.specs.RowsRead.{AreHeld, AreKept};
+ghost use Rattle.mg_rules.specs.RowsTold.{AreTold, HasNoState, NoCounters, TellsRows};
 ghost use Rattle.mg_model.specs.Layout.{globals_block, table_block, total_blocks};
 ghost use Rattle.mg_model.specs.Replay.{block_of};
 ghost use Rattle.mg_model.specs.Spelling.{globals_read};
@@ -13,13 +13,13 @@ use crate::accounts::without_places;
 use crate::reading::{Contents, read_block};
 use crate::table::read_table;
 use crate::table_rows::{read_all, read_places};
-use crate::volume_rows::VolumeRows;
 use mg_disk::{BLOCK_SIZE, Disk};
 use mg_faults::Failed;
 use mg_journal::ViewFault;
 use mg_layout::GLOBALS_BLOCK;
 use mg_model::{AccRow, Globals, Params};
 use mg_rows::read_globals;
+use mg_rules::VolumeRows;
 use std::alloc::Global;
 
 // Reads the globals.

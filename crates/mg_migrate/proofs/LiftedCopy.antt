@@ -2,10 +2,10 @@
 use Rattle.std.specs.Prelude.{◌≡◌, ◌⊎◌, ℕ, ◌<◌, ◌≤◌, option_map, Option, Some, None}
 use Rattle.std.proofs.Common.{refl, sym, ap, subst, ◌∙◌, inl, inr, ⊎_elim, arith}
 use Rattle.mg_check.specs.Reads.{contents}
-use Rattle.mg_check.specs.RowsRead.{state_in}
+use Rattle.mg_rules.specs.RowsRead.{state_in}
 use Rattle.mg_check.specs.Summaries.{TellsOf, summary_of}
 use Rattle.mg_check.specs.declared.examining.Summary.{Summary}
-use Rattle.mg_check.specs.declared.volume_rows.VolumeRows.{VolumeRows}
+use Rattle.mg_rules.specs.declared.volume_rows.VolumeRows.{VolumeRows}
 use Rattle.mg_disk.specs.Disk.{Image}
 use Rattle.mg_disk.specs.PlaceLemmas.{same_as}
 use Rattle.mg_disk.specs.Stops.{Leaves, NothingPending}

@@ -3,9 +3,9 @@ use Rattle.std.proofs.Common.{arith}
 use Rattle.std.specs.Prelude.{◌≡◌, ◌<◌, ◌≤◌, ◌==◌, true, length, IsSome, Option, None, Some, option_map}
 use Rattle.std.proofs.Common.{refl, sym, ap, subst, ◌∙◌}
 use Rattle.std.proofs.lemmas.Bool.{eqb-true}
-use Rattle.mg_check.specs.declared.volume_rows.VolumeRows.{VolumeRows}
+use Rattle.mg_rules.specs.declared.volume_rows.VolumeRows.{VolumeRows}
 use Rattle.mg_check.specs.Reads.{contents}
-use Rattle.mg_check.specs.RowsTold.{HasNoState, TellsRows}
+use Rattle.mg_rules.specs.RowsTold.{HasNoState, TellsRows}
 use Rattle.mg_disk.specs.declared.disk.Disk.{Ghosts}
 use Rattle.mg_disk.specs.Disk.{Image}
 use Rattle.mg_journal.specs.Looked.{Fits, Placed}

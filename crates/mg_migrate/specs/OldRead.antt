@@ -1,7 +1,7 @@
 -- What was read of a volume of version 1.
 use Rattle.std.specs.Prelude.{◌≡◌, Result, Ok, Err}
-use Rattle.mg_check.specs.declared.volume_rows.VolumeRows.{VolumeRows}
-use Rattle.mg_check.specs.RowsRead.{state_in}
+use Rattle.mg_rules.specs.declared.volume_rows.VolumeRows.{VolumeRows}
+use Rattle.mg_rules.specs.RowsRead.{state_in}
 use Rattle.mg_disk.specs.Disk.{Image}
 use Rattle.mg_journal.specs.Looked.{Fits}
 use Rattle.mg_migrate.specs.Layout1.{total1_blocks}

@@ -1,7 +1,7 @@
 // Reading a volume of version 1: its settings, its journal, and then its tables, as those of the volume that it becomes.
 ghost use Rattle.std.specs.Prelude.{◌≡◌, ◌≢◌, ◌≤◌, IfOk};
 ghost use Rattle.std.specs.Option.{ForSome};
-ghost use Rattle.mg_check.specs.RowsRead.{AreKept};
+ghost use Rattle.mg_rules.specs.RowsRead.{AreKept};
 ghost use Rattle.mg_disk.specs.Stops.{OnlyReads, OnlyReadsBy};
 ghost use Rattle.mg_migrate.specs.Layout1.{total1_blocks};
 ghost use Rattle.mg_migrate.specs.OldRead.{HasSettings1, IsOldRead, IsSeen1, TellsOld};

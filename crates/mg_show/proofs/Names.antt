@@ -1,8 +1,8 @@
 -- The names that most proofs of this crate cite, passed on from one place.
 pub use Rattle.arrayvec.specs.ArrayVec.{array_vec_len}
 pub use Rattle.mg_bank.specs.Bank.{pages_at}
-pub use Rattle.mg_check.specs.RowsRead.{state_in}
-pub use Rattle.mg_check.specs.declared.volume_rows.VolumeRows.{VolumeRows}
+pub use Rattle.mg_rules.specs.RowsRead.{state_in}
+pub use Rattle.mg_rules.specs.declared.volume_rows.VolumeRows.{VolumeRows}
 pub use Rattle.mg_disk.specs.Disk.{Image}
 pub use Rattle.mg_io.specs.Known.{AppendsPrefix}
 pub use Rattle.mg_journal.specs.Looked.{Fits}

@@ -1,7 +1,7 @@
 -- What rows keep that were read of a volume, and the parts of the state that they spell.
 use Rattle.mg_show.proofs.Names.{None, Option, Some}
 use Rattle.mg_show.proofs.Names.{cases_Bool, Object}
-use Rattle.mg_check.specs.RowsRead as rows
+use Rattle.mg_rules.specs.RowsRead as rows
 use Rattle.mg_model.specs.Objects.{with_object}
 use Rattle.mg_model.specs.Volume.{objects_spelled}
 use Rattle.mg_objects.specs.Held.{by_base, into_place, live_from}
@@ -11,7 +11,7 @@ use Rattle.mg_show.proofs.Names.{AreApart, objects_in}
 use Rattle.std.proofs.lemmas.List.Elements.{All-weaker}
 use Rattle.std.proofs.lemmas.Bool.Decides.{nat_tests}
 use Rattle.std.proofs.lemmas.List.Kept.{AllPairs-cons}
-use Rattle.mg_check.specs.RowsRead.{AreKept, placed_from}
+use Rattle.mg_rules.specs.RowsRead.{AreKept, placed_from}
 use Rattle.mg_model.specs.KeptListLemmas.{AllPairs-head, AllPairs-nil}
 use Rattle.mg_model.specs.Tests.{all_distinct}
 use Rattle.mg_model.specs.Volume.{accounts_fit, are_apart, bound_pages}

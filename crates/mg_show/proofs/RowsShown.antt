@@ -3,7 +3,7 @@ use Rattle.std.proofs.Common.{arith}
 use Rattle.mg_show.proofs.Names.{ℕ, ◌≡◌, List, [], ◌++◌, None, Option, Some, refl, sym, ap, inl, inr, subst, append-nil, ⊎_elim, ◌∙◌, Appends, ForSome}
 use Rattle.mg_show.proofs.Names.{state_in, VolumeRows, Image, AppendsPrefix, text_of, Held, Puts, PutsOf}
 use Rattle.mg_check.specs.ReadRuns.{only_none}
-use Rattle.mg_check.specs.RowsRead.{IsReadAs}
+use Rattle.mg_rules.specs.RowsRead.{IsReadAs}
 use Rattle.mg_disk.specs.declared.disk.Disk as disks
 use Rattle.mg_io.specs.Known.{AppendsPrefix-none}
 use Rattle.mg_io.specs.declared.traits.Sink as sinks

@@ -1,6 +1,6 @@
 // What is held of a volume while it is shown.
 ghost use Rattle.std.specs.Prelude.{◌≡◌, ◌<◌, ◌≤◌, HoldsAt, IfSome, length};
-ghost use Rattle.mg_check.specs.RowsRead.{AreKept};
+ghost use Rattle.mg_rules.specs.RowsRead.{AreKept};
 ghost use Rattle.mg_model.specs.Layout.{total_blocks};
 ghost use Rattle.mg_objects.specs.Held.{objects_in};
 ghost use Rattle.mg_space.specs.Space.{ArePaid};

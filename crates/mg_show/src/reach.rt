@@ -1,6 +1,6 @@
 // Who may reach what, written as text.
 ghost use Rattle.std.specs.Prelude.{◌≡◌, flat_map, length};
-ghost use Rattle.mg_check.specs.RowsRead.{ArePlaced};
+ghost use Rattle.mg_rules.specs.RowsRead.{ArePlaced};
 ghost use Rattle.mg_model.specs.Access.{capabilities, holds};
 ghost use Rattle.mg_model.specs.Limits.{thread_limit};
 ghost use Rattle.mg_model.specs.Rights.{has_right};

@@ -6,7 +6,7 @@ use Rattle.std.proofs.Common.{refl, sym, ap, ◌∙◌, arith}
 use Rattle.std.proofs.lemmas.Bool.{both_ways, cases_lt, eq-eqb, lt-ltb, or_parts}
 use Rattle.std.proofs.lemmas.Option.{slice_get_past}
 use Rattle.mg_bank.specs.AccountLemmas.{length-taken}
-use Rattle.mg_check.specs.RowsRead.{placed_from}
+use Rattle.mg_rules.specs.RowsRead.{placed_from}
 use Rattle.mg_model.specs.declared.accounts.AccRow.{AccRow}
 use Rattle.mg_model.specs.Abbreviations.{with_account}
 use Rattle.mg_model.specs.Bank.{account_of, credited, debited}

@@ -4,8 +4,8 @@ use Rattle.std.specs.Prelude.{◌≡◌, ℕ, nat_le, Bool, true, false, List, d
 use Rattle.std.specs.Option.{option_map_or}
 use Rattle.std.proofs.Common.{refl, sym, ap, subst, ◌∙◌, ⊎_elim}
 use Rattle.std.proofs.lemmas.Bool.{cases_Bool, leb-true}
-use Rattle.mg_check.specs.RowsRead.{IsReadAs, rows_in, state_in}
-use Rattle.mg_check.specs.declared.volume_rows.VolumeRows.{VolumeRows}
+use Rattle.mg_rules.specs.RowsRead.{IsReadAs, rows_in, state_in}
+use Rattle.mg_rules.specs.declared.volume_rows.VolumeRows.{VolumeRows}
 use Rattle.mg_disk.specs.Disk.{Image, SeenBut}
 use Rattle.mg_journal.specs.Contents.{InJournal, SameContents}
 use Rattle.mg_model.specs.declared.accounts.AccRow.{AccRow}

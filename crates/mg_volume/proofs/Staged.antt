@@ -15,7 +15,7 @@ use Rattle.mg_pages.specs.ComingLemmas.{length_coming}
 use Rattle.mg_pages.specs.declared.pages.Pages.{Pages}
 use Rattle.mg_pages.specs.SpelledLemmas as laws
 use Rattle.mg_pages.specs.Meaning as pages
-use Rattle.mg_check.specs.RowsRead.{placed_from}
+use Rattle.mg_rules.specs.RowsRead.{placed_from}
 use Rattle.mg_model.specs.Abbreviations.{account_row_bytes, object_row_bytes, thread_row_bytes}
 use Rattle.mg_model.specs.Limits.{account_limit, object_limit, thread_limit}
 use Rattle.mg_volume.proofs.Stages.{same_changes}

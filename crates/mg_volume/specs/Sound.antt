@@ -19,7 +19,7 @@ use Rattle.mg_model.specs.VolumeLemmas.{rows-read, rows_with}
 use Rattle.mg_pages.specs.SpelledLemmas as laws
 use Rattle.mg_pages.specs.Meaning as pages
 use Rattle.mg_volume.specs.Held.{VolumeHeld}
-use Rattle.mg_check.specs.RowsRead.{placed_from}
+use Rattle.mg_rules.specs.RowsRead.{placed_from}
 use Rattle.mg_objects.specs.Held.{by_base, into_place}
 use Rattle.mg_volume.specs.Meaning.{IsKept, Spelled, has_page, is_page_in, is_sound, now_of, objects_in, rows_apart, threads_in}
 

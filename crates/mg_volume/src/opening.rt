@@ -2,7 +2,7 @@
 ghost use Rattle.std.specs.Prelude.{◌≡◌, ◌≤◌, true, IfOk, IfSome, length, vec_capacity};
 ghost use Rattle.std.specs.Option.{ForSome};
 ghost use Rattle.mg_bank.specs.Bank.{credits_of};
-ghost use Rattle.mg_check.specs.RowsRead.{AreKept, ArePlaced, IsReadAs};
+ghost use Rattle.mg_rules.specs.RowsRead.{AreKept, ArePlaced, IsReadAs};
 ghost use Rattle.mg_disk.specs.Stops.{Becomes, DiskCallsBy, Leaves, NothingPending};
 ghost use Rattle.mg_journal.specs.Contents.{SameContents};
 ghost use Rattle.mg_journal.specs.Looked.{Fits};

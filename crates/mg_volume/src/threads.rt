@@ -1,7 +1,7 @@
 // The threads of a volume, by their numbers.
 ghost use Rattle.std.specs.Prelude.{◌≡◌, ◌≤◌, ◌%◌, ◌==◌, ◌&&◌, false, nat_lt, not, [], All, IfOk, IfSome, None, Some, find, is_some, length, position, replicate, true};
 ghost use Rattle.std.specs.Option.{ForSome, option_copied, option_map};
-ghost use Rattle.mg_check.specs.RowsRead.{ArePlaced};
+ghost use Rattle.mg_rules.specs.RowsRead.{ArePlaced};
 ghost use Rattle.mg_model.specs.Limits.{thread_limit};
 ghost use Rattle.mg_model.specs.Ranges.{IsThreadRow};
 ghost use Rattle.mg_model.specs.State.{ThreadRow};

@@ -3,8 +3,8 @@ use Rattle.std.specs.Prelude.{◌≡◌, [], Option, Some, None}
 use Rattle.std.specs.Option.{ForSome}
 use Rattle.std.proofs.Common.{refl, subst}
 use Rattle.mg_check.specs.declared.examining.Summary.{Summary}
-use Rattle.mg_check.specs.declared.volume_rows.VolumeRows.{VolumeRows}
-use Rattle.mg_check.specs.RowsRead.{IsReadAs, state_in}
+use Rattle.mg_rules.specs.declared.volume_rows.VolumeRows.{VolumeRows}
+use Rattle.mg_rules.specs.RowsRead.{IsReadAs, state_in}
 use Rattle.mg_check.specs.Summaries.{TellsOf}
 use Rattle.mg_disk.specs.Disk.{Image}
 use Rattle.mg_model.specs.Volume.{Is, volume}

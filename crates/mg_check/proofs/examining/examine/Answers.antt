@@ -1,4 +1,4 @@
-use Rattle.mg_check.specs.RowsRead.{state_in}
+use Rattle.mg_rules.specs.RowsRead.{state_in}
 use Rattle.mg_check.proofs.examining.examine.Goals as goal
 
 pub returns-in-Ok-clause-tells : goal.returns-in-Ok-clause-tells

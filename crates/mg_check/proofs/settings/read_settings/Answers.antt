@@ -6,7 +6,7 @@ use Rattle.mg_model.specs.Replay.{block_of}
 use Rattle.mg_model.specs.Spelling.{BadSuper, NotSuper, OldSuper, super_read}
 use Rattle.mg_model.specs.VolumeLemmas.{volume-closed, volume-short}
 use Rattle.mg_model.specs.Volume.{gate_byte}
-use Rattle.mg_check.proofs.SettledVolume.{opened-by, volume-behind}
+use Rattle.mg_rules.specs.SettledVolumeLemmas.{opened-by, volume-behind}
 use Rattle.mg_check.proofs.settings.read_settings.Goals as goal
 
 pub returns-then-blocks-lt2-clause-not : goal.returns-then-blocks-lt2-clause-not

@@ -2,8 +2,8 @@ use Rattle.std.proofs.Common.{◌≡◌, Some, ◌*◌, ◌==◌, ap, sym, ◌�
 use Rattle.mg_disk.specs.Disk.{Image}
 use Rattle.mg_model.specs.Layout.{table_blocks}
 use Rattle.mg_check.specs.Reads.{contents}
-use Rattle.mg_check.specs.TableTold.{entry_in, table_entry}
-use Rattle.mg_check.proofs.Entries.{table-rest, table-told}
+use Rattle.mg_rules.specs.TableTold.{entry_in, table_entry}
+use Rattle.mg_rules.specs.EntryLemmas.{table-rest, table-told}
 use Rattle.mg_check.proofs.RunsAtHand.{handed-on, here}
 use Rattle.mg_check.specs.ReadRuns.{caused, only_of, only_then, same_contents, still_read}
 use Rattle.mg_check.proofs.table.read_table.Goals as goal

@@ -2,11 +2,11 @@ use Rattle.std.proofs.Common.{◌≡◌, ℕ, Some, ap, subst, sym, ◌∙◌, a
 use Rattle.mg_disk.specs.Disk.{Image}
 use Rattle.mg_model.specs.Replay.{block_of}
 use Rattle.mg_check.specs.Reads.{contents}
-use Rattle.mg_check.specs.RowsRead.{live_from}
-use Rattle.mg_check.specs.TableRows.{AreLive}
-use Rattle.mg_check.proofs.LiveRows.{live_none, not_spelled}
+use Rattle.mg_rules.specs.RowsRead.{live_from}
+use Rattle.mg_rules.specs.TableRows.{AreLive}
+use Rattle.mg_rules.specs.LiveRowLemmas.{live_none, not_spelled}
 use Rattle.mg_check.proofs.RunsAtHand.{handed-on, here, none_yet}
-use Rattle.mg_check.proofs.Placed.{kept_none, placed_all, placed_none}
+use Rattle.mg_rules.specs.PlacedLemmas.{kept_none, placed_all, placed_none}
 use Rattle.mg_check.specs.ReadRuns.{caused, failed_then, only_none, only_of, only_then, same_contents, still_read}
 use Rattle.mg_check.proofs.table_rows.read_places.Goals as goal
 

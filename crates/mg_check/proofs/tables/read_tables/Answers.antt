@@ -3,12 +3,12 @@ use Rattle.std.proofs.Common.{subst, sym, ◌∙◌}
 use Rattle.mg_model.specs.Abbreviations.{account_row_bytes}
 use Rattle.mg_model.specs.Limits.{account_limit}
 use Rattle.mg_model.specs.Spelling.{account_read}
-use Rattle.mg_check.specs.TableTold.{HasRest, IsTable}
-use Rattle.mg_check.specs.TableRows.{AreLive}
-use Rattle.mg_check.proofs.NoRows.{with-gap, without-accounts, without-counters, without-objects, without-threads, without-zeros}
+use Rattle.mg_rules.specs.TableTold.{HasRest, IsTable}
+use Rattle.mg_rules.specs.TableRows.{AreLive}
+use Rattle.mg_rules.specs.NoRowLemmas.{with-gap, without-accounts, without-counters, without-objects, without-threads, without-zeros}
 use Rattle.mg_check.proofs.RunsAtHand.{handed-on}
 use Rattle.mg_check.specs.ReadRuns.{only_by, only_then, same_contents, still_read}
-use Rattle.mg_check.proofs.StateFits.{tables-told}
+use Rattle.mg_rules.specs.ToldLemmas.{tables-told}
 use Rattle.mg_check.proofs.tables.read_tables.Goals as goal
 
 pub read_all-requires-clause-can : goal.read_all-requires-clause-can

@@ -1,6 +1,6 @@
 use Rattle.mg_show.proofs.Names.{ap, arith, subst, sym, ◌∙◌, Fits, thread_limit, text_of, state_shown}
 use Rattle.mg_check.specs.Reads.{CanRead}
-use Rattle.mg_check.specs.RowsRead.{ArePlaced}
+use Rattle.mg_rules.specs.RowsRead.{ArePlaced}
 use Rattle.mg_journal.specs.Looked.{Placed}
 use Rattle.mg_serve.specs.declared.status.Status.{Status}
 use Rattle.mg_show.specs.Putting.{ShowsRows}

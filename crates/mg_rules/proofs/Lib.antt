@@ -1,0 +1,4 @@
+pub mod Apart
+pub mod Covered
+pub mod ObjectOrder
+pub mod StateFits
