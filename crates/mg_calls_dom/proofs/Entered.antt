@@ -3,13 +3,13 @@ use Rattle.std.proofs.Common.{ℕ, ◌+◌, ◌-◌, ◌≡◌, ◌++◌, Bool, 
 use Rattle.std.specs.Prelude.{nat_le, nat_lt, option_map}
 use Rattle.std.specs.Option.{option_map_or, option_to_list}
 use Rattle.std.proofs.lemmas.Bool.{and_from}
+use Rattle.mg_access.specs.ThreadLemmas.{slots-of}
+use Rattle.mg_access.specs.RefusalLemmas.{access_passed, access_stopped}
+use Rattle.mg_access.specs.Searching.{access_refusal}
 use Rattle.mg_apd.specs.Refusals.{leaving_refusal}
 use Rattle.mg_apd.specs.Refusals as apd
-use Rattle.mg_calls_dom.specs.ThreadLemmas.{slots-of}
 use Rattle.mg_calls_dom.proofs.Words.{lives-ok}
 use Rattle.mg_calls_dom.specs.Entering.{pdx_refusal}
-use Rattle.mg_calls_dom.specs.RefusalLemmas.{access_passed, access_stopped}
-use Rattle.mg_calls_dom.specs.Searching.{access_refusal}
 use Rattle.mg_laws.specs.Backing.{CallsKeepBacked}
 use Rattle.mg_model.specs.declared.calls.Call.TheVariants as call
 use Rattle.mg_model.specs.declared.calls.Line.{Line}

@@ -1,9 +1,9 @@
 -- The fetch of a word, by what was reached.
 use Rattle.std.specs.Prelude.{ℕ, ◌≡◌, ◌≤◌, ◌+◌, ◌-◌, Bool, if◌then◌else◌, Some, None}
 use Rattle.std.proofs.Common.{arith, sym, ap, ◌∙◌}
+use Rattle.mg_access.specs.ReachedLemmas.{reached_allowed, reached_none}
+use Rattle.mg_access.specs.Searching.{allowed_row}
 use Rattle.mg_calls_dom.specs.Fetching.{Fetches, fetch_limit}
-use Rattle.mg_calls_dom.specs.ReachedLemmas.{reached_allowed, reached_none}
-use Rattle.mg_calls_dom.specs.Searching.{allowed_row}
 use Rattle.mg_model.specs.declared.rights.Right.TheVariants.{X}
 use Rattle.mg_model.specs.Abbreviations.{is_allowed}
 use Rattle.mg_model.specs.Access.{allowed}

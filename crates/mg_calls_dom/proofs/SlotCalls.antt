@@ -3,6 +3,7 @@ use Rattle.std.specs.Prelude.{◌≡◌, ◌≤◌, ◌<◌, ◌+◌, ◌-◌, �
 use Rattle.std.proofs.Common.{get_or, sym, ap, ◌∙◌, arith}
 use Rattle.std.proofs.Math.Seq.{set-append_seam}
 use Rattle.std.proofs.lemmas.List.{append_assoc, length-map, length-take-le, map_more}
+use Rattle.mg_access.specs.ThreadLemmas.{slots-of}
 use Rattle.mg_apd.specs.Refusals.{dropping_refusal, pushing_refusal}
 use Rattle.mg_model.specs.declared.replies.Refusal.{Refusal}
 use Rattle.mg_model.specs.declared.replies.Refusal.TheVariants.{NoSlot, SlotFull}
@@ -14,7 +15,6 @@ use Rattle.mg_model.specs.Limits.{slot_limit}
 use Rattle.mg_model.specs.Abbreviations.{unless_refused}
 use Rattle.mg_model.specs.Refused.{first_refusal}
 use Rattle.mg_model.specs.State.{State, Thread, ThreadRow}
-use Rattle.mg_calls_dom.specs.ThreadLemmas.{slots-of}
 
 -- other slots in the present frame
 abbrev pub slotted : List Slot → ThreadRow → ThreadRow

@@ -1,14 +1,11 @@
--- The access of a load or a store, and the word itself.
-use Rattle.std.proofs.Common.{ℕ, ◌≡◌, ◌≤◌, ◌+◌, ◌-◌, ◌*◌, ◌&&◌, Bool, not, true, false, List, [], ◌∷◌, if◌then◌else◌, Option, Some, None, refl, sym, ap, subst, ◌∙◌, arith}
+-- The word of a load or a store, and what a store leaves of the seats.
+use Rattle.std.proofs.Common.{ℕ, ◌≡◌, ◌+◌, ◌*◌, ◌/◌, ◌%◌, ◌&&◌, Bool, not, true, false, List, [], ◌∷◌, if◌then◌else◌, Option, Some, None, refl, sym, ap, subst, ◌∙◌, arith}
 use Rattle.std.specs.Prelude.{nat_le, nat_lt, option_map}
 use Rattle.std.proofs.lemmas.Bool.{and_from, and_parts}
-use Rattle.mg_calls_dom.proofs.Apart.{found-any, found-passes}
-use Rattle.mg_calls_dom.proofs.Tried.{taken-none}
-use Rattle.mg_calls_dom.specs.LineLemmas.{none_rules, one_limit, one_rules}
-use Rattle.mg_calls_dom.specs.ReachedLemmas.{nobody_reaches, reached_lives, thread_gone}
-use Rattle.mg_calls_dom.specs.Searching.{access_refusal, allowed_row, word_accesses}
+use Rattle.mg_access.specs.FoundLemmas.{found-any, found-passes}
+use Rattle.mg_access.specs.ReachedLemmas.{reached_lives}
+use Rattle.mg_access.specs.Searching.{access_refusal, allowed_row}
 use Rattle.mg_laws.specs.Backing.{CallsKeepBacked, EndsOneList}
-use Rattle.mg_laws.specs.Costs.{SearchesKeepRules}
 use Rattle.mg_model.specs.declared.calls.Call.TheVariants as call
 use Rattle.mg_model.specs.declared.calls.Line.{Line}
 use Rattle.mg_model.specs.declared.replies.Refusal.{Refusal}
@@ -18,10 +15,10 @@ use Rattle.mg_model.specs.declared.rights.Right.{Right}
 use Rattle.mg_model.specs.declared.rights.Right.TheVariants.{W}
 use Rattle.mg_model.specs.declared.seats.Seat.{Seat}
 use Rattle.mg_model.specs.Access.{allowed, at, covers}
-use Rattle.mg_model.specs.Accesses.{Access, word_access, word_under}
+use Rattle.mg_model.specs.Accesses.{Access, word_under}
 use Rattle.mg_model.specs.Backed.{KeepsBacked, by_given, by_list, by_none, by_word}
-use Rattle.mg_model.specs.Kept.{KeepsKeys, KeepsRules, Searches, Validates, access_limit, searches_limit}
-use Rattle.mg_model.specs.Keys.{Key, is_elsewhere, taken}
+use Rattle.mg_model.specs.Kept.{KeepsKeys}
+use Rattle.mg_model.specs.Keys.{Key}
 use Rattle.mg_model.specs.Limits.{page_size}
 use Rattle.mg_model.specs.ObjectCalls.{is_aligned, store}
 use Rattle.mg_model.specs.Refused.{Answer, first_refusal}
@@ -35,48 +32,6 @@ use Rattle.mg_vcache.specs.Seats.{AllBacked, is_kept, without}
 use Rattle.mg_vcache.specs.SeatLemmas.{backed_still, backed_without}
 
 module _ (state : State) (t a : ℕ) (right : Right) where
-  abbrev access : Access
-  access = record { thread = t; address = a; right = right }
-
-  made-unaligned : is_aligned a ≡ false → word_accesses state t a right ≡ []
-  made-unaligned off = by_thread (is_thread state t)
-    where
-      by_thread : (v : Bool) → (if v then word_access t a right else []) ≡ []
-      by_thread true = ap (λ b. if b then access ∷ [] else []) off
-      by_thread false = refl
-
-  made-nobody : is_thread state t ≡ false → word_accesses state t a right ≡ []
-  made-nobody gone = ap (λ v. if v then word_access t a right else []) gone
-
-  made-one : is_thread state t ≡ true → is_aligned a ≡ true → word_accesses state t a right ≡ access ∷ []
-  made-one lives on = ap (λ v. if v then word_access t a right else []) lives ∙ ap (λ b. if b then access ∷ [] else []) on
-
-  module _ (kept kept' : Key → Bool) (steps steps' : ℕ) (keep : SearchesKeepRules Searches) where
-    pub unaligned-rules : is_aligned a ≡ false → ((key : Key) → kept' key ≡ kept key) → steps' ≡ steps → KeepsRules state (word_accesses state t a right) kept kept' (steps' - steps)
-    unaligned-rules off same none =
-        subst (λ made. KeepsRules state made kept kept' (steps' - steps)) (sym (made-unaligned off)) (none_rules state kept kept' (steps' - steps) same (omega arith) keep)
-
-    -- what the access keeps; one of no thread makes none
-    pub tested-rules : is_aligned a ≡ true → Validates state access kept kept' (steps' - steps) → (is_thread state t ≡ false → steps' ≡ steps) → KeepsRules state (word_accesses state t a right) kept kept' (steps' - steps)
-    tested-rules on valid gone = by_thread (is_thread state t) refl
-      where
-        by_thread : (v : Bool) → is_thread state t ≡ v → KeepsRules state (word_accesses state t a right) kept kept' (steps' - steps)
-        by_thread true is = subst (λ made. KeepsRules state made kept kept' (steps' - steps)) (sym (made-one is on)) (one_rules state access kept kept' (steps' - steps) valid keep)
-        by_thread false is =
-            let none : taken state access ≡ [] = taken-none t a right (allowed state t a right) (at state.objects a) (nobody_reaches state t a right (thread_gone state t is)) in
-            let same = gone is in
-            subst (λ made. KeepsRules state made kept kept' (steps' - steps)) (sym (made-nobody is))
-            (none_rules state kept kept' (steps' - steps) (λ key. valid.others key (ap (λ keys. is_elsewhere keys key) none)) (omega arith) keep)
-
-    pub tested-limit : is_aligned a ≡ true → steps' ≤ steps + access_limit kept state access → (is_thread state t ≡ false → steps' ≡ steps) → steps' ≤ steps + searches_limit kept state (word_accesses state t a right)
-    tested-limit on few gone = by_thread (is_thread state t) refl
-      where
-        by_thread : (v : Bool) → is_thread state t ≡ v → steps' ≤ steps + searches_limit kept state (word_accesses state t a right)
-        by_thread true is =
-            let less : steps' - steps ≤ searches_limit kept state (access ∷ []) = one_limit state access kept (steps' - steps) (omega arith) keep in
-            subst (λ made. steps' ≤ steps + searches_limit kept state made) (sym (made-one is on)) (omega arith)
-        by_thread false is = let same = gone is in omega arith
-
   own-when : (v on may : Bool) → v ≡ true → first_refusal ((not on, Align) ∷ (not may, Denied) ∷ []) ≡ None → (let n : ℕ = if v then (if on && may then 1 else 0) else 0 in n) ≡ 1
   own-when true true true is none = refl
   own-when true true false is none = cc
@@ -104,6 +59,10 @@ module _ (state : State) (t a : ℕ) (right : Right) where
       by_test true (Some object) h = let same : object.row ≡ row = cc in (object, refl, same)
       by_test true None h = cc
       by_test false o h = cc
+
+-- the address of a word, from its page and its place there
+pub word-address : (a page index : ℕ) → page ≡ a / 4096 → index ≡ a % 4096 / 8 → a % 8 ≡ 0 → 4096 * page + 8 * index ≡ a
+word-address a page index p i aligned = omega arith
 
 -- the call of a thread that lives is answered by its row
 pub lives-ok : (state : State) (v : Bool) (answer : Answer) → v ≡ true → is_ok answer.1 ≡ true → is_ok (if v then answer else (state, No NoThread)).1 ≡ true

@@ -1,16 +1,3 @@
 -- Definitions.
 pub mod Entering
-pub mod Searching
-pub mod Known
-pub mod Finding
 pub mod Fetching
-pub mod Served
-pub mod Backing
--- Lemmas that crates above cite. None of them is part of a statement.
-pub mod BackingLemmas
-pub mod KnownLemmas
-pub mod LineLemmas
-pub mod ReachedLemmas
-pub mod RefusalLemmas
-pub mod ServedLemmas
-pub mod ThreadLemmas

@@ -1,11 +1,11 @@
 // The calls that enter an object by one of its entries, and return.
 ghost use Rattle.std.specs.Prelude.{List, ◌≡◌, ◌≤◌, ◌+◌, ◌%◌, ◌==◌, ◌++◌, ◌∷◌, [], ℕ, true, find, length, IfOk, IfSome, MatchResult, None, OnErr, OnOk, Some};
 ghost use Rattle.std.specs.Option.{ForSome};
+ghost use Rattle.mg_access.specs.Backing.{StayBacked};
+ghost use Rattle.mg_access.specs.Searching.{access_refusal};
+ghost use Rattle.mg_access.specs.Served.{CallServes, of_call};
 ghost use Rattle.mg_apd.specs.Refusals.{entered_slots};
-ghost use Rattle.mg_calls_dom.specs.Backing.{StayBacked};
 ghost use Rattle.mg_calls_dom.specs.Entering.{pdx_refusal};
-ghost use Rattle.mg_calls_dom.specs.Searching.{access_refusal};
-ghost use Rattle.mg_calls_dom.specs.Served.{CallServes, of_call};
 ghost use Rattle.mg_model.specs.Backed.{by_thread};
 ghost use Rattle.mg_model.specs.Domains as domains;
 ghost use Rattle.mg_model.specs.ObjectCalls.{row_at};
@@ -16,8 +16,7 @@ ghost use Rattle.mg_volume.specs.Calls.{Answers, CallStages, IsSoundOn, Stages};
 ghost use Rattle.mg_volume.specs.Meaning.{now_of, staged_of, threads_in};
 ghost use Rattle.mg_volume.specs.Staging.{lives};
 
-use crate::access::word_object;
-use crate::rows::row_of;
+use mg_access::{row_of, word_object};
 use mg_apd::{enter, leave};
 use mg_disk::Disk;
 use mg_faults::Failed;

@@ -1,6 +1,6 @@
 // The calls on the slots that a thread runs under.
 ghost use Rattle.std.specs.Prelude.{◌≡◌, ◌≤◌, ◌-◌, ◌++◌, true, length, map, replicate};
-ghost use Rattle.mg_calls_dom.specs.Backing.{StayBacked};
+ghost use Rattle.mg_access.specs.Backing.{StayBacked};
 ghost use Rattle.mg_model.specs.Backed.{by_thread};
 ghost use Rattle.mg_model.specs.Domains as domains;
 ghost use Rattle.mg_vcache.specs.Drops.{Drops};
@@ -8,7 +8,7 @@ ghost use Rattle.mg_volume.specs.Calls.{Answers, CallStages};
 ghost use Rattle.mg_volume.specs.Meaning.{staged_of};
 ghost use Rattle.mg_volume.specs.Staging.{lives};
 
-use crate::rows::row_of;
+use mg_access::row_of;
 use mg_apd::{drop_slot, push_slot};
 use mg_laws::steps_keep_backing;
 use mg_model::limits::SLOT_LIMIT;

@@ -1,7 +1,7 @@
 -- What a call on an object keeps and costs, after one search.
 use Rattle.std.specs.Prelude.{◌≡◌, ◌≤◌, ◌+◌, ◌-◌, ◌&&◌, ℕ, Bool, true, false, List, [], ◌∷◌, if◌then◌else◌, Option}
 use Rattle.std.proofs.Common.{refl, sym, ap, arith, subst, ◌∙◌}
-use Rattle.mg_calls_dom.specs.LineLemmas.{drops_line, limit_line, one_limit, thread_limit, thread_rules}
+use Rattle.mg_access.specs.LineLemmas.{drops_line, limit_line, one_limit, thread_limit, thread_rules}
 use Rattle.mg_calls_obj.specs.Door.{EndsBy, asked, is_on_object, named}
 use Rattle.mg_laws.specs.Costs.{SearchesKeepRules}
 use Rattle.mg_model.specs.declared.calls.Call.{Call}

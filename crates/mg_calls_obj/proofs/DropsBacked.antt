@@ -1,7 +1,7 @@
 -- What a call on an object that ends rights leaves of them, by the law on what a change of one object ends.
 use Rattle.std.specs.Prelude.{◌≡◌, ℕ, List, Option}
 use Rattle.std.proofs.Common.{ap, subst, sym}
-use Rattle.mg_calls_dom.specs.Backing.{StayBacked}
+use Rattle.mg_access.specs.Backing.{StayBacked}
 use Rattle.mg_calls_obj.specs.Based.{KeepsOthers}
 use Rattle.mg_laws.specs.Backing.{ChangeKeepsOthers, GoneKeepsOthers}
 use Rattle.mg_model.specs.declared.replies.Reply.{Reply}

@@ -1,7 +1,7 @@
 -- What `info` answers, by what was found.
 use Rattle.std.proofs.Common.{ℕ, ◌≡◌, Bool, true, false, not, [], ◌∷◌, Some, ap, ◌∙◌}
-use Rattle.mg_calls_dom.specs.ReachedLemmas.{reached_at}
-use Rattle.mg_calls_dom.specs.Searching.{allowed_row}
+use Rattle.mg_access.specs.ReachedLemmas.{reached_at}
+use Rattle.mg_access.specs.Searching.{allowed_row}
 use Rattle.mg_model.specs.declared.replies.Refusal.TheVariants.{Denied}
 use Rattle.mg_model.specs.declared.replies.Reply.TheVariants.{No}
 use Rattle.mg_model.specs.declared.rights.Right.{Right}

@@ -3,8 +3,8 @@ use Rattle.std.proofs.Common.{ℕ, suc, ◌≡◌, ◌≤◌, ◌<◌, ◌+◌, 
 use Rattle.std.specs.Prelude.{◌==◌, find, map, Option, None}
 use Rattle.std.proofs.Math.Seq.{drop-cons, take-suc}
 use Rattle.std.proofs.lemmas.List.{append-nil, append_assoc, drop_all, map-append}
-use Rattle.mg_calls_dom.specs.LineLemmas.{as_if, failed_access, limit_append}
-use Rattle.mg_calls_dom.specs.ReachedLemmas.{same_threads}
+use Rattle.mg_access.specs.LineLemmas.{as_if, failed_access, limit_append}
+use Rattle.mg_access.specs.ReachedLemmas.{same_threads}
 use Rattle.mg_laws.specs.Costs.{SearchesGoOn, SearchesKeepRules}
 use Rattle.mg_model.specs.declared.calls.Call.TheVariants as call
 use Rattle.mg_model.specs.declared.calls.Line.{Line}

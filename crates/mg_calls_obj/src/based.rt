@@ -1,6 +1,6 @@
 // The calls on an object, by its base.
 ghost use Rattle.std.specs.Prelude.{◌≡◌, ◌≤◌, ◌==◌, true, find, Some};
-ghost use Rattle.mg_calls_dom.specs.Backing.{StayBacked};
+ghost use Rattle.mg_access.specs.Backing.{StayBacked};
 ghost use Rattle.mg_calls_obj.specs.Based.{OfBase, based, is_object};
 ghost use Rattle.mg_model.specs.Backed.{by_via};
 ghost use Rattle.mg_model.specs.ObjectCalls as calls;

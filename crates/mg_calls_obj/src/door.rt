@@ -1,7 +1,7 @@
 // The calls on an object, after one search for the right to it.
 ghost use Rattle.std.specs.Prelude.{List, ◌≡◌, ◌≤◌, ◌==◌, ℕ, true, find, Some};
 ghost use Rattle.std.specs.Option.{ForSome};
-ghost use Rattle.mg_calls_dom.specs.Served.{CallServes, of_call};
+ghost use Rattle.mg_access.specs.Served.{CallServes, of_call};
 ghost use Rattle.mg_calls_obj.specs.Door.{ActsBy, EndsBy, asked, is_on_object, named};
 ghost use Rattle.mg_vcache.specs.Seats.{AllBacked};
 ghost use Rattle.mg_volume.specs.Calls.{CallStages, IsSoundOn};
@@ -10,7 +10,7 @@ ghost use Rattle.mg_volume.specs.Meaning.{now_of, objects_in, staged_of};
 use crate::altering::{entry_by_row, ext_by_row, recharge_by_row};
 use crate::making::delete_by_row;
 use crate::passwords::{pwadd_by_row, pwdel_by_row};
-use mg_calls_dom::reach;
+use mg_access::reach;
 use mg_disk::Disk;
 use mg_faults::Failed;
 use mg_laws::{accesses_keep_the_rules_of_a_line, steps_keep_backing};

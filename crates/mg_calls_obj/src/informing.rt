@@ -1,7 +1,7 @@
 // What a reply says of an object.
 ghost use Rattle.std.specs.Prelude.{List, ◌≡◌, ℕ, true};
 ghost use Rattle.std.specs.Option.{ForSome};
-ghost use Rattle.mg_calls_dom.specs.Served.{CallReads, of_call};
+ghost use Rattle.mg_access.specs.Served.{CallReads, of_call};
 ghost use Rattle.mg_calls_obj.specs.Based.{OfBase, is_object};
 ghost use Rattle.mg_model.specs.ObjectCalls as calls;
 ghost use Rattle.mg_vcache.specs.Seats.{AllBacked};
@@ -9,7 +9,7 @@ ghost use Rattle.mg_volume.specs.Calls.{IsSoundOn};
 ghost use Rattle.mg_volume.specs.Meaning.{now_of};
 
 use crate::based::object_at;
-use mg_calls_dom::reach;
+use mg_access::reach;
 use mg_disk::Disk;
 use mg_faults::Failed;
 use mg_laws::accesses_keep_the_rules_of_a_line;

@@ -4,9 +4,9 @@ use Rattle.std.specs.Prelude.{All, find, map, min, nat_le, option_map}
 use Rattle.std.specs.List.{list_any}
 use Rattle.std.proofs.Math.Nat.{min-eq_left}
 use Rattle.std.proofs.lemmas.List.Elements.{All-head, All-tail}
-use Rattle.mg_calls_dom.specs.RefusalLemmas.{access_passed, access_stopped}
-use Rattle.mg_calls_dom.specs.Searching.{access_refusal}
-use Rattle.mg_calls_dom.specs.ThreadLemmas.{slots-of}
+use Rattle.mg_access.specs.RefusalLemmas.{access_passed, access_stopped}
+use Rattle.mg_access.specs.Searching.{access_refusal}
+use Rattle.mg_access.specs.ThreadLemmas.{slots-of}
 use Rattle.mg_calls_thr.proofs.Owned.{birth-of}
 use Rattle.mg_calls_thr.specs.Making.{first_row}
 use Rattle.mg_laws.specs.Backing.{CallsKeepBacked}

@@ -1,6 +1,6 @@
 -- What a new thread is, by the row of its maker.
 use Rattle.std.specs.Prelude.{ℕ, ◌≡◌, ◌+◌, min, [], ◌∷◌, replicate, None}
-use Rattle.mg_calls_dom.specs.Searching.{access_refusal}
+use Rattle.mg_access.specs.Searching.{access_refusal}
 use Rattle.mg_disk.specs.Disk.{Image}
 use Rattle.mg_model.specs.declared.replies.Reply.{Reply}
 use Rattle.mg_model.specs.declared.rights.Right.TheVariants.{X}

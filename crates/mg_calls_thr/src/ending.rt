@@ -1,6 +1,6 @@
 // Threads are ended, and resumed.
 ghost use Rattle.std.specs.Prelude.{◌≡◌, ◌≤◌, ◌==◌, true};
-ghost use Rattle.mg_calls_dom.specs.Backing.{StayBacked};
+ghost use Rattle.mg_access.specs.Backing.{StayBacked};
 ghost use Rattle.mg_model.specs.Backed.{by_thread};
 ghost use Rattle.mg_model.specs.Threads as threads;
 ghost use Rattle.mg_vcache.specs.Drops.{Drops};
@@ -9,7 +9,7 @@ ghost use Rattle.mg_volume.specs.Meaning.{staged_of};
 ghost use Rattle.mg_volume.specs.Staging.{lives};
 
 use crate::owning::not_own;
-use mg_calls_dom::row_of;
+use mg_access::row_of;
 use mg_laws::steps_keep_backing;
 use mg_model::{Refusal, Reply, ThrRow, ThrState};
 use mg_vcache::VCache;

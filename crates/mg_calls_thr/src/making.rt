@@ -1,7 +1,7 @@
 // Threads are made.
 ghost use Rattle.std.specs.Prelude.{◌≡◌, ◌≤◌, ◌<◌, ◌+◌, ◌%◌, ◌||◌, true, false, nat_le, length, IfSome, MatchOption};
 ghost use Rattle.std.specs.Option.{ForSome};
-ghost use Rattle.mg_calls_dom.specs.Served.{CallServes, of_call};
+ghost use Rattle.mg_access.specs.Served.{CallServes, of_call};
 ghost use Rattle.mg_calls_thr.specs.Making.{Begins, first_frame, first_row};
 ghost use Rattle.mg_model.specs.Abbreviations as names;
 ghost use Rattle.mg_model.specs.Limits.{birth_limit, thread_limit};
@@ -10,7 +10,7 @@ ghost use Rattle.mg_volume.specs.Calls.{CallStages, IsSoundOn};
 ghost use Rattle.mg_volume.specs.Meaning.{counters_in, now_of, staged_of, threads_in};
 ghost use Rattle.mg_volume.specs.Staging.{lives};
 
-use mg_calls_dom::{row_of, word_object};
+use mg_access::{row_of, word_object};
 use mg_disk::Disk;
 use mg_faults::Failed;
 use mg_laws::steps_keep_backing;

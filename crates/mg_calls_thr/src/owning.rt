@@ -4,7 +4,7 @@ ghost use Rattle.mg_calls_thr.specs.Owning.{birth_among, own_refusal};
 ghost use Rattle.mg_volume.specs.Meaning.{threads_in};
 ghost use Rattle.mg_volume.specs.Staging.{lives};
 
-use mg_calls_dom::row_of;
+use mg_access::row_of;
 use mg_model::{Refusal, ThrRow};
 use mg_volume::Volume;
 

@@ -1,7 +1,7 @@
 -- The rows that are held give the bases of the state's objects.
 use Rattle.std.specs.Prelude.{ℕ, ◌≡◌, ◌==◌, find, is_some, option_map, Option, Some, None}
 use Rattle.std.proofs.Common.{refl, sym, ap, ◌∙◌}
-use Rattle.mg_calls_dom.specs.KnownLemmas.{find-rows}
+use Rattle.mg_access.specs.KnownLemmas.{find-rows}
 use Rattle.mg_disk.specs.Disk.{Image}
 use Rattle.mg_model.specs.Access.{based_at}
 use Rattle.mg_model.specs.State.{Object, ObjectRow}

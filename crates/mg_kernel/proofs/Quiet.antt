@@ -2,7 +2,7 @@
 use Rattle.std.specs.Prelude.{◌≡◌, ◌&&◌, ℕ, Bool, true, false, List, [], Option, Ok}
 use Rattle.std.specs.Option.{ForSome}
 use Rattle.std.proofs.Common.{refl, sym, ap, arith, subst, ◌∙◌}
-use Rattle.mg_calls_dom.specs.Served.{CallServes}
+use Rattle.mg_access.specs.Served.{CallServes}
 use Rattle.mg_disk.specs.declared.disk.Disk.{Ghosts}
 use Rattle.mg_kernel.proofs.Counted.{no-keys}
 use Rattle.mg_kernel.specs.Calls.{KeepsCall, of_living}

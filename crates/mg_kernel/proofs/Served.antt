@@ -1,7 +1,7 @@
 -- What a call with the disk keeps, said of another row.
 use Rattle.std.specs.Prelude.{ℕ, ◌≡◌, ◌≤◌, Bool, true, false, List, if◌then◌else◌, Option, Some, Result, Ok, Err}
 use Rattle.std.proofs.Common.{refl, sym, ap, ◌∙◌}
-use Rattle.mg_calls_dom.specs.Served.{CallRow, CallServes, of_call, of_line}
+use Rattle.mg_access.specs.Served.{CallRow, CallServes, of_call, of_line}
 use Rattle.mg_calls_obj.specs.Door.{is_on_object}
 use Rattle.mg_disk.specs.Disk.{Image}
 use Rattle.mg_disk.specs.declared.disk.Disk.{Ghosts}

@@ -4,9 +4,9 @@ use Rattle.std.specs.List.{list_any}
 use Rattle.std.specs.Option.{option_map_or}
 use Rattle.std.proofs.Common.{arith, refl, sym, ap, subst, ◌∙◌}
 use Rattle.std.proofs.lemmas.Option.{same_Some}
+use Rattle.mg_access.specs.ReachedLemmas.{same_threads}
 use Rattle.mg_disk.specs.Disk.{Image}
 use Rattle.mg_disk.specs.declared.disk.Disk.{Ghosts}
-use Rattle.mg_calls_dom.specs.ReachedLemmas.{same_threads}
 use Rattle.mg_kernel.proofs.Threads.{found-lives}
 use Rattle.mg_kernel.specs.Calls.{IsRowOf}
 use Rattle.mg_model.specs.declared.calls.Call.{Call}

@@ -1,7 +1,7 @@
 -- What a call of a thread keeps and costs, be it made by a line or by a script, and what a turn does.
 use Rattle.std.specs.Prelude.{ℕ, ◌≡◌, ◌≤◌, ◌+◌, ◌==◌, ◌&&◌, find, option_map, Bool, true, false, List, Option, Some, Result, IfOk, OnErr, OnOk}
 use Rattle.std.specs.Option.{ForSome}
-use Rattle.mg_calls_dom.specs.Served.{CallRow}
+use Rattle.mg_access.specs.Served.{CallRow}
 use Rattle.mg_disk.specs.Stops.{CountRose}
 use Rattle.mg_disk.specs.declared.disk.Disk.{Ghosts}
 use Rattle.mg_model.specs.Abbreviations.{advanced}

@@ -2,7 +2,7 @@
 use Rattle.std.specs.Prelude.{◌≡◌, ◌≤◌, ℕ, Bool, List, Option}
 use Rattle.std.specs.Option.{ForSome}
 use Rattle.std.proofs.Common.{ap}
-use Rattle.mg_calls_dom.specs.Known.{rows_know}
+use Rattle.mg_access.specs.Known.{rows_know}
 use Rattle.mg_disk.specs.Disk.{Image}
 use Rattle.mg_disk.specs.Stops.{NothingPending}
 use Rattle.mg_disk.specs.declared.disk.Disk.{Ghosts}

@@ -1,7 +1,7 @@
 // What a line is answered: the first refusals in their order, or the answer of the call.
 ghost use Rattle.std.specs.Prelude.{List, ◌≡◌, ◌≤◌, ℕ, true, false};
 ghost use Rattle.std.specs.Option.{ForSome};
-ghost use Rattle.mg_calls_dom.specs.Served.{CallServes, of_line};
+ghost use Rattle.mg_access.specs.Served.{CallServes, of_line};
 ghost use Rattle.mg_kernel.specs.Calls.{of_living};
 ghost use Rattle.mg_vcache.specs.Seats.{AllBacked};
 ghost use Rattle.mg_volume.specs.Calls.{IsSoundOn};

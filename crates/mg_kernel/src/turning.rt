@@ -1,7 +1,7 @@
 // Turns: a thread fetches a word of its script, makes the call that the word spells, and continues after it.
 ghost use Rattle.std.specs.Prelude.{List, ◌≡◌, ◌≤◌, ◌<◌, ◌%◌, ℕ, true};
 ghost use Rattle.std.specs.Option.{ForSome};
-ghost use Rattle.mg_calls_dom.specs.Served.{CallServes, of_line};
+ghost use Rattle.mg_access.specs.Served.{CallServes, of_line};
 ghost use Rattle.mg_kernel.specs.Calls.{Asks, IsRowOf, TurnServes};
 ghost use Rattle.mg_laws.specs.Scripts.{at_cursor};
 ghost use Rattle.mg_model.specs.Domains.{with_thread};

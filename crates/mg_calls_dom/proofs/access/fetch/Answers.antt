@@ -1,7 +1,7 @@
 use Rattle.std.proofs.Common.{◌≡◌, ◌+◌, ◌*◌, ◌/◌, true, arith, sym, ap, subst, ◌∙◌}
-use Rattle.mg_calls_dom.proofs.Apart.{found-any, found-passes, page-in}
+use Rattle.mg_access.specs.FoundLemmas.{found-any, found-passes, page-in}
 use Rattle.mg_calls_dom.proofs.Fetched.{fetched-keeps, fetched-limit, fetched-word, unfetched-keeps, unfetched-limit, unfetched-word}
-use Rattle.mg_calls_dom.proofs.Refusals.{word-address}
+use Rattle.mg_calls_dom.proofs.Words.{word-address}
 use Rattle.mg_model.specs.Access.{covers}
 use Rattle.mg_model.specs.Objects.{word_at}
 use Rattle.mg_vcache.specs.Seats.{AllBacked, is_kept}

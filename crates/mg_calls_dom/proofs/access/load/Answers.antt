@@ -1,9 +1,8 @@
 use Rattle.std.specs.Option.{ForSome}
 use Rattle.std.proofs.Common.{◌≡◌, ◌+◌, ◌-◌, ◌*◌, arith, sym, ap, subst, ◌∙◌, rules}
-use Rattle.mg_calls_dom.proofs.Refusals.{word-address}
-use Rattle.mg_calls_dom.proofs.Words.{no-word, own-word}
-use Rattle.mg_calls_dom.specs.LineLemmas.{keeps_line, limit_line}
-use Rattle.mg_calls_dom.specs.ServedLemmas.{read_call}
+use Rattle.mg_access.specs.LineLemmas.{keeps_line, limit_line}
+use Rattle.mg_access.specs.ServedLemmas.{read_call}
+use Rattle.mg_calls_dom.proofs.Words.{no-word, own-word, word-address}
 use Rattle.mg_model.specs.declared.calls.Call.TheVariants as call
 use Rattle.mg_model.specs.declared.calls.Line.{Line}
 use Rattle.mg_model.specs.declared.replies.Reply.TheVariants.{No, Value}

@@ -1,11 +1,10 @@
 use Rattle.std.specs.Option.{ForSome}
 use Rattle.std.proofs.Common.{◌≡◌, ◌+◌, ◌-◌, ◌*◌, arith, sym, ap, subst, ◌∙◌, rules}
-use Rattle.mg_calls_dom.proofs.Refusals.{word-address}
-use Rattle.mg_calls_dom.proofs.Words.{dropped-at, dropped-keys, no-word, own-word, stored-backed}
-use Rattle.mg_calls_dom.specs.LineLemmas.{drops_line, limit_line}
-use Rattle.mg_calls_dom.specs.Searching.{word_accesses}
-use Rattle.mg_calls_dom.specs.ServedLemmas.{read_call, reads_serves}
-use Rattle.mg_calls_dom.specs.Served.{of_call}
+use Rattle.mg_access.specs.LineLemmas.{drops_line, limit_line}
+use Rattle.mg_access.specs.Searching.{word_accesses}
+use Rattle.mg_access.specs.ServedLemmas.{read_call, reads_serves}
+use Rattle.mg_access.specs.Served.{of_call}
+use Rattle.mg_calls_dom.proofs.Words.{dropped-at, dropped-keys, no-word, own-word, stored-backed, word-address}
 use Rattle.mg_model.specs.declared.calls.Call.TheVariants as call
 use Rattle.mg_model.specs.declared.calls.Line.{Line}
 use Rattle.mg_model.specs.declared.replies.Reply.TheVariants.{Done, No}

@@ -2,12 +2,12 @@ use Rattle.std.specs.Prelude.{◌≡◌, ◌==◌}
 use Rattle.std.specs.Option.{ForSome}
 use Rattle.std.proofs.Common.{◌-◌, arith, sym, ap, subst, ◌∙◌, rules}
 use Rattle.std.specs.List.{list_any}
+use Rattle.mg_access.specs.LineLemmas.{drops_line}
+use Rattle.mg_access.specs.ReachedLemmas.{reached_at, reached_lives, same_threads}
+use Rattle.mg_access.specs.Searching.{access_refusal}
+use Rattle.mg_access.specs.ServedLemmas.{read_call, reads_serves}
+use Rattle.mg_access.specs.Served.{of_call}
 use Rattle.mg_calls_dom.proofs.Entered.{entering-backed, entering-disturbs, no-words, pdx-denied}
-use Rattle.mg_calls_dom.specs.LineLemmas.{drops_line}
-use Rattle.mg_calls_dom.specs.ReachedLemmas.{reached_at, reached_lives, same_threads}
-use Rattle.mg_calls_dom.specs.Searching.{access_refusal}
-use Rattle.mg_calls_dom.specs.ServedLemmas.{read_call, reads_serves}
-use Rattle.mg_calls_dom.specs.Served.{of_call}
 use Rattle.mg_model.specs.declared.calls.Call.TheVariants as call
 use Rattle.mg_model.specs.declared.calls.Line.{Line}
 use Rattle.mg_model.specs.declared.replies.Reply.TheVariants.{Count, No}

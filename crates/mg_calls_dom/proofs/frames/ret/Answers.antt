@@ -1,8 +1,8 @@
 use Rattle.std.specs.Prelude.{◌-◌, ◌==◌, find, length, None, Some}
 use Rattle.std.proofs.Common.{sym, ap, ◌∙◌, rules}
+use Rattle.mg_access.specs.BackingLemmas.{drops_stay}
+use Rattle.mg_access.specs.ThreadLemmas.{change-gives, told-row}
 use Rattle.mg_calls_dom.proofs.Entered.{leaving, ret-is}
-use Rattle.mg_calls_dom.specs.BackingLemmas.{drops_stay}
-use Rattle.mg_calls_dom.specs.ThreadLemmas.{change-gives, told-row}
 use Rattle.mg_model.specs.declared.calls.Call.TheVariants as call
 use Rattle.mg_model.specs.declared.replies.Reply.TheVariants.{Count}
 use Rattle.mg_model.specs.State.{Thread}

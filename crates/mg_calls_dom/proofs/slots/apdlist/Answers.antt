@@ -1,7 +1,7 @@
 use Rattle.std.specs.Prelude.{◌≡◌, ◌-◌, ◌++◌, [], length, map, option_map, replicate, List, Option, Some}
 use Rattle.std.specs.Option.{option_map_or}
 use Rattle.std.proofs.Common.{sym, ap, ◌∙◌, rules}
-use Rattle.mg_calls_dom.specs.ThreadLemmas.{lives-row}
+use Rattle.mg_access.specs.ThreadLemmas.{lives-row}
 use Rattle.mg_model.specs.declared.replies.Reply.TheVariants.{Slots}
 use Rattle.mg_model.specs.declared.slots.Slot.{Slot}
 use Rattle.mg_model.specs.Access.{domain_of, last_slots}

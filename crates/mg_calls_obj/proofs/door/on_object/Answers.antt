@@ -1,10 +1,10 @@
 use Rattle.std.specs.Prelude.{◌≡◌, ◌≤◌, ◌+◌, ◌-◌, ℕ, None, Some}
 use Rattle.std.specs.Option.{ForSome}
 use Rattle.std.proofs.Common.{arith, sym, ap, subst, ◌∙◌, rules}
-use Rattle.mg_calls_dom.specs.ReachedLemmas.{gone_held, reached_allowed, reached_at, reached_lives, reached_none}
-use Rattle.mg_calls_dom.specs.Searching.{allowed_row}
-use Rattle.mg_calls_dom.specs.ServedLemmas.{read_call, reads_serves}
-use Rattle.mg_calls_dom.specs.Served.{of_call}
+use Rattle.mg_access.specs.ReachedLemmas.{gone_held, reached_allowed, reached_at, reached_lives, reached_none}
+use Rattle.mg_access.specs.Searching.{allowed_row}
+use Rattle.mg_access.specs.ServedLemmas.{read_call, reads_serves}
+use Rattle.mg_access.specs.Served.{of_call}
 use Rattle.mg_calls_obj.proofs.Doors.{at_door, denied, door-done, door-limit, door-rules, ends_backed, is-line}
 use Rattle.mg_calls_obj.specs.Door.{asked, named}
 use Rattle.mg_model.specs.declared.rights.Right.{Right}

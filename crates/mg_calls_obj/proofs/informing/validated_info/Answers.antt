@@ -1,9 +1,9 @@
 use Rattle.std.proofs.Common.{◌≡◌, ◌-◌, arith, get_or, refl, sym, ap, subst, ◌∙◌, rules}
 use Rattle.std.specs.Prelude.{map}
-use Rattle.mg_calls_dom.specs.LineLemmas.{limit_line, thread_limit, thread_rules}
-use Rattle.mg_calls_dom.specs.ReachedLemmas.{any_end, any_hit, any_miss, gone_held, reached_allowed, reached_lives, reached_none}
-use Rattle.mg_calls_dom.specs.Searching.{allowed_row}
-use Rattle.mg_calls_dom.specs.ServedLemmas.{read_call}
+use Rattle.mg_access.specs.LineLemmas.{limit_line, thread_limit, thread_rules}
+use Rattle.mg_access.specs.ReachedLemmas.{any_end, any_hit, any_miss, gone_held, reached_allowed, reached_lives, reached_none}
+use Rattle.mg_access.specs.Searching.{allowed_row}
+use Rattle.mg_access.specs.ServedLemmas.{read_call}
 use Rattle.mg_calls_obj.proofs.Rights.{failed_limit, gone-since, limit-since, no-words, of, searched, taken_more, tries_end, tries_hit, tries_miss, valid-since}
 use Rattle.mg_calls_obj.proofs.InfoReplies.{info-denied, info-known}
 use Rattle.mg_calls_obj.proofs.informing.validated_info.Invariants.{rights}

@@ -1,5 +1,5 @@
 use Rattle.std.proofs.Common.{sym, ap, ◌∙◌, rules}
-use Rattle.mg_calls_dom.specs.BackingLemmas.{drops_stay}
+use Rattle.mg_access.specs.BackingLemmas.{drops_stay}
 use Rattle.mg_calls_thr.proofs.Ended.{end-done, end-first, end-refused}
 use Rattle.mg_model.specs.declared.calls.Call.TheVariants as call
 use Rattle.mg_model.specs.declared.replies.Reply.TheVariants.{Done}

@@ -1,6 +1,6 @@
 use Rattle.std.specs.Prelude.{◌==◌, find, None, Some}
 use Rattle.std.proofs.Common.{sym, ap, ◌∙◌, rules}
-use Rattle.mg_calls_dom.specs.ThreadLemmas.{change-gives}
+use Rattle.mg_access.specs.ThreadLemmas.{change-gives}
 use Rattle.mg_calls_thr.proofs.Ended.{resume-by}
 use Rattle.mg_model.specs.declared.replies.Reply.TheVariants.{Done}
 use Rattle.mg_model.specs.declared.threads.ThrState.TheVariants.{Ready}

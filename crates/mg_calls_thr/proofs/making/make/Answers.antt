@@ -1,6 +1,6 @@
 use Rattle.std.specs.Prelude.{◌≤◌}
 use Rattle.std.proofs.Common.{ap, subst, ◌∙◌, rules}
-use Rattle.mg_calls_dom.specs.ThreadLemmas.{told-row}
+use Rattle.mg_access.specs.ThreadLemmas.{told-row}
 use Rattle.mg_calls_thr.proofs.Made.{born-by, counted-threads, joined, made, make-done, make-full}
 use Rattle.mg_calls_thr.specs.Making.{first_row}
 use Rattle.mg_model.specs.State.{Counters}

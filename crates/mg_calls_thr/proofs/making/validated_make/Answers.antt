@@ -2,11 +2,11 @@ use Rattle.std.proofs.Common.{◌-◌, arith, sym, ap, subst, ◌∙◌, rules}
 use Rattle.std.specs.Prelude.{◌≡◌, ◌==◌}
 use Rattle.std.specs.Option.{ForSome}
 use Rattle.std.specs.List.{list_any}
-use Rattle.mg_calls_dom.specs.LineLemmas.{keeps_line, limit_line}
-use Rattle.mg_calls_dom.specs.ReachedLemmas.{same_threads}
-use Rattle.mg_calls_dom.specs.Searching.{access_refusal}
-use Rattle.mg_calls_dom.specs.ServedLemmas.{read_call, reads_serves}
-use Rattle.mg_calls_dom.specs.Served.{of_call}
+use Rattle.mg_access.specs.LineLemmas.{keeps_line, limit_line}
+use Rattle.mg_access.specs.ReachedLemmas.{same_threads}
+use Rattle.mg_access.specs.Searching.{access_refusal}
+use Rattle.mg_access.specs.ServedLemmas.{read_call, reads_serves}
+use Rattle.mg_access.specs.Served.{of_call}
 use Rattle.mg_calls_thr.proofs.Made.{make-denied, making-backed, no-words}
 use Rattle.mg_model.specs.declared.calls.Call.TheVariants as call
 use Rattle.mg_model.specs.declared.calls.Line.{Line}

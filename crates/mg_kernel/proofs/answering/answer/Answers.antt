@@ -1,5 +1,5 @@
 use Rattle.std.proofs.Common.{ap, arith, rules, subst, sym, ◌∙◌}
-use Rattle.mg_calls_dom.specs.Served.{CallServes, of_line}
+use Rattle.mg_access.specs.Served.{CallServes, of_line}
 use Rattle.mg_kernel.proofs.Counted.{gone-line, held-gone, of-thread}
 use Rattle.mg_kernel.proofs.Served.{lives-line, serves_as}
 use Rattle.mg_kernel.proofs.Threads.{by-thread, gone}

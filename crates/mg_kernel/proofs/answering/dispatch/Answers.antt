@@ -1,6 +1,6 @@
 use Rattle.std.specs.Prelude.{◌≡◌, true}
 use Rattle.std.proofs.Common.{arith, rules}
-use Rattle.mg_calls_dom.specs.Served.{of_call}
+use Rattle.mg_access.specs.Served.{of_call}
 use Rattle.mg_calls_obj.specs.Door.{is_on_object}
 use Rattle.mg_kernel.proofs.Quiet.{unasked-serves}
 use Rattle.mg_kernel.proofs.Served.{object-lives, serves_as}

@@ -1,0 +1,7 @@
+mod Allowed
+mod Apart
+mod Entries
+mod Found
+mod Reached
+mod StandingFacts
+mod Tried

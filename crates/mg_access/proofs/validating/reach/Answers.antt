@@ -1,0 +1,47 @@
+use Rattle.std.proofs.Common.{None, Some, sym, ap, ◌∙◌, rules}
+use Rattle.mg_access.proofs.Allowed.{kept-allowed, sought-there}
+use Rattle.mg_access.proofs.Reached.{reached-none}
+use Rattle.mg_access.proofs.Found.{finds-as, finds-failed, unsearched}
+use Rattle.mg_model.specs.Access.{covers, domain_of}
+use Rattle.mg_vcache.specs.Seats.{is_kept}
+use Rattle.mg_volume.specs.Meaning.{now_of}
+use Rattle.mg_volume.specs.RunLemmas.{told_rows}
+use Rattle.mg_access.proofs.validating.reach.Goals as goal
+
+pub returns-in_default-clause-row : goal.returns-in_default-clause-row
+returns-in_default-clause-row g c image told =
+    reached-none (now_of c.args.volume.now image) (domain_of (now_of c.args.volume.now image) c.args.thread) c.args.address c.args.right (told_rows c.args.volume.now image (λ row. covers row c.args.address) None (sym c.in_default.ensures.found))
+
+pub returns-then-hit-clause-row : goal.returns-then-hit-clause-row
+returns-then-hit-clause-row g c image told =
+    kept-allowed (now_of c.args.volume.now image) c.args.thread c.args.address c.args.right c.in-Some.object c.args.cache.now (c.requires.sound.formed image told) c.backed_seats_are_allowed.ensures.allows
+    (told_rows c.args.volume.now image (λ row. covers row c.args.address) (Some c.in-Some.object) (sym c.in-Some.ensures.found)) (c.requires.backed image told)
+    (ap (λ b. is_kept c.args.cache.now (record { thread = c.args.thread; base = b; right = c.args.right })) (sym c.base.ensures.value) ∙ sym c.hit.ensures ∙ c.if-hit.true)
+
+pub search-requires-clause-sought : goal.search-requires-clause-sought
+search-requires-clause-sought g c =
+    (c.args.address, sought-there c.args.volume.now c.args.address (record { object = c.in-Some.object; right = c.args.right; period = c.period.result }) c.globals.result c.in-Some.ensures.found c.globals.ensures c.period.ensures)
+
+pub returns-in_default-clause-finds : goal.returns-in_default-clause-finds
+returns-in_default-clause-finds g c =
+    unsearched g.D.Disk c.args.thread c.args.address c.args.right c.args.volume.now c.args.volume.now c.args.cache.now c.args.disk.now c.args.steps.now None None c.requires.backed (returns-in_default-clause-row g c) tt (search rules)
+
+pub returns-then-hit-clause-finds : goal.returns-then-hit-clause-finds
+returns-then-hit-clause-finds g c =
+    unsearched g.D.Disk c.args.thread c.args.address c.args.right c.args.volume.now c.args.volume.now c.args.cache.now c.args.disk.now c.args.steps.now (Some c.in-Some.object) (Some c.in-Some.object) c.requires.backed (returns-then-hit-clause-row g c)
+    (ap (λ b. is_kept c.args.cache.now (record { thread = c.args.thread; base = b; right = c.args.right })) (sym c.base.ensures.value) ∙ sym c.hit.ensures ∙ c.if-hit.true) (search rules)
+
+pub returns-in-Some-2-clause-finds : goal.returns-in-Some-2-clause-finds
+returns-in-Some-2-clause-finds g c =
+    let there = sought-there c.args.volume.now c.args.address (record { object = c.in-Some.object; right = c.args.right; period = c.period.result }) c.globals.result c.in-Some.ensures.found c.globals.ensures c.period.ensures in
+    finds-as g.D.Disk c.args.thread c.args.address c.args.right c.args.volume.now c.search.new.volume c.args.cache.now c.search.new.cache c.args.disk.now c.search.new.disk c.args.steps.now c.search.new.steps _ (Some c.in-Some.object) (λ none. cc) (c.in_ok-search.ensures.finds c.args.address there)
+
+pub returns-in-None-clause-finds : goal.returns-in-None-clause-finds
+returns-in-None-clause-finds g c =
+    let there = sought-there c.args.volume.now c.args.address (record { object = c.in-Some.object; right = c.args.right; period = c.period.result }) c.globals.result c.in-Some.ensures.found c.globals.ensures c.period.ensures in
+    finds-as g.D.Disk c.args.thread c.args.address c.args.right c.args.volume.now c.search.new.volume c.args.cache.now c.search.new.cache c.args.disk.now c.search.new.disk c.args.steps.now c.search.new.steps _ None (λ none. c.in-None.is) (c.in_ok-search.ensures.finds c.args.address there)
+
+pub returns-in_err-search-clause-finds : goal.returns-in_err-search-clause-finds
+returns-in_err-search-clause-finds g c =
+    let there = sought-there c.args.volume.now c.args.address (record { object = c.in-Some.object; right = c.args.right; period = c.period.result }) c.globals.result c.in-Some.ensures.found c.globals.ensures c.period.ensures in
+    finds-failed g.D.Disk c.args.thread c.args.address c.args.right c.args.volume.now c.search.new.volume c.args.cache.now c.search.new.cache c.args.disk.now c.search.new.disk c.args.steps.now c.search.new.steps _ c.from_residual.result c.from_residual.ensures.0 (c.in_err-search.ensures.finds c.args.address there)

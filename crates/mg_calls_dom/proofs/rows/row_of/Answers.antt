@@ -1,7 +1,0 @@
-use Rattle.std.proofs.Common.{◌∙◌}
-use Rattle.mg_calls_dom.specs.ThreadLemmas.{lives-row}
-use Rattle.mg_volume.specs.Meaning.{threads_in}
-use Rattle.mg_calls_dom.proofs.rows.row_of.Goals as goal
-
-pub unreachable-requires : goal.unreachable-requires
-unreachable-requires c = lives-row c.args.thread (threads_in c.args.volume.now) c.requires (c.thread.ensures.found ∙ c.in-None.is)
