@@ -10,7 +10,7 @@ use Rattle.mg_model.specs.Words.{same_bytes}
 use Rattle.mg_serve.specs.declared.status.Status.{Status}
 use Rattle.mg_serve.specs.Sessions.{DiskUse, SinkUse, SourceUse, use_of}
 use Rattle.mg_io.specs.Arguments.{arguments}
-use Rattle.mg_volume_session.specs.Headline.{Session, session_of}
+use Rattle.mg_commands.specs.Headline.{Session, session_of}
 use Rattle.mg_window.specs.Attached.{Attached}
 use Rattle.mg_window_session.specs.Commands.{asks_for}
 use Rattle.mg_window_session.specs.Headline.{DevKeeps, NoDevKeeps}

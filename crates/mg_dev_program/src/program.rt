@@ -5,7 +5,7 @@ ghost use Rattle.mg_disk.specs.Stops.{WritesNothing};
 ghost use Rattle.mg_model.specs.Words.{same_bytes};
 ghost use Rattle.mg_serve.specs.Sessions.{code_of, use_of};
 ghost use Rattle.mg_io.specs.Arguments.{arguments};
-ghost use Rattle.mg_volume_session.specs.Headline.{session_of};
+ghost use Rattle.mg_commands.specs.Headline.{session_of};
 ghost use Rattle.mg_window.specs.Attached.{seen};
 ghost use Rattle.mg_dev_program.specs.Program.{Did, OverMirror, RanDevices, is_mirror};
 

@@ -18,8 +18,8 @@ use Rattle.mg_migrate.specs.Version1.{Damaged1, Is1, NewVolume1, NotVolume1, Old
 use Rattle.mg_migrate_session.specs.Headline.{GoesWith, HasPlaces, HasPut, IfState1, MigrateKeeps, StandsAfter, migrate_line, migrate_status}
 use Rattle.mg_model.specs.State.{State}
 use Rattle.mg_serve.specs.Sessions.{use_of}
-use Rattle.mg_volume_session.specs.Headline.{small_line}
-use Rattle.mg_volume_session.specs.Unopened.{summary_line}
+use Rattle.mg_commands.specs.Headline.{small_line}
+use Rattle.mg_commands.specs.Unopened.{summary_line}
 use Rattle.mg_serve.specs.declared.status.Status.{Status}
 use Rattle.mg_serve.specs.declared.status.Status.TheVariants as status
 

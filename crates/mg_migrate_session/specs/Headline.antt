@@ -15,9 +15,9 @@ use Rattle.mg_migrate.specs.Version1.{Damaged1, Is1, NewVolume1, NotVolume1, Old
 use Rattle.mg_model.specs.State.{State}
 use Rattle.mg_model.specs.Volume.{Damaged, Is, NotVolume, OldVolume}
 use Rattle.mg_serve.specs.Sessions.{AlwaysLeft, DiskRose, DiskUse, IsDoneOrMemory, Puts, PutsPrefix, SinkRose, SinkUse}
-use Rattle.mg_volume_session.specs.Headline.{blocks_of, check_line, small_line}
+use Rattle.mg_commands.specs.Headline.{blocks_of, check_line, small_line}
 use Rattle.mg_io.specs.Arguments.{PutsUsage}
-use Rattle.mg_volume_session.specs.Unopened.{summary_line}
+use Rattle.mg_commands.specs.Unopened.{summary_line}
 use Rattle.mg_serve.specs.declared.status.Status.{Status}
 use Rattle.mg_serve.specs.declared.status.Status.TheVariants as status
 

@@ -5,11 +5,12 @@ ghost use Rattle.mg_faults.specs.Faults.{Rose};
 ghost use Rattle.mg_io.specs.Known.{AppendsPrefix};
 ghost use Rattle.mg_migrate_session.specs.Headline.{HasPut};
 ghost use Rattle.mg_migrate_session.specs.FaultText.{EndsUnmigratedBy, TellsNothingOld, fault_line};
-ghost use Rattle.mg_volume_session.specs.Headline.{small_line};
+ghost use Rattle.mg_commands.specs.Headline.{small_line};
 
+use mg_commands::put_small;
 use mg_io::{Sink, put_all};
 use mg_migrate::MigrateFault;
-use mg_volume_session::{Status, put_small};
+use mg_serve::Status;
 
 /// Prints the line of a fault of the migration; for a fault of a disk, and without enough memory, nothing is printed.
 pub(crate) fn put_fault<K: Sink>(fault: MigrateFault, sink: &mut K) -> Status

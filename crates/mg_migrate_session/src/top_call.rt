@@ -7,10 +7,11 @@ ghost use Rattle.mg_io.specs.Arguments.{arguments};
 
 use crate::fault_line::put_fault;
 use crate::words::is_migrate;
+use mg_commands::{put_summary, put_usage};
 use mg_disk::Disk;
 use mg_io::Sink;
 use mg_migrate::migrate;
-use mg_volume_session::{Status, put_summary, put_usage};
+use mg_serve::Status;
 use std::alloc::Global;
 
 /// All that the program does to migrate a volume. The words, which are those after its name, are `VOLUME migrate OLD`.

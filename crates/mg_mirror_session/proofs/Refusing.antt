@@ -24,8 +24,8 @@ use Rattle.mg_mirror_session.specs.Headline.{CopyHolds, MirrorKeeps, OfSide, see
 use Rattle.mg_mirror_session.specs.Judged.{IsJudged, IsKind, first_fault}
 use Rattle.mg_model.specs.Volume.{Damaged, NotVolume, OldVolume, VolumeRead}
 use Rattle.mg_serve.specs.Sessions.{use_of}
-use Rattle.mg_volume_session.specs.Headline.{check_line}
-use Rattle.mg_volume_session.specs.Unopened.{EndsUnopenedBy, fault_line}
+use Rattle.mg_commands.specs.Headline.{check_line}
+use Rattle.mg_commands.specs.Unopened.{EndsUnopenedBy, fault_line}
 use Rattle.mg_serve.specs.declared.status.Status.{Status}
 use Rattle.mg_serve.specs.declared.status.Status.TheVariants as status
 

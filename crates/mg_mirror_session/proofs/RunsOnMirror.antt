@@ -21,8 +21,8 @@ use Rattle.mg_mirror_session.specs.Judged.{first_fault}
 use Rattle.mg_mirror_session.specs.Mirrored.{Two, mirror}
 use Rattle.mg_serve.specs.Serving.{IsWithin}
 use Rattle.mg_serve.specs.Sessions.{use_of, input_limit}
-use Rattle.mg_volume_session.specs.Headline.{RunKeeps, session_of}
-use Rattle.mg_volume_session.specs.LastLemmas.{disk_ran, done_or_memory, ends_run, put_all, put_prefix, sink_failed}
+use Rattle.mg_commands.specs.Headline.{RunKeeps, session_of}
+use Rattle.mg_commands.specs.LastLemmas.{disk_ran, done_or_memory, ends_run, put_all, put_prefix, sink_failed}
 use Rattle.mg_serve.specs.declared.status.Status.{Status}
 use Rattle.mg_serve.specs.declared.status.Status.TheVariants as status
 

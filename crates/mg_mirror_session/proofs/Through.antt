@@ -7,7 +7,7 @@ use Rattle.mg_io.specs.declared.traits.Sink as sinks
 use Rattle.mg_model.specs.State.{State}
 use Rattle.mg_model.specs.Step.{after}
 use Rattle.mg_serve.specs.Sessions.{Holds, HoldsExactly, SinkUse, SourceUse, use_of}
-use Rattle.mg_volume_session.specs.Headline.{OnVolume, RunKeeps, TellsOfNone, session_of}
+use Rattle.mg_commands.specs.Headline.{OnVolume, RunKeeps, TellsOfNone, session_of}
 use Rattle.mg_serve.specs.declared.status.Status.{Status}
 
 pub if_some_then : {T : Type 0} (o : Option T) (P Q : T → Type 0) → ((x : T) → P x → Q x) → IfSome o P → IfSome o Q

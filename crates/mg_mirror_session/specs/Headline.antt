@@ -15,7 +15,7 @@ use Rattle.mg_model.specs.Lines.{lines}
 use Rattle.mg_model.specs.Print.{replies_text}
 use Rattle.mg_model.specs.Volume.{NotVolume, VolumeRead, volume}
 use Rattle.mg_serve.specs.Sessions.{DiskRose, DiskUse, IfShort, IsDoneOrMemory, MayLeave, OfInput, Puts, PutsPrefix, SinkRose, SinkUse, SourceRose, SourceUse, use_of, left_now}
-use Rattle.mg_volume_session.specs.Headline.{EndsRun, OnVolume, PutsLast, RunKeeps, UsageKeeps, check_line, session_of}
+use Rattle.mg_commands.specs.Headline.{EndsRun, OnVolume, PutsLast, RunKeeps, UsageKeeps, check_line, session_of}
 use Rattle.mg_serve.specs.declared.status.Status.{Status}
 use Rattle.mg_serve.specs.declared.status.Status.TheVariants as status
 

@@ -12,7 +12,7 @@ use Rattle.mg_mirror.specs.declared.mirror.Side.TheVariants.{Left, Right}
 use Rattle.mg_mirror_session.specs.Headline.{PutsSide}
 use Rattle.mg_mirror_session.specs.Mirrored.{Two, mirror}
 use Rattle.mg_serve.specs.Sessions.{use_of}
-use Rattle.mg_volume_session.specs.Headline.{RunKeeps, session_of}
+use Rattle.mg_commands.specs.Headline.{RunKeeps, session_of}
 use Rattle.mg_serve.specs.declared.status.Status.{Status}
 
 -- a mirror as two disks

@@ -4,7 +4,7 @@ ghost use Rattle.mg_mirror_session.specs.Headline.{PutsSide};
 
 use mg_io::{Sink, put_all};
 use mg_mirror::Side;
-use mg_volume_session::Status;
+use mg_session::Status;
 
 /// Puts the line of the side that stands alone, if one does and the run is done.
 pub(crate) fn put_side<K: Sink>(ran: Status, alone: Option<Side>, sink: &mut K) -> Status

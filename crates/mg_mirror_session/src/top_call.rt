@@ -13,7 +13,7 @@ use mg_disk::{BLOCK_SIZE, COPY_BLOCKS, Disk, Failed};
 use mg_io::{Sink, Source};
 use mg_mirror::{Mirror, MirrorFailed, Opened, Side};
 use mg_model::Steps;
-use mg_volume_session::{Status, put_fault, put_usage, run};
+use mg_session::{Status, put_fault, put_usage, run};
 use std::alloc::Global;
 use std::marker::Brand;
 use std::sync::ledger::Ledger;

@@ -13,7 +13,7 @@ use Rattle.mg_serve.specs.Sessions.{IsDoneOrMemory}
 use Rattle.mg_serve.specs.declared.status.Status.{Status}
 use Rattle.mg_serve.specs.declared.status.Status.TheVariants as status
 use Rattle.mg_io.specs.Arguments.{PutsUsage}
-use Rattle.mg_volume_session.specs.Headline.{EndsUnopened, OnVolume, TellsOfNone}
+use Rattle.mg_commands.specs.Headline.{EndsUnopened, OnVolume, TellsOfNone}
 use Rattle.mg_show.specs.Commands.{text_of}
 use Rattle.mg_show.specs.declared.command.Text.{Text}
 

@@ -19,7 +19,7 @@ ghost use Rattle.mg_show.specs.Putting.{ShowsRows};
 ghost use Rattle.mg_show.specs.Shown.{CanShow, held_in, state_shown};
 ghost use Rattle.mg_show.specs.Writing.{PutsOf};
 ghost use Rattle.mg_space.specs.Space.{ArePaid};
-ghost use Rattle.mg_volume_session.specs.Headline.{EndsUnopened, OnVolume, TellsOfNone};
+ghost use Rattle.mg_commands.specs.Headline.{EndsUnopened, OnVolume, TellsOfNone};
 
 use crate::command::{Text, read_words};
 use crate::graph::{put_graph, put_object_part, put_thread_part};
@@ -28,11 +28,12 @@ use crate::reach::put_reach;
 use crate::state::put_state;
 use crate::writer::Writer;
 use mg_check::{VolumeRows, read_volume};
+use mg_commands::{put_fault, put_usage};
 use mg_disk::Disk;
 use mg_io::Sink;
 use mg_journal::View;
 use mg_objects::Objects;
-use mg_volume_session::{Status, put_fault, put_usage};
+use mg_serve::Status;
 use std::alloc::Global;
 
 /// Writes what a volume holds as text. The words are those after the program's name.

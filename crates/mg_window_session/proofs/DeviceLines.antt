@@ -14,12 +14,12 @@ use Rattle.mg_model.specs.State.{State}
 use Rattle.mg_model.specs.Volume.{volume}
 use Rattle.mg_serve.specs.Serving.{IsWithin}
 use Rattle.mg_serve.specs.Sessions.{IsDoneOrMemory, use_of, input_limit}
-use Rattle.mg_volume_session.specs.Headline.{OnVolume, PutsLast, session_of}
+use Rattle.mg_commands.specs.Headline.{OnVolume, PutsLast, session_of}
 use Rattle.mg_serve.specs.declared.status.Status.{Status}
 use Rattle.mg_serve.specs.declared.status.Status.TheVariants as status
 use Rattle.mg_window.specs.Attached.{Attached}
-use Rattle.mg_volume_session.specs.LastLemmas.{disk_ran, done_or_memory, ends_run, put_all, put_prefix, sink_failed}
-use Rattle.mg_volume_session.specs.OpeningLemmas.{lines_unopened, unopened}
+use Rattle.mg_commands.specs.LastLemmas.{disk_ran, done_or_memory, ends_run, put_all, put_prefix, sink_failed}
+use Rattle.mg_commands.specs.OpeningLemmas.{lines_unopened, unopened}
 use Rattle.mg_window_session.specs.Headline.{DevKeeps, DevicesKeep, LeavesDevices, device_lines, equipped}
 use Rattle.mg_window_session.specs.Machine.{device_after, device_state, device_text}
 use Rattle.mg_window_session.proofs.DeviceSteps.{fault_devices}

@@ -19,7 +19,7 @@ use Rattle.mg_serve.specs.declared.status.Status.{Status}
 use Rattle.mg_serve.specs.declared.status.Status.TheVariants as status
 use Rattle.mg_serve.specs.Machines.{AnswersLine, Commits}
 use Rattle.mg_serve.specs.Serving.{IsTraced, Traces}
-use Rattle.mg_volume_session.specs.Unopened.{EndsUnopenedBy, TellsNothing}
+use Rattle.mg_commands.specs.Unopened.{EndsUnopenedBy, TellsNothing}
 use Rattle.mg_window.specs.Attached.{Attached}
 use Rattle.mg_window.specs.Devices.{Held}
 use Rattle.mg_window_session.specs.declared.device_kernel.DeviceKernel.{DeviceKernel}

@@ -4,3 +4,4 @@ mod Lines
 mod DeviceSteps
 mod LeavingDevices
 mod DeviceLines
+mod Opened

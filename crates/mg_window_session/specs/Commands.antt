@@ -4,7 +4,7 @@ use Rattle.std.specs.List.{list_any}
 use Rattle.std.specs.Option.{option_map_or}
 use Rattle.mg_model.specs.Words.{and_then, same_bytes}
 use Rattle.mg_model.specs.Words as numbers
-use Rattle.mg_volume_session.specs.Commands.{before_colon}
+use Rattle.mg_commands.specs.Commands.{before_colon}
 use Rattle.mg_window.specs.Attached.{Attached}
 use Rattle.mg_window.specs.Devices.{Held}
 

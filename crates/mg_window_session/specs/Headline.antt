@@ -8,7 +8,7 @@ use Rattle.mg_model.specs.State.{State}
 use Rattle.mg_serve.specs.Sessions.{DiskRose, IfShort, IsDoneOrMemory, OfInput, Puts, PutsPrefix, SinkRose, SourceRose, left_at, left_now, use_of}
 use Rattle.mg_serve.specs.declared.status.Status.{Status}
 use Rattle.mg_serve.specs.declared.status.Status.TheVariants as status
-use Rattle.mg_volume_session.specs.Headline.{EndsRun, LinesKeep, OfNoState, OfState, PutsLast, Session, UsageKeeps, session_of}
+use Rattle.mg_commands.specs.Headline.{EndsRun, LinesKeep, OfNoState, OfState, PutsLast, Session, UsageKeeps, session_of}
 use Rattle.mg_window.specs.Attached.{Attached}
 use Rattle.mg_window.specs.Devices.{Held}
 use Rattle.mg_window_session.specs.Machine.{Equipped, device_after, device_state, device_text}

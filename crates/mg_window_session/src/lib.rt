@@ -1,6 +1,6 @@
 //! The session over a volume with device windows: from the words `VOLUME dev KIND:BASE ..` to the exit status.
 //!
-//! [`top_dev`] runs the source's lines on the volume of a disk, as `mg_volume_session` does, but a load or a store that falls into an
+//! [`top_dev`] runs the source's lines on the volume of a disk, as `mg_session` does, but a load or a store that falls into an
 //! object with a device reaches the device, and says at the end which devices are left. What the layer above learns is in its contract,
 //! for every disk, source and sink.
 //!

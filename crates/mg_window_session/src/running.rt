@@ -1,18 +1,18 @@
 // A run of the source's lines on a volume with device windows.
 ghost use Rattle.mg_faults.specs.Faults.{CountGoesOn};
 ghost use Rattle.mg_serve.specs.Sessions.{use_of};
-ghost use Rattle.mg_volume_session.specs.Headline.{session_of};
+ghost use Rattle.mg_commands.specs.Headline.{session_of};
 ghost use Rattle.mg_window.specs.Attached.{seen};
 ghost use Rattle.mg_window_session.specs.Headline.{DevKeeps, DevicesKeep};
 
 use crate::device_kernel::DeviceKernel;
 use crate::device_lines::put_devices;
+use mg_commands::put_fault;
 use mg_disk::Disk;
 use mg_io::{Sink, Source};
 use mg_kernel::Kernel;
 use mg_model::Steps;
 use mg_serve::Status;
-use mg_volume_session::put_fault;
 use mg_window::{Device, Windows};
 use std::alloc::Global;
 use std::mem;

@@ -2,18 +2,18 @@
 ghost use Rattle.std.specs.Prelude.{◌≡◌, IsTrue, false};
 ghost use Rattle.mg_serve.specs.Sessions.{use_of};
 ghost use Rattle.mg_io.specs.Arguments.{arguments};
-ghost use Rattle.mg_volume_session.specs.Headline.{session_of};
+ghost use Rattle.mg_commands.specs.Headline.{session_of};
 ghost use Rattle.mg_window.specs.Attached.{seen};
 ghost use Rattle.mg_window_session.specs.Commands.{asks_for};
 ghost use Rattle.mg_window_session.specs.Headline.{DevKeeps, NoDevKeeps};
 
 use crate::running::run_and_tell;
 use crate::words::ask_for;
+use mg_commands::put_usage;
 use mg_disk::Disk;
 use mg_io::{Sink, Source};
 use mg_model::Steps;
 use mg_serve::Status;
-use mg_volume_session::put_usage;
 use mg_window::{Device, Windows};
 use std::alloc::Global;
 use std::sync::ledger::Ledger;
@@ -39,14 +39,14 @@ use std::sync::ledger::Ledger;
 ///
 /// Neither the devices nor their tapes are kept on the volume.
 ///
-/// [`Status::Done`]: mg_volume_session::Status::Done
-/// [`Status::Usage`]: mg_volume_session::Status::Usage
-/// [`Status::NoVolume`]: mg_volume_session::Status::NoVolume
-/// [`Status::Memory`]: mg_volume_session::Status::Memory
-/// [`Status::Disk`]: mg_volume_session::Status::Disk
-/// [`Status::Source`]: mg_volume_session::Status::Source
-/// [`Status::Sink`]: mg_volume_session::Status::Sink
-/// [`Status::TooLong`]: mg_volume_session::Status::TooLong
+/// [`Status::Done`]: mg_serve::Status::Done
+/// [`Status::Usage`]: mg_serve::Status::Usage
+/// [`Status::NoVolume`]: mg_serve::Status::NoVolume
+/// [`Status::Memory`]: mg_serve::Status::Memory
+/// [`Status::Disk`]: mg_serve::Status::Disk
+/// [`Status::Source`]: mg_serve::Status::Source
+/// [`Status::Sink`]: mg_serve::Status::Sink
+/// [`Status::TooLong`]: mg_serve::Status::TooLong
 pub fn top_dev<D: Disk, S: Source, K: Sink, L: Ledger>(
     alloc: Global,
     words: &[String],

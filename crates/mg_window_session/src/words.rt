@@ -3,7 +3,7 @@ ghost use Rattle.std.specs.Prelude.{◌≡◌, ◌≤◌, ◌<◌, ◌++◌, ◌
 ghost use Rattle.std.specs.String.{string_bytes};
 ghost use Rattle.mg_model.specs.Words.{same_bytes};
 ghost use Rattle.mg_io.specs.Arguments.{arguments};
-ghost use Rattle.mg_volume_session.specs.Commands.{before_colon};
+ghost use Rattle.mg_commands.specs.Commands.{before_colon};
 ghost use Rattle.mg_window.specs.Attached.{seen, window_at};
 ghost use Rattle.mg_window_session.specs.Commands.{are_those, asks_for, dev_of, dev_words, device_more, device_named, device_parts, devices_named, is_taken, is_that, kind_named};
 

@@ -10,9 +10,9 @@ use Rattle.mg_serve.specs.declared.status.Status.{Status}
 use Rattle.mg_serve.specs.declared.status.Status.TheVariants as status
 use Rattle.mg_serve.specs.Sessions.{DiskUse, SinkUse, SourceUse}
 use Rattle.mg_io.specs.Arguments.{arguments}
-use Rattle.mg_volume_session.specs.Commands.{run_of, spelled}
-use Rattle.mg_volume_session.specs.Headline.{CheckKeeps, DryKeeps, FormatKeeps, GenKeeps, LinesKeep, RunCosts, UsageKeeps, session_of}
-use Rattle.mg_volume_session.specs.declared.words.Command.TheVariants.{Check, Dry, Format, Gen, Run}
+use Rattle.mg_commands.specs.Commands.{run_of, spelled}
+use Rattle.mg_commands.specs.Headline.{CheckKeeps, DryKeeps, FormatKeeps, GenKeeps, LinesKeep, RunCosts, UsageKeeps, session_of}
+use Rattle.mg_commands.specs.declared.words.Command.TheVariants.{Check, Dry, Format, Gen, Run}
 
 -- What every command but `migrate` did, with this status at the end.
 pub record Ran {D S K : Type 0} (words : List (String Global)) (result : Status) (d : DiskUse D) (i : SourceUse S) (o : SinkUse K)

@@ -1,7 +1,7 @@
 //! The program: it hands the words of its command line, the files that they name, standard input and standard output to
 //! [`program::carry_out`], and exits with its result.
 //!
-//! That function is the program over any disks, source and sink. It calls [`mg_migrate_session::top_migrate`] if the words are `VOLUME
+//! That function is the program over any disks, source and sink. It calls [`mg_session::top_migrate`] if the words are `VOLUME
 //! migrate OLD`, and otherwise [`mg_session::top`]. It ensures what these two ensure for the words. It also ensures that the exit
 //! status is the number of their status, and that nothing is written on a disk, taken or put after them. Here the real objects are
 //! made. The file of `check` and the file OLD are only read, and are not made if they are missing. Standard error says why a command
@@ -19,8 +19,8 @@ mod usage;
 use mg_console::{NO_WORDS, Notes, Task, begin, mode_of, word};
 use mg_file::FileDisk;
 use mg_io::{ReaderSource, WriterSink};
-use mg_migrate_session::is_migrate;
 use mg_model::Steps;
+use mg_session::is_migrate;
 use program::{blocks_made, carry_out};
 use std::io::IsTerminal;
 use std::marker::Brand;

@@ -10,7 +10,7 @@ use mg_console::{
 };
 use mg_disk::Disk;
 use mg_io::Sink;
-use mg_session::Status;
+use mg_serve::Status;
 use mg_show::top_show;
 use std::alloc::Global;
 use std::io::{self, Eprint};

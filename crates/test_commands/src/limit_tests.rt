@@ -5,7 +5,7 @@ use mg_disk::Disk;
 use mg_io::{MemSink, MemSource};
 use mg_kernel::Kernel;
 use mg_model::Steps;
-use mg_volume_session::{Buffers, Ended, serve};
+use mg_session::{Buffers, Ended, serve};
 use std::alloc::{AllocError, Global};
 use std::marker::Brand;
 use std::sync::ledger::{Blank, Ledger};

@@ -1,6 +1,6 @@
 // The words of the command line, form by form.
 use mg_model::{Params, Tariff};
-use mg_volume_session::{Command, read_words};
+use mg_session::{Command, read_words};
 use std::alloc::Global;
 use std::test::Fail;
 use test_helpers::words_of;

@@ -1,6 +1,6 @@
 // The statuses of the command `gen`.
 use mg_disk::{Counts, Disk, MemDisk};
-use mg_volume_session::Status;
+use mg_session::Status;
 use std::alloc::Global;
 use std::test::Fail;
 use test_helpers::{Outcome, Streams, command};

@@ -4,7 +4,7 @@ ghost use Rattle.std.specs.Prelude.{◌≡◌, ◌<◌};
 use mg_disk::Disk;
 use mg_io::{MemSink, MemSource, Sink, Source};
 use mg_model::Steps;
-use mg_volume_session::{Status, top};
+use mg_session::{Status, top};
 use std::alloc::{AllocError, Global};
 use std::marker::Brand;
 use std::sync::ledger::{Blank, Ledger};

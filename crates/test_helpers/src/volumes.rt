@@ -2,7 +2,7 @@
 use crate::commands::{Streams, command, words_of};
 use mg_disk::{Left, MemDisk};
 use mg_layout::Geometry;
-use mg_volume_session::{Command, read_words};
+use mg_session::{Command, read_words};
 use std::alloc::{AllocError, Global};
 
 /// The seed of 32 zero bytes.

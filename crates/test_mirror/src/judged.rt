@@ -2,7 +2,7 @@
 use crate::disks::{Disks, Setup, VOLUME, ZEROS, make_disk, writes_to_make};
 use crate::runs::{Expected, Outcome, Run, run_over};
 use mg_disk::{BLOCK_SIZE, Disk, Fuse, MemDisk};
-use mg_volume_session::Status;
+use mg_session::Status;
 use std::alloc::Global;
 use std::test::Fail;
 

@@ -7,7 +7,7 @@ use mg_io::{MemSink, MemSource, Sink, Source};
 use mg_mirror::Side;
 use mg_mirror_session::top_mirror;
 use mg_model::Steps;
-use mg_volume_session::Status;
+use mg_session::Status;
 use std::alloc::Global;
 use std::marker::Brand;
 use std::sync::ledger::{Blank, Ledger};

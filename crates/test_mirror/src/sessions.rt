@@ -3,7 +3,7 @@ use crate::disks::{BLOCKS, Setup, VOLUME, ZEROS, are_same, calls_to_make};
 use crate::runs::{Case, Expected, Outcome, Run, is_expected, ran, run_over};
 use mg_disk::{COPY_BLOCKS, Fuse, MemDisk};
 use mg_mirror::Side;
-use mg_volume_session::Status;
+use mg_session::Status;
 use std::alloc::Global;
 use std::test::Fail;
 

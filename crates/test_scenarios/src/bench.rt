@@ -2,7 +2,7 @@
 use crate::expected::KnownState;
 use mg_disk::{BLOCK_SIZE, Counts, Disk, GATE_OPEN, MemDisk, ScratchDisk};
 use mg_layout::{FIRST_SEGMENT, SEGMENT_COUNT, SEGMENT_SIZE};
-use mg_volume_session::Status;
+use mg_session::Status;
 use std::alloc::{AllocError, Global};
 use test_helpers::{Streams, command};
 

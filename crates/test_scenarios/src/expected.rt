@@ -2,7 +2,7 @@
 use crate::images::image_of;
 use crate::running::dry;
 use mg_disk::{Left, MemDisk};
-use mg_volume_session::Status;
+use mg_session::Status;
 use std::alloc::Global;
 use test_helpers::{Streams, command};
 use test_scenario_files::{Kind, Part, append, append_lines, count, count_lines};

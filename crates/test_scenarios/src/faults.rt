@@ -4,7 +4,7 @@ use crate::expected::{Expected, KnownState, Stage};
 use crate::images::image_of;
 use crate::stops::{count_disk_calls, image_matches};
 use mg_disk::{BLOCK_SIZE, Disk, Left, MemDisk, ScratchDisk};
-use mg_volume_session::Status;
+use mg_session::Status;
 use std::alloc::{AllocError, Global};
 use test_helpers::{Outcome, ROOM, Streams, command};
 use test_scenario_files::{Report, count_lines};

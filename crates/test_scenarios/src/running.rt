@@ -2,7 +2,7 @@
 use crate::images::image_of;
 use crate::showing::{Shows, show_all};
 use mg_disk::{Left, MemDisk, ScratchDisk};
-use mg_volume_session::Status;
+use mg_session::Status;
 use std::alloc::{AllocError, Global};
 use test_helpers::{Outcome, Streams, command, volume};
 use test_scenario_files::{

@@ -1,7 +1,7 @@
 // Compares what is shown of the volume after the last run.
 use mg_disk::MemDisk;
 use mg_io::MemSink;
-use mg_volume_session::Status;
+use mg_session::Status;
 use std::alloc::Global;
 use test_helpers::words_of;
 use test_scenario_files::{Report, first_line, is_newline};

@@ -3,8 +3,8 @@
 
 use mg_disk::MemDisk;
 use mg_io::MemSink;
+use mg_session::Status;
 use mg_show::top_show;
-use mg_volume_session::Status;
 use std::alloc::Global;
 use std::io;
 use std::rt::{Env, Files};

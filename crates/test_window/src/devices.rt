@@ -1,6 +1,6 @@
 // The devices that a run can have.
 use crate::runs::{Run, count_expected, count_words_expected};
-use mg_volume_session::Status;
+use mg_session::Status;
 use std::test::Fail;
 
 const LOAD: &[&str] = &["1 load 0x100000000\n"];

@@ -1,6 +1,6 @@
 // Lines that reach devices, and lines that do not.
 use crate::runs::{Alone, Left, Run, are_expected, count_expected};
-use mg_volume_session::Status;
+use mg_session::Status;
 use std::test::Fail;
 
 /// Makes an object of two pages, gives thread 1 access to it, and loads a word of it.

@@ -5,7 +5,7 @@ use mg_disk::{Disk, MemDisk};
 use mg_io::{MemSink, MemSource, Sink, Source};
 use mg_layout::format as make_volume;
 use mg_model::{Params, Steps, Tariff};
-use mg_volume_session::{Status, run as run_plain};
+use mg_session::{Status, run as run_plain};
 use mg_window::{Console, Counter, Device, Latch, Windows};
 use mg_window_session::{Asked, read_words, top_dev};
 use std::alloc::{AllocError, Global};

@@ -7,7 +7,7 @@ use Rattle.mg_mirror_session.proofs.Through.{through}
 use Rattle.mg_mirror_session.specs.Mirrored.{Two, mirror}
 use Rattle.mg_mirror_session.specs.Ran.{as_two}
 use Rattle.mg_serve.specs.Sessions.{use_of}
-use Rattle.mg_volume_session.specs.Headline.{RunKeeps, session_of}
+use Rattle.mg_commands.specs.Headline.{RunKeeps, session_of}
 use Rattle.mg_mirror_session.proofs.top_call.run_opened.Goals as goal
 
 pub returns : goal.returns

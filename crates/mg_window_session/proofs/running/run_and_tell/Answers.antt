@@ -1,6 +1,6 @@
 use Rattle.std.proofs.Common.{ap, subst}
 use Rattle.mg_serve.specs.Sessions.{use_of}
-use Rattle.mg_volume_session.specs.Headline.{session_of}
+use Rattle.mg_commands.specs.Headline.{session_of}
 use Rattle.mg_window.specs.Attached.{Attached, seen}
 use Rattle.mg_window_session.specs.Headline.{DevKeeps}
 use Rattle.mg_window_session.proofs.DeviceLines.{dev_keeps, not_begun}

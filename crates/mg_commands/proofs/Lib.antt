@@ -1,0 +1,3 @@
+mod Seed
+mod Spelled
+mod Summed

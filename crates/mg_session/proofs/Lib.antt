@@ -1,0 +1,4 @@
+mod GeneratedSteps
+mod Opened
+mod Results
+mod Texts

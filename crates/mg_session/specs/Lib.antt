@@ -1,0 +1,3 @@
+-- What the parts of a session do.
+pub mod Generating
+pub mod Serving
