@@ -1,10 +1,10 @@
 -- Seats that were dropped group by group, and the marks after that.
-use Rattle.std.specs.Prelude.{◌≡◌, ◌≢◌, ◌≤◌, ◌<◌, ◌+◌, ◌*◌, ◌/◌, ◌==◌, ℕ, Bool, true, false, List, [], ◌∷◌, ◌||◌, if◌then◌else◌, length, replicate, slice_index_or, slice_set, take, ◌++◌, nat_lt, Option, Some, None}
+use Rattle.std.specs.Prelude.{◌≡◌, ◌≢◌, ◌≤◌, ◌<◌, ◌+◌, ◌*◌, ◌/◌, ◌==◌, ℕ, Bool, true, false, List, [], ◌∷◌, ◌||◌, if◌then◌else◌, length, replicate, is_some, slice_index_or, slice_set, take, ◌++◌, nat_lt, Option, Some, None}
 use Rattle.std.proofs.Common.{refl, sym, ap, subst, ◌∙◌, arith}
 use Rattle.std.proofs.lemmas.Bool.{cond-true, cond-false, eqb-true, eqb-false, eq-eqb, ne_eqb, ltb-true, ltb-false}
 use Rattle.std.proofs.lemmas.List.{ext_get_or, get_or-map, get_or-set_other, get_or-set_same, get_or_past, get_or-replicate, length-map, length-replicate, length-set, take_at}
 use Rattle.mg_model.specs.declared.seats.Seat.{Seat}
-use Rattle.mg_model.specs.Backed.{by_given, by_via}
+use Rattle.mg_model.specs.Backed.{by_each, by_given, by_via}
 use Rattle.mg_vcache.specs.EndedSeats.{by_object}
 use Rattle.mg_vcache.specs.Seats.{unless_ended, without}
 use Rattle.mg_vcache.specs.Marks.{AreMarked, IsMarked, StayMarked, is_in_row, is_set, mark_at}
@@ -188,6 +188,15 @@ row_more group row ended old new seats marks left done few low dropped size apar
             let none : is_in_row row seat ≡ false = apart unset place group_same seat found in
             let some : is_in_row row seat ≡ true = subst (λ r. is_in_row r seat ≡ true) row_same is in
             cc
+
+-- of every seat nothing is left
+pub none_of_each : (kept : Option Seat) → None ≡ unless_ended by_each kept
+none_of_each None = refl
+none_of_each (Some seat) = refl
+
+pub none_left : (kept : Option Seat) → is_some kept ≡ false → kept ≡ unless_ended by_each kept
+none_left None is = refl
+none_left (Some seat) is = cc
 
 -- a drop in a whole cache, seat by seat
 pub without_marked : (ended : Seat → Bool) (seats : List (Option Seat)) (marks : List Bool) → AreMarked seats marks → AreMarked (without ended seats) marks

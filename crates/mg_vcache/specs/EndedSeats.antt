@@ -1,7 +1,7 @@
 -- The sets of seats that the cache can drop.
 use Rattle.std.specs.Prelude.{ℕ, ◌==◌, Bool}
 use Rattle.mg_model.specs.declared.seats.Seat.{Seat}
-use Rattle.mg_model.specs.Backed.{by_each, by_given, by_thread}
+use Rattle.mg_model.specs.Backed.{by_given, by_thread}
 use Rattle.mg_vcache.specs.declared.dropping.Ended.{Ended}
 use Rattle.mg_vcache.specs.declared.dropping.Ended.TheVariants as ended
 
@@ -12,4 +12,3 @@ abbrev pub ended_of : Ended → Seat → Bool
 ended_of (ended.Thread thread) seat = by_thread thread seat
 ended_of (ended.Given list) seat = by_given list seat
 ended_of (ended.To base) seat = by_object base seat
-ended_of ended.Each seat = by_each seat

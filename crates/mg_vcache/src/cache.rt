@@ -7,7 +7,7 @@ ghost use Rattle.mg_model.specs.Limits.{seat_count};
 ghost use Rattle.mg_vcache.specs.EndedSeats.{by_object};
 ghost use Rattle.mg_vcache.specs.Seats.{is_kept, without};
 
-use crate::dropping::{Ended, drop_ended, drop_in_row};
+use crate::dropping::{Ended, drop_every, drop_in_row};
 use crate::marks::{MARK_COUNT, list_row, mark, object_row, thread_row};
 use mg_model::limits::{PAGE_SIZE, PAGE_STRIDE, RIGHT_STRIDE, SEAT_COUNT};
 use mg_model::{Right, Seat};
@@ -119,7 +119,7 @@ impl VCache {
     pub fn drop_all(&mut self)
         ensures { self.new ≡ without by_each self.old }
     {
-        drop_ended(&mut self.seats, Ended::Each);
+        drop_every(&mut self.seats);
     }
 }
 

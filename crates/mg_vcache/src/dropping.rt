@@ -1,6 +1,7 @@
 // Which seats are dropped.
 ghost use Rattle.std.specs.Prelude.{List, Option, ◌≡◌, ◌<◌, ◌/◌, ◌==◌, ℕ, false, true, if◌then◌else◌, length, slice_index_or, Some, None};
 ghost use Rattle.mg_model.specs.declared.seats.Seat.{Seat};
+ghost use Rattle.mg_model.specs.Backed.{by_each};
 ghost use Rattle.mg_vcache.specs.Seats.{unless_ended, without};
 ghost use Rattle.mg_vcache.specs.EndedSeats.{ended_of};
 ghost use Rattle.mg_vcache.specs.Marks.{AreMarked, is_in_row};
@@ -17,8 +18,6 @@ pub(crate) enum Ended {
     Given(u64),
     /// Those for an object.
     To(u64),
-    /// Each.
-    Each,
 }
 
 impl Ended {
@@ -30,7 +29,6 @@ impl Ended {
             Ended::Thread(thread) => seat.thread == thread,
             Ended::Given(list) => seat.via == list,
             Ended::To(base) => seat.base == base,
-            Ended::Each => true,
         }
     }
 
@@ -45,12 +43,14 @@ impl Ended {
     }
 }
 
-/// Drops these seats, and leaves the others.
-pub(crate) fn drop_ended(seats: &mut [Option<Seat>], ended: Ended)
-    ensures { seats.new ≡ without (ended_of ended) seats.old }
+/// Drops every seat.
+pub(crate) fn drop_every(seats: &mut [Option<Seat>])
+    ensures { seats.new ≡ without by_each seats.old }
 {
     for seat in seats.iter_mut() {
-        *seat = ended.left(*seat);
+        if seat.is_some() {
+            *seat = None;
+        }
     }
 }
 

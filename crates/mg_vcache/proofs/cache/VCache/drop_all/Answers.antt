@@ -6,4 +6,4 @@ use Rattle.mg_vcache.proofs.cache.VCache.drop_all.Goals as goal
 pub invariant_of-self : goal.invariant_of-self
 invariant_of-self c =
     let seats = c.self.inside.seats.items in
-    all_dropped by_each seats c.deref_mut.result.now c.drop_ended.new.seats (drop (length c.drop_ended.new.seats) seats) c.self.inside.marks.items c.self.inside.seats.len c.self.invariant c.deref_mut.ensures.value c.deref_mut.ensures.len c.drop_ended.ensures
+    all_dropped by_each seats c.deref_mut.result.now c.drop_every.new.seats (drop (length c.drop_every.new.seats) seats) c.self.inside.marks.items c.self.inside.seats.len c.self.invariant c.deref_mut.ensures.value c.deref_mut.ensures.len c.drop_every.ensures
