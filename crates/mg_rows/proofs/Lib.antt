@@ -1,3 +1,4 @@
+pub mod AccountStarts
 pub mod BlockParts
 pub mod ObjectFields
 pub mod ObjectKeeps
