@@ -1,3 +1,4 @@
+mod AfterReads
 mod ApplyRuns
 mod ApplySteps
 mod Bodies

@@ -1,6 +1,5 @@
 -- Why the newest bodies make the contents, and what a commit does to them.
-use Rattle.std.proofs.lemmas.Bool.Decides.{nat_tests}
-use Rattle.std.specs.Prelude.{◌≡◌, ◌≢◌, ◌⊎◌, ◌+◌, ◌-◌, ◌≤◌, ◌<◌, ◌==◌, nat_lt, ℕ, Bool, zero, suc, true, false, List, [], ◌∷◌, ◌++◌, find, if◌then◌else◌, is_some, length, reverse, Option, Some, None}
+use Rattle.std.specs.Prelude.{◌≡◌, ◌≢◌, ◌⊎◌, ◌+◌, ◌-◌, ◌≤◌, ◌<◌, ◌==◌, nat_le, nat_lt, ℕ, Bool, zero, suc, true, false, List, [], ◌∷◌, ◌++◌, find, if◌then◌else◌, is_some, length, reverse, Option, Some, None}
 use Rattle.std.specs.Option.{option_map_or, option_or}
 use Rattle.std.proofs.Common.{refl, sym, ap, subst, ◌∙◌, ⊎_elim, arith, append_assoc}
 use Rattle.std.proofs.lemmas.Bool.{and_from, cases_eq, cases_lt, le-leb, le-ltb, lt-ltb}
@@ -15,7 +14,7 @@ use Rattle.mg_journal.proofs.Bodies.{places-closed, places-open}
 use Rattle.mg_journal.proofs.Lookups.{held_is, value_held, written_at}
 use Rattle.mg_journal.proofs.Tables.{only-one}
 use Rattle.mg_journal.specs.Applied.{filled}
-use Rattle.mg_journal.specs.Contents.{InJournal, names}
+use Rattle.mg_journal.specs.Contents.{InJournal, bodies_of, names}
 use Rattle.mg_journal.specs.JournalLemmas.{same_gate, same_wider}
 use Rattle.mg_journal.specs.Looked.{Fits, Placed}
 use Rattle.mg_journal.specs.Newest.{Adds, Ascends, HasLast, is_for, lying}
@@ -98,7 +97,14 @@ places-split a from (suc m) n =
 
 -- when no segment after s is open
 places-up_to : (i : Image) (s n count : ℕ) → s + suc n ≡ count → ((t : ℕ) → s < t → t < count → is_open i t ≡ false) → places_since i 0 count ≡ places_since i 0 s ++ places_of i s
-places-up_to i s n count is closed = grind (arith, places-none, places-split, append-nil)
+places-up_to i s n count is closed =
+    let from : 0 + s ≡ s = omega arith in
+    let none = places-none i (s + 1) n (λ t low high. closed t (omega (arith, low)) (omega (arith, high, is))) in
+    ap (places_since i 0) (sym is)
+    ∙ places-split i 0 s (suc n)
+    ∙ ap (λ t. places_since i 0 s ++ places_since i t (suc n)) from
+    ∙ ap (λ p. places_since i 0 s ++ (places_of i s ++ p)) none
+    ∙ ap (λ p. places_since i 0 s ++ p) (append-nil (places_of i s))
 
 -- the places of a segment with the same gate and index
 module _ (a b : Image) (s : ℕ) (gate : is_open b s ≡ is_open a s) (index : block_of b (segment_index s) ≡ block_of a (segment_index s)) where
@@ -141,10 +147,13 @@ module _ (total n : ℕ) (table more : List (ℕ × ℕ)) (writes : List (ℕ ×
   opens s below = ⊎_elim (λ is. ap (is_open b) is ∙ next.opened ∙ sym (lt-ltb s (n + 1) (omega arith))) (λ other. gates s other ∙ holds.gates s below ∙ apart other (cases_lt s n)) (cases_eq s n)
     where
       apart : s ≢ n → (s < n) ⊎ (n ≤ s) → nat_lt s n ≡ nat_lt s (n + 1)
-      apart other which = grind (arith, nat_tests, lt-ltb, le-ltb)
+      apart other which =
+          ⊎_elim (λ low. lt-ltb s n low ∙ sym (lt-ltb s (n + 1) (omega (arith, low)))) (λ high. le-ltb s n high ∙ sym (le-ltb s (n + 1) (omega (arith, high, other)))) which
 
   fits_here : segment_fits total b n ≡ true
-  fits_here = grind (arith, fits-open, and_from, le-leb)
+  fits_here =
+      fits-open total b n next.opened
+      ∙ and_from (nat_le (body_count b n) body_limit) (homes_fit total (bodies_of b n)) (le-leb (body_count b n) body_limit (omega (arith, next.count, few))) (ap (homes_fit total) next.bodies ∙ fit)
 
   fits : segments_fit total b 0 segment_count ≡ true
   fits =
@@ -177,9 +186,21 @@ none_open : (a : Image) (s k : ℕ) → ((t : ℕ) → s ≤ t → t < s + k →
 none_open a s zero shut = refl
 none_open a s (suc k) shut = grind (arith, none_open a (s + 1) k (λ t low high. shut t (omega arith) (omega arith)))
 
+abbrev one : Bool → ℕ
+one t = if t then 1 else 0
+
 some_open : (a : Image) (n s k : ℕ) → ((t : ℕ) → s ≤ t → t < s + k → is_open a t ≡ nat_lt t n) → s ≤ n → n ≤ s + k → open_since a s k + s ≡ n
 some_open a n s zero gates low high = omega arith
-some_open a n s (suc k) gates low high = grind (arith, nat_tests, lt-ltb, none_open, le-ltb, some_open a n (s + 1) k)
+some_open a n s (suc k) gates low high = ⊎_elim
+    (λ less.
+    let opened : one (is_open a s) ≡ 1 = ap one (gates s (omega arith) (omega arith) ∙ lt-ltb s n less) in
+    let rest = some_open a n (s + 1) k (λ t from to. gates t (omega (arith, from)) (omega (arith, to))) (omega (arith, less)) (omega (arith, high)) in
+    omega (arith, opened, rest))
+    (λ past.
+    let shut : one (is_open a s) ≡ 0 = ap one (gates s (omega arith) (omega arith) ∙ le-ltb s n past) in
+    let rest = none_open a (s + 1) k (λ t from to. gates t (omega (arith, from)) (omega (arith, to)) ∙ le-ltb t n (omega (arith, from, past))) in
+    omega (arith, shut, rest, low, past))
+    (cases_lt s n)
 
 pub counted : (total n : ℕ) (table : List (ℕ × ℕ)) (a : Image) → HoldsOpen total n table a → n ≤ segment_count → open_count a ≡ n
 counted total n table a holds few = let is = some_open a n 0 segment_count (λ t low high. holds.gates t (omega arith)) (omega arith) (omega arith) in omega arith

@@ -1,6 +1,6 @@
 -- Tables of newest bodies: what a search finds, and what a place more does.
 use Rattle.std.proofs.lemmas.Bool.Decides.{nat_tests}
-use Rattle.std.specs.Prelude.{◌≡◌, ◌≢◌, ◌≤◌, ◌<◌, ◌+◌, ◌-◌, ◌⊎◌, ◌&&◌, nat_le, nat_lt, ℕ, zero, suc, true, All, List, [], ◌∷◌, ◌++◌, drop, find, if◌then◌else◌, insert, length, option_map, reverse, slice_set, take, Option, Some, None}
+use Rattle.std.specs.Prelude.{◌≡◌, ◌≢◌, ◌≤◌, ◌<◌, ◌+◌, ◌-◌, ◌⊎◌, ◌&&◌, nat_le, nat_lt, ℕ, Bool, zero, suc, false, true, All, List, [], ◌∷◌, ◌++◌, drop, find, if◌then◌else◌, insert, length, option_map, reverse, slice_set, take, Option, Some, None}
 use Rattle.std.specs.List.{AllWithin}
 use Rattle.std.specs.List.Sorted.{IsNonDecreasingBy}
 use Rattle.std.specs.Option.{option_or}
@@ -8,7 +8,7 @@ use Rattle.std.proofs.Common.{refl, sym, ap, ◌∙◌, inl, inr, ⊎_elim, arit
 use Rattle.std.proofs.lemmas.Bool.{cases_eq, cases_lt, and_parts, eq-eqb, leb-true, ltb-true, ne_eqb}
 use Rattle.std.proofs.lemmas.List.{append-nil, get_or-take, length-take-le, reverse-append, take-append-drop, take_more}
 use Rattle.std.proofs.lemmas.List.Edits.{get_or-insert_above, get_or-insert_at, get_or-insert_below, length-insert}
-use Rattle.std.proofs.lemmas.List.Elements.{All-head, All-tail}
+use Rattle.std.proofs.lemmas.List.Elements.{All-append, All-cons, All-drop, All-head, All-tail, All-take}
 use Rattle.std.proofs.lemmas.List.Folds.{find-append, find_past}
 use Rattle.std.proofs.lemmas.Option.{none-some}
 use Rattle.mg_model.specs.Layout.{globals_block}
@@ -104,6 +104,11 @@ module _ (place : ℕ × ℕ) (table : List (ℕ × ℕ)) (at : ℕ) (within : a
       go (inr hj) (inr nj) (inl li) ei = let l = long in let a = low i li in let b = high j (omega arith) in let r = up i (j - 1) d (omega arith) (omega arith) in omega arith
       go (inr hj) (inr nj) (inr hi) (inl ei) = let l = long in let a = middle i ei in let b = high j (omega arith) in let r = over (j - 1) (omega arith) (omega arith) in omega arith
       go (inr hj) (inr nj) (inr hi) (inr ni) = let l = long in let a = high i (omega arith) in let b = high j (omega arith) in let r = up (i - 1) (j - 1) d (omega arith) (omega arith) in omega arith
+
+-- each is as before, and so is the one that is entered, if it is
+pub insert-all : (P : ℕ × ℕ → Type 0) (place : ℕ × ℕ) (table : List (ℕ × ℕ)) (at : ℕ) (is_in : Bool) → P place → All P table → All P (if is_in then insert table at place else table)
+insert-all P place table at true is all = All-append P (take at table) (place ∷ drop at table) (All-take P at table all) (All-cons P place (drop at table) is (All-drop P at table all))
+insert-all P place table at false is all = all
 
 -- a place more, after those that a table has the last of
 pub last-more : (places old new : List (ℕ × ℕ)) (place : ℕ × ℕ) → HasLast places old → Puts old place new → HasLast (places ++ place ∷ []) new

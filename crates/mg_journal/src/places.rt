@@ -33,11 +33,14 @@ pub(crate) fn opened_gate() -> Block
     gate
 }
 
+/// A gate that is closed.
+static CLOSED_GATE: Block = [0; BLOCK_SIZE];
+
 /// What is written at a gate to close it.
-pub(crate) fn closed_gate() -> Block
-    ensures { (slice_index result 0 == gate_open) ≡ false }
+pub(crate) fn closed_gate() -> &'static Block
+    ensures { (slice_index result.now 0 == gate_open) ≡ false }
 {
-    [0; BLOCK_SIZE]
+    &CLOSED_GATE
 }
 
 /// Whether a gate with these bytes is open.

@@ -26,7 +26,7 @@ fn close_open<D: Disk>(disk: &mut D, segment: u64) -> Result<(), Failed>
     ensures settled { OnOk result (NothingPending D.Disk disk.new) }
     ensures calls { DiskCalls D.Disk disk.old disk.new result }
 {
-    write_firmly(disk, gate_of(segment), &closed_gate())
+    write_firmly(disk, gate_of(segment), closed_gate())
 }
 
 // Closes a segment's gate if it is open, and syncs it. It is read, unless it is known to be open.

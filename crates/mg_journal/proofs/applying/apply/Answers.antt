@@ -1,6 +1,10 @@
-use Rattle.std.proofs.Common.{rules, ◌≡◌, ◌∙◌, ℕ, arith, true}
-use Rattle.mg_disk.specs.Disk.{InRange, SameBut}
-use Rattle.mg_disk.specs.Runs.{torn_at}
+use Rattle.std.proofs.Common.{rules, ◌≡◌, ◌∙◌, ℕ, List, ap, arith, option_map, true}
+use Rattle.std.proofs.lemmas.List.{take_all}
+use Rattle.std.proofs.lemmas.Result.{on_ok_weaker}
+use Rattle.mg_model.specs.Replay.{written}
+use Rattle.mg_disk.specs.Disk.{Image, InRange, SameBut}
+use Rattle.mg_disk.specs.Runs.{quiet, torn_at}
+use Rattle.mg_disk.specs.BecomesLemmas.{becomes-kept}
 use Rattle.mg_journal.specs.Applied.{filled, nth_home}
 use Rattle.mg_journal.specs.Contents.{names}
 use Rattle.mg_journal.proofs.ApplyRuns.{named_row, row_applied, row_fits, torn_more}
@@ -53,3 +57,21 @@ write_blocks-requires g c =
     let made = c.row_among-row.ensures in
     let fits = row_fits (g.D.Disk.block_count c.args.disk.now) c.args.places.now c.loop-first.first c.count_row-count.result c.row_among-row.result.now c.requires.all_on_disk counted.some counted.there counted.row made.long in
     record { in_range = omega (arith, fits, c.loop-first.invariant.blocks) }
+
+pub returns-clause-any_moment : goal.returns-clause-any_moment
+returns-clause-any_moment g c pending image told =
+    let Q : Image → Type 0 = SameBut (λ i. names (filled image c.args.places.now) i ≡ true) image in
+    (quiet g.D.Disk c.args.disk.now c.loop-first.disk c.sync.new.self Q Q (c.loop-first.invariant.tracks pending image told) c.sync.ensures.stops).leaves
+
+pub returns-clause-torn : goal.returns-clause-torn
+returns-clause-torn g c =
+    becomes-kept (λ image. SameBut (λ i. names (filled image c.args.places.now) i ≡ true) image) (g.D.Disk.seen c.args.disk.now) (g.D.Disk.seen c.loop-first.disk) (g.D.Disk.seen c.sync.new.self) c.sync.ensures.seen c.loop-first.invariant.torn
+
+pub returns-clause-written : goal.returns-clause-written
+returns-clause-written g c =
+    let told = g.D.Disk.seen c.args.disk.now in
+    let all = take_all c.loop-first.first c.args.places.now c.loop-first-test.false in
+    on_ok_weaker c.sync.result (λ durable. c.sync.ensures.seen ∙ c.loop-first.invariant.written ∙ ap (λ (p : List (ℕ × ℕ)). option_map (λ image. written image (filled image p)) told) all) c.sync.ensures.durable
+
+pub returns-clause-settled : goal.returns-clause-settled
+returns-clause-settled g c = c.sync.ensures.durable

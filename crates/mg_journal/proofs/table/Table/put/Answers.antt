@@ -1,9 +1,11 @@
-use Rattle.std.proofs.Common.{rules, ◌≡◌, ◌≢◌, ◌≤◌, ◌<◌, ◌∙◌, ℕ, List, ap, arith, get_or, if◌then◌else◌, insert, is_ok, length, sym, subst, true}
+use Rattle.std.proofs.Common.{rules, ◌≡◌, ◌≢◌, ◌≤◌, ◌<◌, ◌∙◌, ℕ, All, List, ap, arith, get_or, if◌then◌else◌, insert, is_ok, length, sym, subst, true}
 use Rattle.std.specs.List.{AllWithin}
 use Rattle.std.specs.Vec.{vec_capacity, vec_len}
 use Rattle.std.proofs.lemmas.List.{get_or_default}
-use Rattle.mg_journal.proofs.Tables.{insert-ascends, insert-puts, set-puts}
+use Rattle.std.proofs.lemmas.List.Elements.{All-set}
+use Rattle.mg_journal.proofs.Tables.{insert-all, insert-ascends, insert-puts, set-puts}
 use Rattle.mg_journal.specs.Newest.{Ascends}
+use Rattle.mg_journal.specs.Places.{IsPlace}
 use Rattle.mg_journal.proofs.table.Table.put.Goals as goal
 use Rattle.mg_journal.proofs.table.Table.put.Goals.{else-at-len-via-then-at-len+else-index-place, else-at-len-via-else-at-len}
 
@@ -34,3 +36,10 @@ returns-then-index-place-clause-puts c = grind (arith, get_or_default, set-puts)
 
 pub returns-else-at-len-clause-puts : goal.returns-else-at-len-clause-puts
 returns-else-at-len-clause-puts c = grind (arith, insert-puts)
+
+pub returns-then-index-place-clause-fit : goal.returns-then-index-place-clause-fit
+returns-then-index-place-clause-fit c total all is = All-set (IsPlace total) c.self.inside.places.items c.count_below-at.result c.args.place is (subst (All (IsPlace total)) (sym c.self.view_is) all)
+
+pub returns-else-at-len-clause-fit : goal.returns-else-at-len-clause-fit
+returns-else-at-len-clause-fit c total all is =
+    subst (All (IsPlace total)) (sym c.insert.ensures.items) (insert-all (IsPlace total) c.args.place c.self.inside.places.items c.count_below-at.result (is_ok c.insert.result) is (subst (All (IsPlace total)) (sym c.self.view_is) all))

@@ -1,10 +1,11 @@
-use Rattle.std.proofs.Common.{◌≡◌, Result, Err, ◌+◌, ◌++◌, ◌∙◌, ℕ, suc, ap, arith, refl, subst, sym, rules}
+use Rattle.std.proofs.Common.{◌≡◌, Result, Err, ◌+◌, ◌++◌, ◌∙◌, ℕ, suc, ap, arith, refl, subst, sym}
 use Rattle.mg_disk.specs.Disk.{Image}
 use Rattle.std.specs.Prelude.{IsSome}
 use Rattle.mg_model.specs.Layout.{segment_count}
 use Rattle.mg_model.specs.Abbreviations.{segments_fit}
 use Rattle.mg_disk.specs.Runs.{nothing_then}
-use Rattle.mg_journal.specs.declared.faults.ViewFault.TheVariants.{Damaged}
+use Rattle.mg_faults.specs.Faults.{count_then, then_rose}
+use Rattle.mg_journal.specs.declared.faults.ViewFault.TheVariants.{Damaged, Disk}
 use Rattle.mg_journal.specs.JournalLemmas.{replay-none, replay-some}
 use Rattle.mg_journal.specs.Newest.{HasLast}
 use Rattle.mg_journal.specs.Places.{places_of, places_since}
@@ -30,6 +31,19 @@ returns-in-Err-look_segment-clause-damaged g c is image told =
     let now = c.loop-segment.invariant.writes.same ∙ told in
     replay-none c.args.total image (segments_unfit c.args.total image c.loop-segment.segment segment_count c.loop-segment-test.true (c.in-Err-look_segment.ensures.damaged (same_fault c.in-Err-look_segment.fault Damaged is) image now))
 
+pub returns-in-Err-look_segment-clause-reads : goal.returns-in-Err-look_segment-clause-reads
+returns-in-Err-look_segment-clause-reads g c =
+    let inv = c.loop-segment.invariant in
+    let reads = c.in-Err-look_segment.ensures.reads in
+    record {
+      writes = nothing_then g.D.Disk c.args.disk.now c.loop-segment.disk c.look_segment.new.disk inv.writes reads.writes;
+      calls = record {
+        count = count_then _ _ _ _ _ _ inv.count reads.calls.count;
+        blocks = reads.calls.blocks ∙ inv.blocks;
+        cause = λ is. then_rose _ _ _ _ _ _ inv.count (reads.calls.cause (same_fault c.in-Err-look_segment.fault Disk is));
+      };
+    }
+
 pub loop-segment-preserved : goal.loop-segment-preserved
 loop-segment-preserved g c =
     let inv = c.loop-segment.invariant in
@@ -41,7 +55,7 @@ loop-segment-preserved g c =
       fit = look.fit inv.fit;
       few = omega (arith, look.at_most_160_more, inv.few);
       writes = nothing_then g.D.Disk c.args.disk.now c.loop-segment.disk c.look_segment.new.disk inv.writes look.reads.writes;
-      count = search rules;
+      count = count_then _ _ _ _ _ _ inv.count look.reads.calls.count;
       blocks = look.reads.calls.blocks ∙ inv.blocks;
     }
 
