@@ -1,11 +1,15 @@
 -- What reads and writes of blocks leave of the journal and of what is kept.
-use Rattle.std.specs.Prelude.{◌≡◌, ℕ, true, false, is_some, List, [], ◌∷◌, Option, Some, None, IfSome, MatchOption, ◌==◌}
+use Rattle.std.specs.Prelude.{◌≡◌, ℕ, true, false, is_some, List, [], ◌∷◌, Ok, Option, Some, None, IfSome, MatchOption, ◌==◌}
 use Rattle.std.specs.Option.{ForSome}
 use Rattle.std.proofs.Common.{refl, sym, ap, subst, ◌∙◌, ⊎_elim}
 use Rattle.std.proofs.lemmas.Bool.{cases_Bool, eq-eqb, false≢true}
 use Rattle.mg_disk.specs.Disk.{Image, block_at}
+use Rattle.mg_disk.specs.Runs.{nothing_none}
+use Rattle.mg_disk.specs.Stops.{OnlyReads}
+use Rattle.mg_disk.specs.declared.disk.Disk.{Ghosts}
+use Rattle.mg_faults.specs.Faults.{count_none}
 use Rattle.mg_journal.specs.Staged.{staged}
-use Rattle.mg_journal.specs.Standing.{IsFitting, total_of}
+use Rattle.mg_journal.specs.Standing.{IsFitting, Stands, total_of}
 use Rattle.mg_journal.specs.Held.{Store}
 use Rattle.mg_model.specs.Replay.{replay}
 use Rattle.mg_pages.proofs.Awaited.{fits-replayed}
@@ -14,7 +18,7 @@ use Rattle.mg_pages.specs.declared.blocks.Blocks.{Blocks}
 use Rattle.mg_pages.specs.Held.{with_writes}
 use Rattle.mg_pages.specs.Kept.{AreKept}
 use Rattle.mg_pages.specs.Meaning.{replayed}
-use Rattle.mg_pages.specs.Parts.{KeepsMore}
+use Rattle.mg_pages.specs.Parts.{KeepsMore, LooksAt}
 
 module _ (told : Option Image) (first : ℕ) where
   pub keeps-none : (b : Blocks) → KeepsMore told first b b
@@ -62,3 +66,13 @@ staged-twice ((i, z) ∷ ws) b x y = ⊎_elim here (other (staged-twice ws b x y
 -- what stages alone leaves the journal and what is kept
 pub keeps-writes : (told : Option Image) (first : ℕ) (old new : Blocks) → new ≡ with_writes old new.writes → KeepsMore told first old new
 keeps-writes told first old new is = let k = keeps-none told first old in subst (KeepsMore told first old) (sym is) record { store = k.store; kept = k.kept }
+
+-- no block was read
+pub reads-none : {D T E : Type 0} (facts : Ghosts D) (disk : D) (x : T) → facts.has_been disk (facts.moment disk) → OnlyReads {E = E} facts disk disk (Ok x)
+reads-none facts disk x been = record {
+  writes = nothing_none facts disk been;
+  calls = record { count = count_none (facts.faults disk) (facts.is_spent disk); blocks = refl; cause = tt };
+}
+
+pub looks-none : {D T E : Type 0} (facts : Ghosts D) (b c : Blocks) (disk : D) (x : T) → facts.has_been disk (facts.moment disk) → Stands facts c.store disk → ((first : ℕ) → KeepsMore (facts.seen disk) first b c) → LooksAt {E = E} facts b c disk disk (Ok x)
+looks-none facts b c disk x been stands keeps = record { keeps = keeps; stands = stands; reads = reads-none facts disk x been }

@@ -1,9 +1,8 @@
 -- Entries of a frame table that are bound one after another.
-use Rattle.std.proofs.lemmas.Grind.{common_steps}
 use Rattle.std.specs.Prelude.{◌≡◌, ◌≢◌, ◌⊎◌, ◌+◌, ◌*◌, ◌≤◌, ◌<◌, ◌==◌, ◌||◌, nat_le, ℕ, zero, suc, Bool, true, false, List, [], ◌∷◌, if◌then◌else◌, length, position, slice_set, take, Option, None, Some}
 use Rattle.std.specs.List.{list_any}
 use Rattle.std.specs.Option.{ForSome, option_map_or}
-use Rattle.std.proofs.Common.{refl, sym, ap, ◌∙◌, ⊎_elim, inl, inr, arith, get_or}
+use Rattle.std.proofs.Common.{refl, sym, ap, ◌∙◌, ⊎_elim, inl, inr, arith, get_or, subst}
 use Rattle.std.proofs.lemmas.Bool.{and_parts, both_ways, cases_Bool, cases_eq, cases_lt, eq-eqb, eqb-false, eqb-true, leb-false, leb-true, ne_eqb, not-true, or_left}
 use Rattle.std.proofs.lemmas.List.{ext_get_or, get_or-set_other, get_or-set_same, get_or-take, length-set, length-take-le}
 use Rattle.std.proofs.lemmas.List.Folds.{list_any_at, list_any_more}
@@ -163,7 +162,15 @@ pub record AreBound (k j : ℕ) (bytes old now : List ℕ) : Type 0 where
   pub loaded : (table : List ℕ) → length table ≡ length old → HasEntries table k bytes → AreLoaded table (512 * k) old → AreLoaded table (512 * k + j) now
 
 pub bound-more : (k j page : ℕ) (bytes old now new : List ℕ) → j < 512 → page ≡ number_at bytes (8 * j) → new ≡ entry_bound now (512 * k + j) page → AreBound k j bytes old now → AreBound k (j + 1) bytes old new
-bound-more k j page bytes old now new few page_is new_is are = grind (arith, common_steps, entry-long, entry-free, entry-loaded)
+bound-more k j page bytes old now new few page_is new_is are =
+    let i = 512 * k + j in
+    let many = are.long in
+    let next : i + 1 ≡ 512 * k + (j + 1) = omega arith in
+    subst (AreBound k (j + 1) bytes old) (sym new_is) record {
+      long = entry-long now i page ∙ many;
+      free = subst (λ n. AreFreeFrom n (entry_bound now i page)) next (entry-free now i page are.free);
+      loaded = λ table tall has first. subst (λ n. AreLoaded table n (entry_bound now i page)) next (entry-loaded table now i page (tall ∙ sym many) (λ below. page_is ∙ has j few (omega arith)) are.free (are.loaded table tall has first));
+    }
 
 -- the first blocks of the table are read
 pub record AreRead {D : Type 0} (facts : Ghosts D) (store : Store) (k : ℕ) (frames now : List ℕ) (old new : D) : Type 0 where

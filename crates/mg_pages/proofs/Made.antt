@@ -4,12 +4,16 @@ use Rattle.std.specs.Prelude.{◌≡◌, ◌≤◌, ℕ, true, List, [], if◌th
 use Rattle.mg_disk.specs.Disk.{Image}
 use Rattle.mg_journal.specs.Standing as journal
 use Rattle.mg_journal.specs.Held.{Store}
+use Rattle.mg_journal.specs.Staged.{are_once}
+use Rattle.mg_model.specs.Layout.{body_limit, total_blocks}
+use Rattle.mg_model.specs.Replay.{homes_fit}
 use Rattle.mg_model.specs.Tests.{all_distinct}
 use Rattle.mg_model.specs.Volume.{bound_pages}
 use Rattle.mg_pages.specs.declared.pages.Pages.{Pages}
+use Rattle.mg_pages.specs.Held.{HasFrames, IsSound}
 use Rattle.mg_pages.specs.Kept.{kept_at}
 use Rattle.mg_pages.specs.Parts.{coming_of}
-use Rattle.mg_pages.specs.Meaning.{HasTable, IsSpelledBy, coming, frame_count, kept_in, replayed, table_in, total_of}
+use Rattle.mg_pages.specs.Meaning.{AreMade, HasTable, IsSpelledBy, coming, frame_count, is_live, kept_in, replayed, staged_of, store_of, table_in, total_of, words_in}
 
 -- the frames of entries in which no page occurs twice are these entries
 pub made-frames : (entries frames : List ℕ) (made : Option (List ℕ)) → made ≡ (if all_distinct (bound_pages entries) then Some entries else None) → made ≡ Some frames → all_distinct (bound_pages entries) ≡ true → frames ≡ entries
@@ -32,4 +36,29 @@ made-spelled q store entries same_store same_frames none bare image fits long ha
   table = (spells store q.blocks.store entries q.frames q.blocks.writes image same_store same_frames none has).table;
   past = (spells store q.blocks.store entries q.frames q.blocks.writes image same_store same_frames none has).past;
   kept = λ i bytes found. absurd (none-some bytes (sym (ap (λ ks. kept_at ks i) bare) ∙ found));
+}
+
+-- the pages that are made, of a journal's store and frames that are free or known
+pub made-pages : (q : Pages) (store : Store) (frames : ℕ) → q.blocks.store ≡ store → q.blocks.writes ≡ [] → q.blocks.kept ≡ [] → q.count ≡ 0 → length q.frames ≡ frames → AreMade store frames q
+unfolding store_of total_of frame_count is_live kept_in words_in staged_of coming
+made-pages q store frames same none bare zero many = record {
+  same = same;
+  total = ap (λ (s : Store). s.total) same;
+  count = many;
+  live = ap (λ s. journal.is_live s) same;
+  bare = record { staged = ap length none; kept = bare };
+  words = zero;
+  coming = λ image. ap (λ (s : Store). coming_of s q.blocks.writes image) same ∙ ap (λ ws. coming_of store ws image) none;
+}
+
+-- what they keep
+pub made-sound : (s : Store) (total n : ℕ) (frames : List ℕ) (writes : List (ℕ × List ℕ)) → HasFrames total n → s.total ≡ total → length frames ≡ n → all_distinct (bound_pages frames) ≡ true → writes ≡ [] → IsSound s.total frames writes
+made-sound s total n frames writes has same many distinct none = record {
+  some = subst (λ m. 16 ≤ m) (sym many) has.some;
+  few = subst (λ m. m ≤ 65536) (sym many) has.few;
+  size = same ∙ has.size ∙ ap total_blocks (sym many);
+  distinct = distinct;
+  waiting = subst (λ (ws : List (ℕ × List ℕ)). length ws ≤ body_limit) (sym none) (omega arith);
+  homes = ap (λ ws. homes_fit s.total ws) none;
+  once = ap are_once none;
 }

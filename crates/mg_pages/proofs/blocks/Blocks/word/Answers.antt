@@ -7,7 +7,7 @@ use Rattle.mg_journal.specs.Staged.{waiting}
 use Rattle.mg_journal.specs.Standing.{total_of}
 use Rattle.mg_model.specs.Bytes.{number_at}
 use Rattle.mg_pages.proofs.Awaited.{coming-none, coming-waiting}
-use Rattle.mg_pages.proofs.BlocksKept.{keeps-then}
+use Rattle.mg_pages.proofs.BlocksKept.{keeps-none, keeps-then, looks-none}
 use Rattle.mg_pages.proofs.KeptWrites.{kept-same}
 use Rattle.mg_pages.proofs.Staging.{written-none}
 use Rattle.mg_pages.specs.Kept.{AreKept, kept_at}
@@ -27,6 +27,11 @@ returns-in-Some-clause-word g c image told first low are =
     let staged = some_of (λ bytes. c.in-Some.word ≡ number_at bytes (8 * c.args.index)) (waiting now.writes c.args.block) c.in-Some.ensures in
     staged.2 ∙ ap (λ bytes. number_at bytes (8 * c.args.index)) (sym (coming-waiting now.store now.writes image c.args.block staged.0 (stands.fits image told) c.requires.once below staged.1))
 
+pub returns-in-Some-clause-looks : goal.returns-in-Some-clause-looks
+returns-in-Some-clause-looks g c =
+    let disk = c.args.disk.now in
+    looks-none g.D.Disk c.args.self.now c.args.self.now disk c.in-Some.word (g.met.D.Disk.now_has_been disk) c.requires.stands (λ first. keeps-none (g.D.Disk.seen disk) first c.args.self.now)
+
 pub returns-in-Some-word-clause-word : goal.returns-in-Some-word-clause-word
 returns-in-Some-word-clause-word g c image told first low are =
     let now = c.args.self.now in
@@ -35,6 +40,13 @@ returns-in-Some-word-clause-word g c image told first low are =
     ∙ ap (λ bytes. number_at bytes (8 * c.args.index))
     (coming-none now.store now.writes image c.args.block kept.0 (c.requires.stands.fits image told) c.in-None.ensures
     (λ r is. are c.args.block kept.0 kept.1 low ∙ ap (λ i. block_at i c.args.block) (replayed_is (total_of now.store) image r is)))
+
+pub returns-in-Some-word-clause-looks : goal.returns-in-Some-word-clause-looks
+returns-in-Some-word-clause-looks g c =
+    let now = c.args.self.now in
+    let disk = c.args.disk.now in
+    looks-none g.D.Disk now (record now { kept = c.word.new.self }) disk c.in-Some-word.word (g.met.D.Disk.now_has_been disk) c.requires.stands
+    (λ first. record { store = refl; kept = λ image seen are. kept-same first (replayed now.store.total image) now.kept c.word.new.self c.word.ensures.same are })
 
 pub returns-in-None-word-clause-word : goal.returns-in-None-word-clause-word
 returns-in-None-word-clause-word g c =
