@@ -16,6 +16,7 @@ pub mod Found
 pub mod FoundOwn
 pub mod FreeFrame
 pub mod FreePlace
+mod Handed
 mod ImageBytes
 pub mod Indexed
 pub mod ObjectChanged
@@ -29,6 +30,7 @@ mod OpenRuns
 pub mod Opened
 pub mod OpenedFormed
 pub mod PagesChange
+pub mod QuadRows
 pub mod RemovedOrder
 mod Reread
 mod Respelled

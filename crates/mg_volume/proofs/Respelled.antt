@@ -1,9 +1,10 @@
 -- One word more of a thread's block that is staged.
 use Rattle.std.proofs.Common.{arith}
 use Rattle.mg_volume.proofs.Stages.{shape_then, stages_then}
-use Rattle.std.specs.Prelude.{◌≡◌, ◌+◌, ℕ, List, MatchOption, Option}
+use Rattle.std.specs.Prelude.{◌≡◌, ◌+◌, ℕ, Bool, List, IfSome, MatchBool, MatchOption, Option, Some, None, is_some}
+use Rattle.mg_disk.specs.Disk.{Image, block_at}
 use Rattle.std.specs.List.{splice}
-use Rattle.std.proofs.Common.{ap, subst, ◌∙◌}
+use Rattle.std.proofs.Common.{ap, subst, sym, ◌∙◌}
 use Rattle.std.proofs.lemmas.List.{set-set}
 use Rattle.mg_model.specs.Abbreviations.{word_bytes}
 use Rattle.mg_model.specs.Spelling.{thread_bytes}
@@ -26,3 +27,11 @@ goes_on block at word first row row' p q r step puts told =
       restages = restages_then block told.bytes (with_word at word told.bytes) p q r told.restages put;
       are = λ image spelled is. ap (with_word at word) (told.are image spelled is) ∙ step;
     }
+
+-- the first word of a block that is staged
+pub begins : (block at word : ℕ) (row row' : ThreadRow) (q r : Pages) (told : Option (List ℕ)) (is : Bool) → with_word at word (thread_bytes row) ≡ thread_bytes row'
+    → is ≡ is_some told → IfSome told (λ bytes. (image : Image) → pages.IsSpelledBy q image → block_at (pages.coming q image) block ≡ bytes)
+    → MatchOption told (r ≡ q) (λ bytes. pages.Restages block (splice bytes at (at + 8) (word_bytes word)) q r) → MatchBool is (Respells block row row' q r) (r ≡ q)
+begins block at word row row' q r None is step waits was put = rw waits put
+begins block at word row row' q r (Some bytes) is step waits was put =
+    rw waits (record { bytes = with_word at word bytes; restages = put; are = λ image spelled same. ap (with_word at word) (sym (was image spelled) ∙ same) ∙ step })

@@ -1,6 +1,7 @@
 -- A list that is taken over item by item.
 use Rattle.std.proofs.lemmas.Grind.{common_steps}
-use Rattle.std.proofs.Common.{ℕ, zero, suc, ◌+◌, ◌<◌, ◌≡◌, ◌++◌, List, [], ◌∷◌, drop, get_or, length, refl, take, arith}
+use Rattle.std.proofs.lemmas.List.{append-nil, drop_all, take_all}
+use Rattle.std.proofs.Common.{ℕ, zero, suc, ◌+◌, ◌<◌, ◌≤◌, ◌≡◌, ◌∙◌, ◌++◌, List, [], ◌∷◌, ap, drop, get_or, length, refl, take, arith}
 use Rattle.std.specs.Prelude.{slice_set}
 
 -- one more of the new items, if the others are as they were
@@ -16,3 +17,7 @@ seam-long new old k same = grind (arith, common_steps)
 
 pub seam-next : (new old : List ℕ) (k d : ℕ) → length new ≡ length old → get_or (take k new ++ drop k old) k d ≡ get_or old k d
 seam-next new old k d same = grind (arith, common_steps)
+
+-- all of the new ones
+pub seam-end : (new old : List ℕ) (k : ℕ) → length new ≤ k → length old ≤ k → take k new ++ drop k old ≡ new
+seam-end new old k all gone = ap (λ xs. xs ++ drop k old) (take_all k new all) ∙ ap (λ xs. new ++ xs) (drop_all k old gone) ∙ append-nil new

@@ -106,7 +106,10 @@ turn-past t i r past = grind (arith, nat_tests)
 above-all : (t i : ℕ) (rows : List (Option ThreadRow)) → t ≤ i → option_map (λ (x : ℕ × ThreadRow). x.0) (find (takes_turn t) (numbered (live_from i rows))) ≡ from_place i (map turn_mark rows)
 above-all t i [] above = refl
 above-all t i (None ∷ rows) above = above-all t (i + 1) rows (omega arith) ∙ sym (from-cons i false (map turn_mark rows))
-above-all t i (Some r ∷ rows) above = grind (arith, (above-all t (i + 1) rows (omega arith)))
+above-all t i (Some r ∷ rows) above =
+    number-found t (i + 1) r (numbered (live_from (i + 1) rows)) (is_ready r.state) (turn-now t i r above)
+    ∙ ap (λ o. if is_ready r.state then Some (i + 1) else o) (above-all t (i + 1) rows (omega arith))
+    ∙ sym (from-cons i (is_ready r.state) (map turn_mark rows))
 
 pub ready-above : (t i k : ℕ) (rows : List (Option ThreadRow)) → t ≡ i + k → option_map (λ (x : ℕ × ThreadRow). x.0) (find (takes_turn t) (numbered (live_from i rows))) ≡ from_place t (drop k (map turn_mark rows))
 ready-above t i zero rows is = above-all t i rows (omega arith) ∙ ap (λ n. from_place n (map turn_mark rows)) (omega arith)
@@ -137,10 +140,22 @@ put_listed rows taken ready k new some turn good some_is turn_is held = record {
 module _ (rows : List (Option ThreadRow)) (taken : List Bool) (ready : List ℕ) (held : AreListed rows taken ready) where
   -- the lowest free number
   pub free_is : (place : ℕ) → position (λ is. not is) taken ≡ Some place → IsFreeNumber (numbered (live_from 0 rows)) (Some (place + 1))
-  free_is place found = grind (arith, found_at, length-map, taken-not_all, free-from, free-none)
+  free_is place found =
+      let at = found_at (λ is. not is) (map is_taken rows) place (ap (position (λ is. not is)) (sym held.taken_are) ∙ found) in
+      let (is, within) = at in
+      let places = length-map rows is_taken in
+      let few = taken-not_all 0 rows (omega arith) in
+      let long = held.by_number.long in
+      let from = free-from 0 rows in
+      (omega arith, omega arith, ap (λ n. has_number n (numbered (live_from 0 rows))) (omega arith) ∙ free-none 0 rows)
 
   pub free_gone : position (λ is. not is) taken ≡ None → IsFreeNumber (numbered (live_from 0 rows)) None
-  free_gone none = grind (arith, found_none, length-map, taken-all)
+  free_gone none =
+      let past = found_none (λ is. not is) (map is_taken rows) (ap (position (λ is. not is)) (sym held.taken_are) ∙ none) in
+      let places = length-map rows is_taken in
+      let all = taken-all 0 rows (omega arith) in
+      let long = held.by_number.long in
+      omega arith
 
   -- the next that is Ready
   pub ready_is : (t : ℕ) (found : Option ℕ) → position (λ mark. mark == 1) (drop t ready) ≡ found → option_map (λ (x : ℕ × ThreadRow). x.0) (find (takes_turn t) (numbered (live_from 0 rows))) ≡ option_map (λ p. t + p + 1) found

@@ -10,7 +10,7 @@ use mg_disk::{BLOCK_SIZE, Block};
 use mg_layout::FIRST_ACCOUNT_BLOCK;
 use mg_model::AccRow;
 use mg_pages::Pages;
-use mg_rows::put_account;
+use mg_rows::{MOST_START_ACCOUNTS, accounts_start, put_account};
 
 // The row at a place, if an account has it.
 fn row_at(rows: &[AccRow], place: u64) -> Option<&AccRow>
@@ -33,6 +33,32 @@ pub(crate) fn account_block(rows: &[AccRow], k: u64) -> Block
 
 /// Stages block k of the table, k below 16, as the accounts are.
 pub(crate) fn stage_accounts(pages: &mut Pages, rows: &[AccRow], k: u64)
+    requires block { k < 16 }
+    requires fewer_than_160_staged { staged_of pages.old < body_limit }
+    ensures { StagesAccounts 1 (λ i. i == k) rows.now pages.old pages.new }
+{
+    if rows.len() <= 64 * k as usize + MOST_START_ACCOUNTS {
+        stage_few(pages, rows, k);
+    } else {
+        stage_many(pages, rows, k);
+    }
+}
+
+// The same where the block has at most 8 accounts: no more than their rows are spelled.
+#[inline(never)]
+fn stage_few(pages: &mut Pages, rows: &[AccRow], k: u64)
+    requires block { k < 16 }
+    requires few { length rows.now ≤ 64 * k + 8 }
+    requires fewer_than_160_staged { staged_of pages.old < body_limit }
+    ensures { StagesAccounts 1 (λ i. i == k) rows.now pages.old pages.new }
+{
+    let start = accounts_start(rows, 64 * k as usize);
+    pages.stage_start(FIRST_ACCOUNT_BLOCK + k, &start);
+}
+
+// The same for any number of accounts.
+#[inline(never)]
+fn stage_many(pages: &mut Pages, rows: &[AccRow], k: u64)
     requires block { k < 16 }
     requires fewer_than_160_staged { staged_of pages.old < body_limit }
     ensures { StagesAccounts 1 (λ i. i == k) rows.now pages.old pages.new }

@@ -1,5 +1,5 @@
 use Rattle.std.proofs.Common.{List, ◌≡◌, ◌∙◌, ◌++◌, ℕ, arith, drop, length, subst, take}
-use Rattle.mg_volume.proofs.Seams.{seam-long, seam-next, set-seam}
+use Rattle.mg_volume.proofs.Seams.{seam-end, seam-long, seam-next, set-seam}
 use Rattle.mg_volume.specs.Standing.{Respells}
 use Rattle.mg_volume.proofs.standing.put_registers.Goals as goal
 
@@ -15,3 +15,14 @@ loop-k-preserved c p first row is told =
     let eight : length (take k new ++ drop k old) ≡ 8 = seam-long new old k alike ∙ same in
     subst (λ (regs : List ℕ). Respells c.args.block first (record row { regs = regs }) p c.put_register.new.pages) (set-seam new old k 0 (omega arith) (omega arith))
     (c.put_register.ensures p first (record row { regs = take k new ++ drop k old }) eight (seam-next new old k 0 alike) (c.loop-k.invariant p first row is told))
+
+pub loop-k-init : goal.loop-k-init
+loop-k-init c p first row is told = subst (λ (regs : List ℕ). Respells c.args.block first (record row { regs = regs }) p c.args.pages.now) is told
+
+pub returns : goal.returns
+returns c p first row is told =
+    let over = c.loop-k-test.false in
+    let long = c.told-new in
+    let same = c.told-old in
+    subst (λ (regs : List ℕ). Respells c.args.block first (record row { regs = regs }) p c.loop-k.pages) (seam-end c.args.new.now c.args.old.now c.loop-k.k (omega (arith, over, long)) (omega (arith, over, same)))
+    (c.loop-k.invariant p first row is told)

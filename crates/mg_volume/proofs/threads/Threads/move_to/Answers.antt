@@ -65,3 +65,10 @@ returns-clause-there c row found =
 
 pub returns-clause-few : goal.returns-clause-few
 returns-clause-few c = few_are (slice_set c.self.inside.rows.items (c.args.number - 1) c.move_row.new.row) (invariant_of-self c).by_number
+
+pub index_mut-requires : goal.index_mut-requires
+index_mut-requires c =
+    let some = c.requires.t_at_least_1 in
+    let few = c.requires.t_at_most_256 in
+    let long = c.self.invariant.by_number.long in
+    omega (arith, c.self.inside.rows.ok.0)

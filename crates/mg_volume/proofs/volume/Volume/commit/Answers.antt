@@ -8,9 +8,9 @@ use Rattle.mg_model.specs.Volume.{Is, volume}
 use Rattle.mg_pages.specs.Committing.{HasContents}
 use Rattle.mg_pages.specs.Meaning as pages
 use Rattle.mg_volume.proofs.CommitChange.{held_now, left_volume, ready_now, stands_now}
-use Rattle.mg_volume.proofs.PagesChange.{same_sound}
+use Rattle.mg_volume.proofs.PagesChange.{held_same, same_sound}
 use Rattle.mg_volume.proofs.StandingPages.{pages_stand, with_pages}
-use Rattle.mg_volume.specs.Meaning.{is_live, now_of}
+use Rattle.mg_volume.specs.Meaning.{is_live, now_of, staged_of}
 use Rattle.mg_volume.specs.Opening.{IsSaved}
 use Rattle.mg_volume.specs.contracts.volume.Volume.{the_view}
 use Rattle.std.specs.Prelude.{◌≡◌, ◌⊎◌}
@@ -63,3 +63,16 @@ returns-clause-ready g c =
           same_sound v c.commit.new.self from.0 image ∙ sound from.0 from.1;
     })
     said.dead
+
+pub invariant_of-self : goal.invariant_of-self
+invariant_of-self g c =
+    let v = the_view c.self.inside in
+    let kept = c.self.invariant.kept in
+    record { kept = held_same v v.counters v.threads c.commit.new.self kept kept.few_threads c.commit.ensures.same.frames c.commit.ensures.same.table; paid = c.self.invariant.paid }
+
+pub returns-clause-staged : goal.returns-clause-staged
+unfolding staged_of
+returns-clause-staged g c = c.commit.ensures.staged
+
+pub returns-clause-calls : goal.returns-clause-calls
+returns-clause-calls g c = c.commit.ensures.calls

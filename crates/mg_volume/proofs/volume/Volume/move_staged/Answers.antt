@@ -1,12 +1,16 @@
-use Rattle.std.proofs.Common.{◌∙◌, ◌==◌, Some, find, refl, sym}
+use Rattle.std.proofs.Common.{◌≡◌, ◌∙◌, ◌==◌, Some, ap, find, refl, subst, sym}
 use Rattle.mg_model.specs.State.{Thread}
+use Rattle.mg_pages.specs.declared.pages.Pages.{Pages}
 use Rattle.mg_volume.proofs.Found.{thread_found}
+use Rattle.mg_volume.proofs.Handed.{no, nor}
+use Rattle.mg_volume.proofs.PagesChange.{held_same}
+use Rattle.mg_volume.proofs.StandingPages.{with_pages}
 use Rattle.mg_volume.proofs.Stages.{restaged}
 use Rattle.mg_volume.proofs.StillWaiting.{thread_here}
 use Rattle.mg_volume.proofs.ThreadChanged.{thread_changed}
 use Rattle.mg_volume.proofs.ThreadMoved.{changes_found, moved_read}
 use Rattle.mg_volume.proofs.ThreadStaged.{thread_changes, with_threads}
-use Rattle.mg_volume.specs.Meaning.{threads_in}
+use Rattle.mg_volume.specs.Meaning.{IsVolume, threads_in}
 use Rattle.mg_volume.specs.Standing.{stands_at}
 use Rattle.mg_volume.specs.contracts.volume.Volume.{the_view}
 use Rattle.mg_volume.proofs.volume.Volume.move_staged.Goals as goal
@@ -27,7 +31,7 @@ returns c =
     let lives = rw (← c.self.view_is) at c.requires.lives in
     rw (← c.self.view_is)
     (record {
-      not_staged = λ e. absurd (cc);
+      not_staged = nor;
       now = λ _ change gives image.
           all.now image ∙ thread_changed v image c.args.number (stands row) change same lives (changes_found change stands (find (λ (thread : Thread). thread.number == c.args.number) (threads_in v)) row (thread_found v c.args.number (Some row) found) gives);
       rows = λ _. all.rows;
@@ -35,3 +39,22 @@ returns c =
       objects = λ _. all.objects;
       here = λ _. thread_here (with_threads v c.move_to.new.self p) c.args.number told.restages.here;
     })
+
+pub returns-in_default : goal.returns-in_default
+returns-in_default c = record { not_staged = λ _. refl; now = no; rows = no; stages = no; objects = no; here = no }
+
+same-pages : (c : goal.Then-not-respell) → c.respell.new.pages ≡ c.self.inside.pages
+same-pages c = c.if-not-respell.ensures.not_staged refl
+
+pub invariant_of-self : goal.invariant_of-self
+invariant_of-self c = subst (λ (p : Pages). IsVolume (with_pages (the_view c.self.inside) p) c.self.inside.bank.pages) (sym (same-pages c)) c.self.invariant
+
+pub returns-then-not-respell : goal.returns-then-not-respell
+returns-then-not-respell c =
+    record { not_staged = λ _. ap (with_pages (the_view c.self.inside)) (same-pages c) ∙ c.self.view_is; now = no; rows = no; stages = no; objects = no; here = no }
+
+pub invariant_of-self-2 : goal.invariant_of-self-2
+invariant_of-self-2 c =
+    let v = the_view c.self.inside in
+    let told = (c.if-not-respell.ensures.staged refl).restages in
+    record { kept = held_same v v.counters c.move_to.new.self c.respell.new.pages c.self.invariant.kept c.move_to.ensures.few told.shape.frames told.table; paid = c.self.invariant.paid }

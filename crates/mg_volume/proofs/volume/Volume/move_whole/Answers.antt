@@ -1,5 +1,5 @@
-use Rattle.std.proofs.Common.{◌==◌, ◌∙◌, ℕ, None, Some, sym}
-use Rattle.std.specs.Prelude.{find}
+use Rattle.std.proofs.Common.{◌==◌, ◌∙◌, ℕ, None, Some, ap, sym}
+use Rattle.std.specs.Prelude.{find, is_some}
 use Rattle.mg_model.specs.State.{Thread}
 use Rattle.mg_volume.proofs.Found.{thread_found, thread_none}
 use Rattle.mg_volume.proofs.PagesChange.{held_same}
@@ -47,3 +47,6 @@ returns c =
       objects = all.objects;
       here = thread_here (with_threads v c.move_to.new.self c.stage_held.new.pages) c.args.number held.staged.here;
     })
+
+pub stage_held-requires-clause-there : goal.stage_held-requires-clause-there
+stage_held-requires-clause-there c = ap is_some (c.move_to.ensures.there c.in-Some._row.now (sym c.in-Some.ensures.found))

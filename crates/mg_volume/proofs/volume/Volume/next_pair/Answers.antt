@@ -4,7 +4,7 @@ use Rattle.mg_model.specs.Objects.{word_at}
 use Rattle.mg_pages.specs.Meaning as pages
 use Rattle.mg_pages.specs.PairLemmas.{same_pairs}
 use Rattle.mg_pages.specs.Pairs.{words_looked_at}
-use Rattle.mg_volume.proofs.PagesChange.{counted_some, keeps_now, same_objects, some_page, ticked_some, word_now}
+use Rattle.mg_volume.proofs.PagesChange.{counted_some, held_same, keeps_now, same_objects, some_page, ticked_some, word_now}
 use Rattle.mg_volume.proofs.StillStaged.{objects_wait, still_staged}
 use Rattle.mg_volume.proofs.StandingPages.{pages_stand, stands_same, with_pages}
 use Rattle.mg_volume.specs.Meaning.{now_of, words_in}
@@ -44,3 +44,12 @@ returns-clause-objects g c =
 
 pub returns-clause-counts : goal.returns-clause-counts
 returns-clause-counts g c = ticked_some (words_looked_at c.args.from c.args.count) c.next_pair.result c.self.inside.pages c.next_pair.new.self c.args.steps.now c.next_pair.new.steps c.next_pair.ensures.counts
+
+pub invariant_of-self : goal.invariant_of-self
+invariant_of-self g c =
+    let v = the_view c.self.inside in
+    let kept = c.self.invariant.kept in
+    record { kept = held_same v v.counters v.threads c.next_pair.new.self kept kept.few_threads c.next_pair.ensures.looks.keeps.shape.frames c.next_pair.ensures.looks.keeps.table; paid = c.self.invariant.paid }
+
+pub returns-clause-cause : goal.returns-clause-cause
+returns-clause-cause g c = c.next_pair.ensures.looks.reads.calls.cause

@@ -1,7 +1,8 @@
 use Rattle.std.proofs.Common.{subst, sym, ◌∙◌}
 use Rattle.std.proofs.lemmas.Result.{IfOk-weaker}
 use Rattle.mg_layout.specs.MayFormat.{IsNoState}
-use Rattle.mg_volume.proofs.OpenRuns.{quiet_then}
+use Rattle.mg_volume.proofs.Handed.{calls_as, calls_then, same_fault}
+use Rattle.mg_volume.proofs.OpenRuns.{quiet, quiet_then}
 use Rattle.mg_volume.specs.Opening.{IsOpened}
 use Rattle.mg_volume.proofs.volume.Volume.open.Goals as goal
 
@@ -21,3 +22,30 @@ returns-clause-untouched g c image told no_state = absurd (subst IsNoState (c.in
 
 pub returns-clause-opened : goal.returns-clause-opened
 returns-clause-opened g c = IfOk-weaker c.open_rows.result _ _ (λ v is. subst (λ told. IsOpened g.D.Disk told v c.open_rows.new.disk) c.in-Ok.ensures.reads.writes.same is) c.open_rows.ensures.opened
+
+pub returns-in-Err-clause-any_moment : goal.returns-in-Err-clause-any_moment
+returns-in-Err-clause-any_moment g c = quiet g.D.Disk c.args.disk.now c.read_volume.new.disk (g.met.D.Disk.now_has_been c.args.disk.now) c.in-Err.ensures.reads.writes
+
+pub returns-in-Err-clause-not : goal.returns-in-Err-clause-not
+returns-in-Err-clause-not g c e = record { is = c.in-Err.ensures.not (same_fault c.in-Err.fault _ e); untouched = c.in-Err.ensures.reads.writes }
+
+pub returns-in-Err-clause-old : goal.returns-in-Err-clause-old
+returns-in-Err-clause-old g c e = record { is = c.in-Err.ensures.old (same_fault c.in-Err.fault _ e); untouched = c.in-Err.ensures.reads.writes }
+
+pub returns-in-Err-clause-damaged : goal.returns-in-Err-clause-damaged
+returns-in-Err-clause-damaged g c e = record { is = c.in-Err.ensures.damaged (same_fault c.in-Err.fault _ e); untouched = c.in-Err.ensures.reads.writes }
+
+pub returns-in-Err-clause-calls : goal.returns-in-Err-clause-calls
+returns-in-Err-clause-calls g c = calls_as g.D.Disk c.args.disk.now c.read_volume.new.disk c.in-Err.fault c.in-Err.ensures.reads.calls
+
+pub returns-clause-not : goal.returns-clause-not
+returns-clause-not g c e = absurd (c.open_rows.ensures.judges_nothing.no_not e)
+
+pub returns-clause-old : goal.returns-clause-old
+returns-clause-old g c e = absurd (c.open_rows.ensures.judges_nothing.no_old e)
+
+pub returns-clause-damaged : goal.returns-clause-damaged
+returns-clause-damaged g c e = absurd (c.open_rows.ensures.judges_nothing.no_damaged e)
+
+pub returns-clause-calls : goal.returns-clause-calls
+returns-clause-calls g c = calls_then g.D.Disk c.args.disk.now c.read_volume.new.disk c.open_rows.new.disk _ _ c.in-Ok.ensures.reads.calls c.open_rows.ensures.calls

@@ -5,7 +5,7 @@ use Rattle.mg_disk.specs.Disk.{block_at}
 use Rattle.mg_model.specs.Objects.{word_at}
 use Rattle.mg_pages.specs.Meaning as pages
 use Rattle.std.specs.Prelude.{slice_index, ◌+◌, ◌*◌}
-use Rattle.mg_volume.proofs.PagesChange.{counted, keeps_now, same_objects, some_page, ticked, word_now}
+use Rattle.mg_volume.proofs.PagesChange.{counted, held_same, keeps_now, same_objects, some_page, ticked, word_now}
 use Rattle.mg_volume.proofs.StillStaged.{objects_wait, still_staged}
 use Rattle.mg_volume.proofs.StandingPages.{pages_stand, stands_same, with_pages}
 use Rattle.mg_volume.specs.Meaning.{now_of, words_in}
@@ -47,3 +47,12 @@ returns-clause-objects g c =
 
 pub returns-clause-counts : goal.returns-clause-counts
 returns-clause-counts g c = ticked c.page_word.result c.self.inside.pages c.page_word.new.self c.args.steps.now c.page_word.new.steps c.page_word.ensures.counts
+
+pub invariant_of-self : goal.invariant_of-self
+invariant_of-self g c =
+    let v = the_view c.self.inside in
+    let kept = c.self.invariant.kept in
+    record { kept = held_same v v.counters v.threads c.page_word.new.self kept kept.few_threads c.page_word.ensures.looks.keeps.shape.frames c.page_word.ensures.looks.keeps.table; paid = c.self.invariant.paid }
+
+pub returns-clause-cause : goal.returns-clause-cause
+returns-clause-cause g c = c.page_word.ensures.looks.reads.calls.cause

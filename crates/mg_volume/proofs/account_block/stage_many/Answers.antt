@@ -1,5 +1,5 @@
 use Rattle.mg_volume.proofs.AccountsStaged.{one_staged}
-use Rattle.mg_volume.proofs.account_block.stage_accounts.Goals as goal
+use Rattle.mg_volume.proofs.account_block.stage_many.Goals as goal
 
 pub returns : goal.returns
 returns c =
