@@ -89,6 +89,7 @@ pub fn validate<D: Disk, L: Ledger>(
 }
 
 // The base of the object that has an address, if the right on it is kept. No row is handed up for it.
+#[inline(always)]
 fn kept_base(
     volume: &mut Volume,
     cache: &VCache,

@@ -54,6 +54,7 @@ impl Buffers {
     }
 
     /// One reply more waits, after the others.
+    #[inline(always)]
     pub fn add(&mut self, reply: &Reply)
         requires fewer_than_64_waiting { self.old.count < 64 }
         requires slots { HasFewSlots reply.now }
@@ -99,6 +100,7 @@ impl Buffers {
 }
 
 /// Adds a text after those that wait; there is room for it.
+#[inline(always)]
 fn put(bytes: &mut Vec<u8>, text: &[u8])
     requires { vec_len bytes.old + length text.now ≤ vec_capacity bytes.old }
     ensures text { bytes.new.items ≡ bytes.old.items ++ text.now }

@@ -1,7 +1,9 @@
 -- The value of digits, one digit more, and when it leaves 64 bits.
 use Rattle.std.proofs.Common.{◌≡◌, ℕ, ◌+◌, ◌*◌, ◌^◌, ◌<◌, ◌≤◌, nat_lt, Bool, true, false, List, [], ◌∷◌, Some, None, if◌then◌else◌, refl, ap, arith}
-use Rattle.std.proofs.Math.Nat.{mul-le-mul_left}
+use Rattle.std.proofs.Math.Nat.{mul-le-mul_left, pow-le-pow_right}
 use Rattle.std.proofs.lemmas.Bool.{le-ltb, ltb-false, ltb-true}
+use Rattle.std.proofs.lemmas.Bool.Decides.{nat_tests}
+use Rattle.std.proofs.lemmas.Grind.{pow_more}
 use Rattle.mg_model.specs.Abbreviations.{below_word}
 use Rattle.mg_model.specs.Words.{and_then, digit_of, value_from}
 
@@ -28,3 +30,15 @@ some_case n m false t e = absurd cc
 
 pub below_word-some : (n m : ℕ) → Some m ≡ below_word (Some n) → (n < 2 ^ 64) × (n ≡ m)
 below_word-some n m e = some_case n m (nat_lt n (2 ^ 64)) refl e
+
+-- before the last of 16 hexadecimal digits there is room for one more
+pub hex-room : (n i : ℕ) → i < 16 → n < 16 ^ i → n < 2 ^ 60
+hex-room n i few small = let most : 16 ^ i ≤ 16 ^ 15 = pow-le-pow_right {n = 16} (omega arith) {i = i} {j = 15} (omega (arith, few)) in omega (arith, most, small)
+
+-- one hexadecimal digit more
+digit-below : (base b d : ℕ) → Some d ≡ digit_of base b → d < 16
+digit-below base b d e = grind (arith, nat_tests)
+
+pub hex-more : (base b n i d : ℕ) → base ≡ 16 → Some d ≡ digit_of base b → n < 16 ^ i → n * base + d < 16 ^ (i + 1)
+hex-more base b n i d hex digit small =
+    let more = pow_more 16 i in let below = digit-below base b d digit in rw hex (omega (arith, more, below, small))

@@ -73,6 +73,7 @@ fn thread_call(thread: u64, more: &[u8]) -> Line
 }
 
 /// The line of a call word and of the words in the bytes after it.
+#[inline(always)]
 fn call_by(thread: u64, word: &[u8], args: &[u8]) -> Line
     ensures { result ≡ call_line thread word.now (words args.now) }
 {

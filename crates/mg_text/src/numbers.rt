@@ -1,5 +1,5 @@
 // From a word to the number that it spells.
-ghost use Rattle.std.specs.Prelude.{◌≡◌, ◌≤◌, ◌<◌, ◌+◌, ◌*◌, ◌⊎◌, ℕ, List, IfSome, Some, drop, is_some, length, nat_lt, option_map};
+ghost use Rattle.std.specs.Prelude.{◌≡◌, ◌≤◌, ◌<◌, ◌+◌, ◌*◌, ◌^◌, ◌⊎◌, ℕ, List, IfSome, Some, drop, is_some, length, nat_lt, option_map};
 ghost use Rattle.std.specs.List.{prefix_len};
 ghost use Rattle.mg_model.specs.Abbreviations.{below_word};
 ghost use Rattle.mg_model.specs.Words.{digit_of, hex_part, number_of, value_of_digits, words};
@@ -25,6 +25,7 @@ pub fn digit(base: u8, byte: u8) -> Option<u8>
 
 /// The number that a word spells, below `2^64`: 1 to 20 decimal digits, or `0x` and 1 to 16 hexadecimal ones. None for any
 /// other word.
+#[inline(always)]
 pub fn read_number(word: &[u8]) -> Option<u64>
     ensures { result ≡ number_of word.now }
 {
@@ -46,6 +47,7 @@ fn after_prefix(word: &[u8]) -> Option<&[u8]>
 
 /// The number that the first word of these bytes spells, and the bytes after that word; None if there is no word or it
 /// spells no number.
+#[inline(always)]
 pub fn next_number(bytes: &[u8]) -> Option<(u64, &[u8])>
     ensures { option_map {U = ℕ × List (List ℕ)} (λ p. (p.0, words p.1.now)) result ≡ first_number (words bytes.now) }
 {
@@ -57,8 +59,10 @@ pub fn next_number(bytes: &[u8]) -> Option<(u64, &[u8])>
 }
 
 /// The number that the bytes before the first blank spell in one to `most` digits, and the bytes from that blank on.
+#[inline(always)]
 fn until_blank(base: u8, most: usize, bytes: &[u8]) -> Option<(u64, &[u8])>
-    requires { (base ≡ 10) ⊎ (base ≡ 16) }
+    requires base { (base ≡ 10) ⊎ (base ≡ 16) }
+    requires most { base ≡ 16 → most ≤ 16 }
     ensures { option_map {U = ℕ × List ℕ} (λ p. (p.0, p.1.now)) result ≡ number_before_blank base most bytes.now }
 {
     let (n, count) = leading(base, most, bytes)?;
@@ -71,8 +75,10 @@ fn until_blank(base: u8, most: usize, bytes: &[u8]) -> Option<(u64, &[u8])>
 }
 
 /// The number of one to `most` digits.
+#[inline(always)]
 fn value(base: u8, most: usize, digits: &[u8]) -> Option<u64>
-    requires { (base ≡ 10) ⊎ (base ≡ 16) }
+    requires base { (base ≡ 10) ⊎ (base ≡ 16) }
+    requires most { base ≡ 16 → most ≤ 16 }
     ensures { result ≡ below_word (value_of_digits base most digits.now) }
 {
     let (n, count) = leading(base, most, digits)?;
@@ -80,8 +86,10 @@ fn value(base: u8, most: usize, digits: &[u8]) -> Option<u64>
 }
 
 /// The number of the digits that these bytes begin with, one to `most` of them, and how many they are.
+#[inline(always)]
 fn leading(base: u8, most: usize, bytes: &[u8]) -> Option<(u64, usize)>
-    requires { (base ≡ 10) ⊎ (base ≡ 16) }
+    requires base { (base ≡ 10) ⊎ (base ≡ 16) }
+    requires most { base ≡ 16 → most ≤ 16 }
     ensures number { option_map (λ p. p.0) result ≡ below_word (value_of_digits base most (digits_front base bytes.now)) }
     ensures count { IfSome result (λ p. p.1 ≡ prefix_len (λ b. is_some (digit_of base b)) bytes.now) }
     ensures within { IfSome result (λ p. p.1 ≤ length bytes.now) }
@@ -117,9 +125,11 @@ fn digit_at(base: u8, bytes: &[u8], at: usize) -> bool
 fn with_digit(number: u64, base: u8, digit: u8) -> Option<u64>
     requires base { (base ≡ 10) ⊎ (base ≡ 16) }
     requires digit { digit < 16 }
+    requires hexadecimal { base ≡ 16 → number < 2 ^ 60 }
     ensures { result ≡ below_word (Some (number * base + digit)) }
 {
-    if number < 1 << 60 {
+    // A hexadecimal digit needs no test, since at most 16 of them are read.
+    if base == 16 || number < 1 << 60 {
         return Some(number * base as u64 + digit as u64);
     }
     number.checked_mul(base as u64)?.checked_add(digit as u64)

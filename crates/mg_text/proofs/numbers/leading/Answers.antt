@@ -1,4 +1,4 @@
-use Rattle.std.proofs.Common.{◌<◌, inl, inr, length, min, ◌+◌, ◌*◌, ◌^◌, ◌≤◌, ap, option_map, rules, subst, sym, ◌∙◌, drop, arith}
+use Rattle.std.proofs.Common.{◌<◌, inl, inr, get_or, length, min, ◌+◌, ◌*◌, ◌^◌, ◌≤◌, ap, option_map, rules, subst, sym, ◌∙◌, drop, arith}
 use Rattle.std.specs.Prelude.{is_some}
 use Rattle.std.specs.List.{prefix_len}
 use Rattle.std.proofs.lemmas.Bool.{ltb-true}
@@ -7,7 +7,7 @@ use Rattle.mg_model.specs.Abbreviations.{below_word}
 use Rattle.mg_model.specs.Words.{digit_of, value_from}
 use Rattle.mg_text.specs.Fronts.{digits_front}
 use Rattle.mg_text.proofs.Leads.{front-digit, front-large, front-more, front-none, front-past}
-use Rattle.mg_text.proofs.Values.{below_word-none, below_word-some}
+use Rattle.mg_text.proofs.Values.{below_word-none, below_word-some, hex-more, hex-room}
 use Rattle.mg_text.proofs.numbers.leading.Goals.{else-count-eq0, else-loop-i-test, then-count-eq0, then-loop-i-test+in-None}
 use Rattle.mg_text.proofs.numbers.leading.Goals as goal
 
@@ -16,6 +16,10 @@ returns-in_err-n-in-Some-clause-number c =
     let large : 2 ^ 64 ≤ c.loop-i.n * c.args.base + c.in-Some.d = below_word-none (c.loop-i.n * c.args.base + c.in-Some.d) (c.in_err-n-in-Some.ensures) in
     ap (option_map (λ p. p.0)) c.from_residual.ensures
     ∙ sym (front-large c.args.base c.args.most c.loop-i.n c.loop-i.i c.in-Some.d c.args.bytes.now (omega arith) (omega arith) c.in-Some.ensures c.loop-i.invariant.same large)
+
+pub with_digit-requires-clause-hexadecimal : goal.with_digit-requires-clause-hexadecimal
+with_digit-requires-clause-hexadecimal c hex =
+    let most = c.requires.most hex in hex-room c.loop-i.n c.loop-i.i (omega (arith, most)) (c.loop-i.invariant.bounded hex)
 
 pub loop-i-preserved : goal.loop-i-preserved
 loop-i-preserved c =
@@ -27,6 +31,8 @@ loop-i-preserved c =
       front = let more = front-more c.args.base c.loop-i.i c.in-Some.d c.args.bytes.now (omega arith) c.in-Some.ensures in let all = c.loop-i.invariant.front in omega (arith, more, all);
       at = search rules;
       small = omega (arith, told.0, told.1);
+      bounded = λ hex. subst (λ m. m < 16 ^ (c.loop-i.i + 1)) told.1
+          (hex-more c.args.base (get_or c.args.bytes.now c.loop-i.i 0) c.loop-i.n c.loop-i.i c.in-Some.d hex c.in-Some.ensures (c.loop-i.invariant.bounded hex));
     }
 
 pub returns-then-digit_at-clause-number : goal.returns-then-digit_at-clause-number

@@ -13,4 +13,5 @@ invariant-loop-i l = record {
   front : prefix_len (λ b. is_some (digit_of l.base b)) l.bytes ≡ l.i + prefix_len (λ b. is_some (digit_of l.base b)) (drop l.i l.bytes);
   at : l.count ≡ l.i;
   small : l.n < 2 ^ 64;
+  bounded : l.base ≡ 16 → l.n < 16 ^ l.i;
 }
