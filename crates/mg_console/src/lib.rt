@@ -8,6 +8,7 @@
 //! error is lost.
 #![tactic(auto)]
 
+mod commands;
 mod damage;
 mod endings;
 mod files;
@@ -18,6 +19,7 @@ mod usage;
 mod volumes;
 mod words;
 
+pub use commands::{MUNGI, report_commands};
 pub use endings::{report, report_error, report_fault, report_of};
 pub use files::{are_one_file, mode_of};
 pub use notes::{Notes, Task};

@@ -14,11 +14,10 @@
 ghost use Rattle.std.specs.Prelude.{◌≡◌, ◌<◌};
 
 mod program;
-mod usage;
 
-use mg_console::{NO_WORDS, Notes, Task, begin, mode_of, word};
+use mg_console::{MUNGI, NO_WORDS, Notes, Stream, Task, begin, mode_of, word};
 use mg_file::FileDisk;
-use mg_io::{ReaderSource, WriterSink};
+use mg_io::{ReaderSource, Sink, Source, WriterSink};
 use mg_model::Steps;
 use mg_session::is_migrate;
 use program::{blocks_made, carry_out};
@@ -27,37 +26,36 @@ use std::marker::Brand;
 use std::process::ExitCode;
 use std::sync::ledger::{Blank, Ledger};
 
-/// The program's name.
-const NAME: &str = "mungi";
-
 fn main(rt: HostRuntime) -> ExitCode {
-    match begin(&rt, NAME) {
-        Some((words, _numbers)) => ExitCode::from(on_files::<Brand>(&rt, &words, Blank::new(1))),
+    match begin(&rt, MUNGI) {
+        Some((words, _numbers)) => ExitCode::from(on_streams::<Brand>(&rt, &words, Blank::new(1))),
         None => ExitCode::from(NO_WORDS),
     }
 }
 
-/// Carries out the command on the files of the first and the third word and on the standard streams, with a counter of steps of its
-/// own.
-fn on_files<L: Ledger>(rt: &HostRuntime, words: &[String], blank: Blank) -> u8
+/// Carries out the command on the standard streams, with a counter of steps of its own.
+fn on_streams<L: Ledger>(rt: &HostRuntime, words: &[String], blank: Blank) -> u8
     requires name { blank.name ≡ L.name }
     requires parts { blank.parts ≡ L.parts }
     requires has_parts { 0 < blank.parts }
 {
-    let mut disk = volume_of(rt, words);
-    let mut old = FileDisk::reader(rt, word(words, 2));
     let mut source = ReaderSource::new(rt.stdin());
     let mut sink = WriterSink::new(rt.stdout());
     let mut steps = Steps::<L>::new(blank);
-    carry_out(
-        rt,
-        words,
-        &mut disk,
-        &mut old,
-        &mut source,
-        &mut sink,
-        &mut steps,
-    )
+    on_files(rt, words, &mut source, &mut sink, &mut steps)
+}
+
+/// Carries out the command on the files of the first and the third word.
+fn on_files<S: Source + Stream, K: Sink + Stream, L: Ledger>(
+    rt: &HostRuntime,
+    words: &[String],
+    source: &mut S,
+    sink: &mut K,
+    steps: &mut Steps<L>,
+) -> u8 {
+    let mut disk = volume_of(rt, words);
+    let mut old = FileDisk::reader(rt, word(words, 2));
+    carry_out(rt, words, &mut disk, &mut old, source, sink, steps)
 }
 
 /// The disk in the file of the first word. `check` only reads it. `format` gives it the length of its volume. If `migrate` makes it, it
@@ -69,7 +67,7 @@ fn volume_of<'a>(
     let path = word(words, 0);
     let copies = is_migrate(words);
     let task = if copies { Task::Copy } else { Task::Volume };
-    let notes = Notes::new(rt, NAME, path, task, copies && rt.stderr().is_terminal());
+    let notes = Notes::new(rt, MUNGI, path, task, copies && rt.stderr().is_terminal());
     if word(words, 1) == "check" {
         return FileDisk::watched_reader(rt, path, notes);
     }

@@ -4,9 +4,9 @@ ghost use Rattle.mg_disk.specs.Stops.{WritesNothing};
 ghost use Rattle.mg_serve.specs.Sessions.{code_of, use_of};
 ghost use Rattle.mungi.specs.Program.{Did, Ran};
 
-use crate::NAME;
-use crate::usage::report_usage;
-use mg_console::{InFile, Stream, report_fault, report_status, report_volume, word};
+use mg_console::{
+    InFile, MUNGI, Stream, report_commands, report_fault, report_status, report_volume, word,
+};
 use mg_disk::Disk;
 use mg_file::Found;
 use mg_io::{Sink, Source};
@@ -98,15 +98,15 @@ fn report_end<R: AllocGlobal + Eprint, D: Disk + InFile, E: InFile>(
 {
     let path = word(words, 0);
     if status == Status::Disk {
-        report_fault(rt, NAME, path, disk.fault());
-        report_fault(rt, NAME, word(words, 2), old.fault());
+        report_fault(rt, MUNGI, path, disk.fault());
+        report_fault(rt, MUNGI, word(words, 2), old.fault());
     }
     let found = disk.found();
     report_file(rt, words, disk, found, status == Status::NoVolume);
     if status == Status::Usage {
-        report_usage(rt, words);
+        report_commands(rt, words);
     }
-    report_status(rt, NAME, status, read, written);
+    report_status(rt, MUNGI, status, read, written);
 }
 
 /// Says what only the file of a volume shows. It says nothing for `format`, which makes the volume, and for `migrate`.
@@ -122,7 +122,7 @@ fn report_file<R: AllocGlobal + Eprint, D: Disk>(
     if is_migrate(words) || blocks_made(words).is_some() {
         return;
     }
-    report_volume(rt, NAME, word(words, 0), disk, found, is_refused);
+    report_volume(rt, MUNGI, word(words, 0), disk, found, is_refused);
 }
 
 /// The number of blocks of the volume that the words make. None if they make none.

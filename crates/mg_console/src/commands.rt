@@ -1,9 +1,12 @@
-// Says which word is wrong if the words spell no command.
-use crate::NAME;
-use mg_console::{is_told, report, report_lines};
+// Says which word is wrong if the words spell no command of `mungi`.
+use crate::endings::report;
+use crate::usage::{is_told, report_lines};
 use std::io::Eprint;
 
-/// The commands of the program.
+/// The name of the program `mungi`.
+pub const MUNGI: &str = "mungi";
+
+/// Its commands.
 const SYNOPSIS: [&str; 6] = [
     "usage: mungi VOLUME dry FRAMES SEED CREDITS",
     "       mungi VOLUME format FRAMES SEED CREDITS [F:R F:R F:R F:R]",
@@ -16,13 +19,13 @@ const SYNOPSIS: [&str; 6] = [
 /// The number of digits of a seed.
 const DIGITS: usize = 64;
 
-/// Prints the commands of the program, and says which word is wrong if there is such a word.
-pub(crate) fn report_usage<R: Eprint>(rt: &R, words: &[String]) {
+/// Prints the commands of `mungi`, and says which word is wrong if there is such a word.
+pub fn report_commands<R: Eprint>(rt: &R, words: &[String]) {
     report_lines(rt, &SYNOPSIS);
     match words.split_first() {
-        None => report(rt, NAME, "no VOLUME is given"),
+        None => report(rt, MUNGI, "no VOLUME is given"),
         Some((_, rest)) => match rest.split_first() {
-            None => report(rt, NAME, "no command is given"),
+            None => report(rt, MUNGI, "no command is given"),
             Some((command, rest)) => report_command(rt, command.as_str(), rest),
         },
     }
@@ -35,19 +38,19 @@ fn report_command<R: Eprint>(rt: &R, command: &str, rest: &[String]) {
     } else if command == "format" {
         report_settings(rt, rest, true);
     } else if command == "check" {
-        report(rt, NAME, "check takes no word");
+        report(rt, MUNGI, "check takes no word");
     } else if command == "run" {
         report_batch(rt, rest);
     } else if command == "migrate" {
         report(
             rt,
-            NAME,
+            MUNGI,
             "migrate takes one word, OLD, and OLD is not VOLUME",
         );
     } else if command == "gen" {
         report_run(rt, rest);
     } else {
-        let _ = eprintln!(rt; "{NAME}: {command} is no command");
+        let _ = eprintln!(rt; "{MUNGI}: {command} is no command");
     }
 }
 
@@ -55,9 +58,9 @@ fn report_command<R: Eprint>(rt: &R, command: &str, rest: &[String]) {
 fn report_batch<R: Eprint>(rt: &R, rest: &[String]) {
     match rest {
         [batch] => {
-            let _ = is_told(rt, NAME, "BATCH", batch.as_str(), 1, 64);
+            let _ = is_told(rt, MUNGI, "BATCH", batch.as_str(), 1, 64);
         }
-        _ => report(rt, NAME, "run takes at most one word, BATCH"),
+        _ => report(rt, MUNGI, "run takes at most one word, BATCH"),
     }
 }
 
@@ -65,11 +68,11 @@ fn report_batch<R: Eprint>(rt: &R, rest: &[String]) {
 fn report_run<R: Eprint>(rt: &R, rest: &[String]) {
     match rest {
         [number, lines] => {
-            if !is_told(rt, NAME, "NUMBER", number.as_str(), 0, u64::MAX) {
-                let _ = is_told(rt, NAME, "LINES", lines.as_str(), 0, 1_000_000);
+            if !is_told(rt, MUNGI, "NUMBER", number.as_str(), 0, u64::MAX) {
+                let _ = is_told(rt, MUNGI, "LINES", lines.as_str(), 0, 1_000_000);
             }
         }
-        _ => report(rt, NAME, "gen takes two words, NUMBER and LINES"),
+        _ => report(rt, MUNGI, "gen takes two words, NUMBER and LINES"),
     }
 }
 
@@ -83,38 +86,38 @@ fn report_settings<R: Eprint>(rt: &R, rest: &[String], has_tariff: bool) {
             if !is_setting_told(rt, frames.as_str(), seed.as_str(), credits.as_str()) {
                 report(
                     rt,
-                    NAME,
+                    MUNGI,
                     "a tariff has four steps F:R, the first from 0 pages on, each from more than the one before; no number is above 1048576",
                 );
             }
         }
         _ if has_tariff => report(
             rt,
-            NAME,
+            MUNGI,
             "format takes three words, FRAMES SEED CREDITS, and then four steps F:R or none",
         ),
-        _ => report(rt, NAME, "dry takes three words, FRAMES SEED CREDITS"),
+        _ => report(rt, MUNGI, "dry takes three words, FRAMES SEED CREDITS"),
     }
 }
 
 /// Says which of these is wrong. False if none is.
 fn is_setting_told<R: Eprint>(rt: &R, frames: &str, seed: &str, credits: &str) -> bool {
-    is_told(rt, NAME, "FRAMES", frames, 16, 65_536)
+    is_told(rt, MUNGI, "FRAMES", frames, 16, 65_536)
         || is_seed_told(rt, seed)
-        || is_told(rt, NAME, "CREDITS", credits, 0, 1 << 62)
+        || is_told(rt, MUNGI, "CREDITS", credits, 0, 1 << 62)
 }
 
 /// Says what is wrong with a seed. False if nothing is.
 fn is_seed_told<R: Eprint>(rt: &R, seed: &str) -> bool {
     let digits = seed.len();
     if digits != DIGITS {
-        let _ = eprintln!(rt; "{NAME}: SEED has {digits} digits, {DIGITS} are wanted");
+        let _ = eprintln!(rt; "{MUNGI}: SEED has {digits} digits, {DIGITS} are wanted");
         return true;
     }
     if !seed.as_bytes().iter().all(|byte| byte.is_ascii_hexdigit()) {
         report(
             rt,
-            NAME,
+            MUNGI,
             "SEED has a character that is no hexadecimal digit",
         );
         return true;
