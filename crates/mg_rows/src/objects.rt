@@ -21,17 +21,9 @@ pub fn write_object(row: Option<&ObjRow>, out: &mut [u8])
     ensures spelled { out.new ≡ option_map_or (λ row. object_bytes row.now) row.entry (replicate 1024 0) }
     ensures read_back { object_read out.new ≡ Some (option_map_or (λ row. Some row.now) row.entry None) }
 {
-    copy_to(&object_row(row), out);
-}
-
-/// The 1,024 bytes that spell an object, or a free row. They are read back.
-pub fn object_row(row: Option<&ObjRow>) -> [u8; OBJECT_SIZE]
-    ensures spelled { result ≡ option_map_or (λ row. object_bytes row.now) row.entry (replicate 1024 0) }
-    ensures read_back { object_read result ≡ Some (option_map_or (λ row. Some row.now) row.entry None) }
-{
     match row {
-        Some(row) => spelling(row),
-        None => [0; OBJECT_SIZE],
+        Some(row) => copy_to(&spelling(row), out),
+        None => copy_to(&[0; OBJECT_SIZE], out),
     }
 }
 

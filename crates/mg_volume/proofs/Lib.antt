@@ -30,7 +30,6 @@ mod OpenRuns
 pub mod Opened
 pub mod OpenedFormed
 pub mod PagesChange
-pub mod QuadRows
 pub mod RemovedOrder
 mod Reread
 mod Respelled
