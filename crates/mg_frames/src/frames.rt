@@ -89,6 +89,14 @@ impl Frames {
         self.pages.place_of(page)
     }
 
+    /// As [`Frames::bound_frame`]. The frame `near`, if there is one, is looked at first.
+    pub fn bound_near(&self, page: u64, near: u64) -> Option<u64>
+        requires { page ≢ 0 }
+        ensures { result ≡ position (λ entry. entry == page) self.now }
+    {
+        self.pages.place_near(page, near)
+    }
+
     /// The page that a frame holds, 0 for a free one.
     pub fn page_at(&self, frame: u64) -> u64
         requires { frame < length self.now }

@@ -102,6 +102,18 @@ impl Index {
         }
     }
 
+    /// As [`Index::place_of`]. The place `near`, if there is one, is looked at first.
+    pub fn place_near(&self, number: u64, near: u64) -> Option<u64>
+        requires { number ≢ 0 }
+        ensures { result ≡ position (λ entry. entry == number) self.now }
+    {
+        if near < self.numbers.len() as u64 && self.numbers[near as usize] == number {
+            Some(near)
+        } else {
+            self.place_of(number)
+        }
+    }
+
     /// The number that a place holds, 0 for a free one.
     pub fn number_at(&self, place: u64) -> u64
         requires { place < length self.now }

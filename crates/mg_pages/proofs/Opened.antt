@@ -20,10 +20,11 @@ unfolding IsSpelledBy total_of frame_count kept_in
 held-kept p image is = is.kept
 
 -- values with the same fields are the same: they keep the same
-pub same-pages : (p q : Pages) → q.blocks ≡ p.blocks → q.frames ≡ p.frames → q.count ≡ p.count → q ≡ p
-same-pages p q b f n = λ i. record {
+pub same-pages : (p q : Pages) → q.blocks ≡ p.blocks → q.frames ≡ p.frames → q.near ≡ p.near → q.count ≡ p.count → q ≡ p
+same-pages p q b f near n = λ i. record {
   blocks = b i;
   frames = f i;
+  near = near i;
   count = n i;
   sound = is_prop→PathP (λ j. IsSound (b j).store.total (f j) (b j).writes) (λ j. hlevel props) q.sound p.sound i;
 }

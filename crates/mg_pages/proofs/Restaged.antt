@@ -37,10 +37,10 @@ restages p q block old bytes low high is blocks frames count =
     }
 
 -- the pages after a word was written
-pub put-pages : (p q : Pages) (block : ℕ) (f : List ℕ → List ℕ) → globals_block ≤ block → block < table_block → q.frames ≡ p.frames → q.count ≡ p.count → (o : Option (List ℕ)) → waiting p.blocks.writes block ≡ o
+pub put-pages : (p q : Pages) (block : ℕ) (f : List ℕ → List ℕ) → globals_block ≤ block → block < table_block → q.frames ≡ p.frames → q.near ≡ p.near → q.count ≡ p.count → (o : Option (List ℕ)) → waiting p.blocks.writes block ≡ o
     → MatchOption o (q.blocks ≡ p.blocks) (λ bytes. q.blocks ≡ with_writes p.blocks (staged p.blocks.writes block (f bytes))) → MatchOption o (q ≡ p) (λ bytes. Restages block (f bytes) p q)
-put-pages p q block f low high frames count None is same = same-pages p q same frames count
-put-pages p q block f low high frames count (Some old) is more = restages p q block old (f old) low high is more frames count
+put-pages p q block f low high frames near count None is same = same-pages p q same frames near count
+put-pages p q block f low high frames near count (Some old) is more = restages p q block old (f old) low high is more frames count
 
 pub put-sound : (p : Pages) (b : Blocks) (block : ℕ) (f : List ℕ → List ℕ) → globals_block ≤ block → block < table_block → (o : Option (List ℕ)) → waiting p.blocks.writes block ≡ o
     → MatchOption o (b ≡ p.blocks) (λ bytes. b ≡ with_writes p.blocks (staged p.blocks.writes block (f bytes))) → IsSound b.store.total p.frames b.writes

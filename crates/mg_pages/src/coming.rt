@@ -11,6 +11,7 @@ ghost use Rattle.mg_pages.specs.Meaning.{replayed};
 ghost use Rattle.mg_pages.specs.Parts.{LooksAt, coming_of};
 
 use crate::blocks::Blocks;
+use crate::near::Near;
 use crate::table::frame_block;
 use mg_disk::Disk;
 use mg_faults::Failed;
@@ -20,6 +21,7 @@ use mg_frames::Frames;
 pub(crate) fn page_word<D: Disk>(
     blocks: &mut Blocks,
     frames: &Frames,
+    near: &mut Near,
     disk: &mut D,
     page: u64,
     index: u64,
@@ -33,7 +35,7 @@ pub(crate) fn page_word<D: Disk>(
     ensures staged { blocks.new.writes ≡ blocks.old.writes }
     ensures looks { LooksAt D.Disk blocks.old blocks.new disk.old disk.new result }
 {
-    match frames.bound_frame(page) {
+    match near.frame_of(frames, page) {
         Some(frame) => blocks.word(disk, frame_block(frames.len(), frame), index),
         None => Ok(0),
     }

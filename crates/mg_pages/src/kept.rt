@@ -44,7 +44,6 @@ impl CachedBlocks {
     }
 
     /// The word at an index of a block that is kept.
-    #[inline(always)]
     pub(crate) fn word(&mut self, block: u64, index: u64) -> Option<u64>
         requires { index < 512 }
         ensures word { IfSome result (λ word. IsSomeAnd (kept_at self.old block) (λ bytes. word ≡ number_at bytes (8 * index))) }

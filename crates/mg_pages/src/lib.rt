@@ -15,6 +15,7 @@ mod coming;
 mod counting;
 mod kept;
 mod loading;
+mod near;
 mod pages;
 mod pairs;
 mod releasing;

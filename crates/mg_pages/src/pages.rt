@@ -1,5 +1,5 @@
 // The pages of a volume, and what is staged.
-ghost use Rattle.std.specs.Prelude.{[], List, ◌≡◌, ◌≢◌, ◌⊎◌, ◌≤◌, ◌<◌, ◌+◌, ◌-◌, ℕ, true, false, IfOk, IfSome, IsOk, Ok, MatchOption, MatchResult, None, OnErr, OnOk, is_some, length, slice_index};
+ghost use Rattle.std.specs.Prelude.{[], List, ◌≡◌, ◌≢◌, ◌⊎◌, ◌≤◌, ◌<◌, ◌+◌, ◌-◌, ℕ, true, false, IfOk, IfSome, IsOk, Ok, MatchOption, MatchResult, None, OnErr, OnOk, is_some, length, replicate, slice_index};
 ghost use Rattle.std.specs.List.{splice};
 ghost use Rattle.std.specs.Option.{ForSome};
 ghost use Rattle.mg_disk.specs.Disk.{block_at};
@@ -20,6 +20,7 @@ use crate::blocks::Blocks;
 use crate::coming::page_word;
 use crate::counting::count_word;
 use crate::loading::load_pages;
+use crate::near::Near;
 use crate::pairs::next_pair;
 use crate::releasing::release_pages;
 use crate::storing::store_word;
@@ -38,6 +39,7 @@ use std::sync::ledger::Ledger;
 pub struct Pages {
     blocks: Blocks,
     frames: Frames,
+    near: Near,
     count: u64,
     ghost sound: { IsSound blocks.store.total frames blocks.writes },
 }
@@ -64,6 +66,7 @@ impl Pages {
         Ok(Pages {
             blocks,
             frames,
+            near: Near::new(),
             count: 0,
         })
     }
@@ -84,6 +87,7 @@ impl Pages {
         Ok(Pages {
             blocks,
             frames,
+            near: Near::new(),
             count: 0,
         })
     }
@@ -170,7 +174,14 @@ impl Pages {
         ensures looks { Reads D.Disk self.old self.new disk.old disk.new result }
         ensures counts { MatchResult result (λ _. CountsOne self.old self.new steps.old steps.new) (λ _. CountsNone self.old self.new steps.old steps.new) }
     {
-        match page_word(&mut self.blocks, &self.frames, disk, page, index) {
+        match page_word(
+            &mut self.blocks,
+            &self.frames,
+            &mut self.near,
+            disk,
+            page,
+            index,
+        ) {
             Ok(word) => {
                 count_word(&mut self.count, steps);
                 Ok(word)
@@ -199,7 +210,7 @@ impl Pages {
         ensures looks { Reads D.Disk self.old self.new disk.old disk.new result }
         ensures counts { MatchResult result (λ found. CountsSome (words_looked_at from count found) self.old self.new steps.old steps.new) (λ _. CountsNone self.old self.new steps.old steps.new) }
     {
-        let block = match self.frames.bound_frame(page) {
+        let block = match self.near.frame_of(&self.frames, page) {
             Some(frame) => frame_block(self.frames.len(), frame),
             None => {
                 let zeros = self.blocks.zeros();
@@ -233,7 +244,15 @@ impl Pages {
         ensures serves { ServesPage page D.Disk self.old self.new disk.old disk.new result }
         ensures counts { MatchResult result (λ _. CountsOne self.old self.new steps.old steps.new) (λ _. CountsNone self.old self.new steps.old steps.new) }
     {
-        match store_word(&mut self.blocks, &mut self.frames, disk, page, index, value) {
+        match store_word(
+            &mut self.blocks,
+            &mut self.frames,
+            &mut self.near,
+            disk,
+            page,
+            index,
+            value,
+        ) {
             Ok(()) => {
                 count_word(&mut self.count, steps);
                 Ok(())
@@ -259,6 +278,13 @@ impl Pages {
         ensures { StagesBlock block (padded_to block_size start.now) self.old self.new }
     {
         self.blocks.stage_start(block, start);
+    }
+
+    /// A block of zeros. A copy of it is made faster than a new one is cleared.
+    pub fn zeros(&self) -> &Block
+        ensures { result.now ≡ replicate block_size 0 }
+    {
+        self.blocks.zeros()
     }
 
     /// Writes a word at a byte offset, 0 to 4,088, into a block between the journal and the frame table, if it is staged, and says

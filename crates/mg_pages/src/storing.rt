@@ -8,6 +8,7 @@ ghost use Rattle.mg_pages.specs.Held.{IsSound, with_writes};
 ghost use Rattle.mg_pages.specs.Parts.{Begins, LooksAt, Stores};
 
 use crate::blocks::Blocks;
+use crate::near::Near;
 use crate::table::{entries_block, frame_block};
 use crate::words::put_word;
 use mg_bytes::BLOCK_WORDS;
@@ -20,6 +21,7 @@ use mg_model::layout::TABLE_BLOCK;
 pub(crate) fn store_word<D: Disk>(
     blocks: &mut Blocks,
     frames: &mut Frames,
+    near: &mut Near,
     disk: &mut D,
     page: u64,
     index: u64,
@@ -35,7 +37,7 @@ pub(crate) fn store_word<D: Disk>(
     ensures failed { OnErr result ((frames.new ≡ frames.old) × (blocks.new.writes ≡ blocks.old.writes)) }
     ensures looks { LooksAt D.Disk blocks.old blocks.new disk.old disk.new result }
 {
-    match frames.bound_frame(page) {
+    match near.frame_of(frames, page) {
         Some(frame) => blocks.set_word(disk, frame_block(frames.len(), frame), index, value),
         None => {
             begin(blocks, frames, page, index, value);

@@ -30,11 +30,11 @@ returns-in-Some-clause-word g c =
     is image told (first_frame (length frames)) (omega (arith, at)) are
     ∙ block-word (block_at (coming_of store writes image) block) index c.requires.index
     ∙ ap (λ b. slice_index (block_words (block_at (coming_of store writes image) b)) index) at
-    ∙ ap (λ words. slice_index words index) (sym (page-in (coming_of store writes image) (length frames) frames c.args.page c.in-Some.frame (sym c.bound_frame.ensures ∙ c.in-Some.is))))
+    ∙ ap (λ words. slice_index words index) (sym (page-in (coming_of store writes image) (length frames) frames c.args.page c.in-Some.frame (sym c.frame_of.ensures ∙ c.in-Some.is))))
     c.word.ensures.word
 
 pub returns-in-None-clause-word : goal.returns-in-None-clause-word
 returns-in-None-clause-word g c image told are =
     let frames = c.args.frames.now in
     let i = coming_of c.args.blocks.now.store c.args.blocks.now.writes image in
-    sym (ap (λ words. slice_index words c.args.index) (page-none i (length frames) frames c.args.page (sym c.bound_frame.ensures ∙ c.in-None.is)) ∙ get_or-replicate {A = ℕ} 512 c.args.index 0 0 c.requires.index)
+    sym (ap (λ words. slice_index words c.args.index) (page-none i (length frames) frames c.args.page (sym c.frame_of.ensures ∙ c.in-None.is)) ∙ get_or-replicate {A = ℕ} 512 c.args.index 0 0 c.requires.index)

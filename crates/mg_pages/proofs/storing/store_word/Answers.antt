@@ -10,11 +10,11 @@ use Rattle.mg_pages.proofs.Stored.{changes-word}
 use Rattle.mg_pages.proofs.storing.store_word.Goals as goal
 
 pub begin-requires-clause-unbound : goal.begin-requires-clause-unbound
-begin-requires-clause-unbound g c = nowhere_any (λ entry. entry == c.args.page) c.args.frames.now (sym c.bound_frame.ensures ∙ c.in-None.is)
+begin-requires-clause-unbound g c = nowhere_any (λ entry. entry == c.args.page) c.args.frames.now (sym c.frame_of.ensures ∙ c.in-None.is)
 
 pub begin-requires-clause-free : goal.begin-requires-clause-free
 begin-requires-clause-free g c =
-    let none = nowhere_any (λ entry. entry == c.args.page) c.args.frames.now (sym c.bound_frame.ensures ∙ c.in-None.is) in
+    let none = nowhere_any (λ entry. entry == c.args.page) c.args.frames.now (sym c.frame_of.ensures ∙ c.in-None.is) in
     ⊎_elim (λ bound. absurd (both_ways (list_any (λ entry. entry == c.args.page) c.args.frames.now) none bound)) (λ free. free) c.requires.frame
 
 pub returns-in-Some-clause-stored : goal.returns-in-Some-clause-stored
@@ -30,14 +30,14 @@ returns-in-Some-clause-stored g c =
     inl (
       refl,
       changes-word told b.store b.kept c.args.page c.args.index c.args.value frames b.writes c.set_word.new.self.writes c.in-Some.frame block
-          (sym c.bound_frame.ensures ∙ c.in-Some.is) at
+          (sym c.frame_of.ensures ∙ c.in-Some.is) at
           (record { bytes = stages.bytes; more = stages.more; are = λ image seen are. stages.are image seen first (omega (arith, at)) are }),
     ))
     c.set_word.ensures.staged
 
 pub returns-in-None-clause-stored : goal.returns-in-None-clause-stored
 returns-in-None-clause-stored g c =
-    inr (record { unbound = nowhere_any (λ entry. entry == c.args.page) c.args.frames.now (sym c.bound_frame.ensures ∙ c.in-None.is); begins = c.begin.ensures.begins })
+    inr (record { unbound = nowhere_any (λ entry. entry == c.args.page) c.args.frames.now (sym c.frame_of.ensures ∙ c.in-None.is); begins = c.begin.ensures.begins })
 
 pub returns-in-None-clause-looks : goal.returns-in-None-clause-looks
 returns-in-None-clause-looks g c = record {

@@ -10,10 +10,15 @@ use Rattle.mg_pages.specs.Meaning.{coming, page_now}
 use Rattle.mg_pages.specs.Pairs.{IsNextPair}
 use Rattle.mg_pages.proofs.pages.Pages.next_pair.Goals as goal
 
+pub read_pair-requires-clause-stands : goal.read_pair-requires-clause-stands
+read_pair-requires-clause-stands g c =
+    let d = c.args.disk.now in
+    stands-alike c.args.self.now _ refl refl refl g.D.Disk d d refl refl c.requires.stands.settled (record { store = refl; kept = λ image told are. are }) c.requires.stands
+
 pub returns-in-None-clause-found : goal.returns-in-None-clause-found
 returns-in-None-clause-found g c image told =
     subst (λ words. IsNextPair (λ index. slice_index words index) c.args.from c.args.count c.args.first c.next_pair.result)
-    (page-zeros c.args.self.now image c.args.page c.zeros-zeros.result.now (sym c.bound_frame.ensures ∙ c.in-None.is) c.zeros-zeros.ensures) c.next_pair.ensures.found
+    (page-zeros c.args.self.now image c.args.page c.zeros-zeros.result.now (sym c.frame_of.ensures ∙ c.in-None.is) c.zeros-zeros.ensures) c.next_pair.ensures.found
 
 pub returns-in-None-clause-looks : goal.returns-in-None-clause-looks
 returns-in-None-clause-looks g c =
@@ -31,7 +36,7 @@ returns-in-Some-held-clause-found g c image told =
     let at : block ≡ first_frame (length p.frames) + c.in-Some.frame = c.frame_block-block.ensures ∙ ap (λ n. first_frame n + c.in-Some.frame) c.len.ensures.count in
     let low : first_frame (length p.frames) ≤ block = omega arith in
     subst (λ words. IsNextPair (λ index. slice_index words index) c.args.from c.args.count c.args.first c.next_pair-in-Some-held.result)
-    (page-held p image c.args.page c.in-Some.frame block c.in-Some-held.bytes.now (sym c.bound_frame.ensures ∙ c.in-Some.is) at
+    (page-held p image c.args.page c.in-Some.frame block c.in-Some-held.bytes.now (sym c.frame_of.ensures ∙ c.in-Some.is) at
     (held-coming p image (c.requires.stands.fits image told) block c.in-Some-held.bytes.now low c.in-Some-held.ensures))
     c.next_pair-in-Some-held.ensures.found
 
@@ -55,5 +60,5 @@ returns-in-None-held-clause-found g c =
     (λ found. ForSome (g.D.Disk.seen c.args.disk.now) (λ image. IsNextPair (λ index. slice_index (page_now p image c.args.page) index) c.args.from c.args.count c.args.first found))
     (λ found is image told.
     subst (λ words. IsNextPair (λ index. slice_index words index) c.args.from c.args.count c.args.first found)
-    (page-held p image c.args.page c.in-Some.frame block (block_at (coming p image) block) (sym c.bound_frame.ensures ∙ c.in-Some.is) at refl) (is image told))
+    (page-held p image c.args.page c.in-Some.frame block (block_at (coming p image) block) (sym c.frame_of.ensures ∙ c.in-Some.is) at refl) (is image told))
     c.read_pair.ensures.found

@@ -18,4 +18,4 @@ returns-clause-was c = was-there c.args.self.now c.args.block c.requires.place.h
 
 pub returns-clause-put : goal.returns-clause-put
 unfolding waiting_in
-returns-clause-put c = put-pages c.args.self.now _ c.args.block (with_word c.before) c.requires.place.low c.requires.place.high refl refl (waiting c.args.self.now.blocks.writes c.args.block) refl c.put.ensures.put
+returns-clause-put c = put-pages c.args.self.now _ c.args.block (with_word c.before) c.requires.place.low c.requires.place.high refl refl refl (waiting c.args.self.now.blocks.writes c.args.block) refl c.put.ensures.put
