@@ -54,7 +54,6 @@ impl Buffers {
     }
 
     /// One reply more waits, after the others.
-    #[inline(always)]
     pub fn add(&mut self, reply: &Reply)
         requires fewer_than_64_waiting { self.old.count < 64 }
         requires slots { HasFewSlots reply.now }

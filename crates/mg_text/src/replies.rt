@@ -179,7 +179,9 @@ pub fn push_word(out: &mut ArrayVec<u8, 256>, word: u64)
     push_text(out, &hex_digits(word));
 }
 
-/// The hexadecimal digits of a word.
+/// The hexadecimal digits of a word. It is not inlined, so that the digits are written where they are copied from, and not kept one a
+/// register.
+#[inline(never)]
 fn hex_digits(word: u64) -> [u8; 16]
     ensures { result ≡ hex_digits 16 word }
 {
