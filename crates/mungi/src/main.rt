@@ -15,12 +15,12 @@ ghost use Rattle.std.specs.Prelude.{◌≡◌, ◌<◌};
 
 mod program;
 
-use mg_console::{MUNGI, NO_WORDS, Notes, Stream, Task, begin, mode_of, word};
+use mg_console::{MUNGI, NO_WORDS, Stream, begin, volume_of, word};
 use mg_file::FileDisk;
 use mg_io::{ReaderSource, Sink, Source, WriterSink};
 use mg_model::Steps;
 use mg_session::is_migrate;
-use program::{blocks_made, carry_out};
+use program::carry_out;
 use std::io::IsTerminal;
 use std::marker::Brand;
 use std::process::ExitCode;
@@ -53,32 +53,7 @@ fn on_files<S: Source + Stream, K: Sink + Stream, L: Ledger>(
     sink: &mut K,
     steps: &mut Steps<L>,
 ) -> u8 {
-    let mut disk = volume_of(rt, words);
+    let mut disk = volume_of(rt, words, is_migrate(words), rt.stderr().is_terminal());
     let mut old = FileDisk::reader(rt, word(words, 2));
     carry_out(rt, words, &mut disk, &mut old, source, sink, steps)
-}
-
-/// The disk in the file of the first word. `check` only reads it. `format` gives it the length of its volume. If `migrate` makes it, it
-/// gets the permissions of the file of the third word.
-fn volume_of<'a>(
-    rt: &'a HostRuntime,
-    words: &'a [String],
-) -> FileDisk<'a, HostRuntime, Notes<'a, HostRuntime>> {
-    let path = word(words, 0);
-    let copies = is_migrate(words);
-    let task = if copies { Task::Copy } else { Task::Volume };
-    let notes = Notes::new(rt, MUNGI, path, task, copies && rt.stderr().is_terminal());
-    if word(words, 1) == "check" {
-        return FileDisk::watched_reader(rt, path, notes);
-    }
-    let mut disk = FileDisk::watched(rt, path, notes);
-    if copies {
-        if let Some(mode) = mode_of(rt, word(words, 2)) {
-            disk.set_mode(mode);
-        }
-    }
-    if let Some(blocks) = blocks_made(words) {
-        disk.set_length(blocks);
-    }
-    disk
 }

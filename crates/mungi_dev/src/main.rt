@@ -10,11 +10,8 @@
 
 ghost use Rattle.std.specs.Prelude.{◌≡◌, ◌<◌};
 
-use mg_console::{
-    NO_WORDS, Notes, Task, are_one_file, begin, mode_of, report, report_status, word,
-};
+use mg_console::{NO_WORDS, Task, are_one_file, begin, disk_in, report, report_status, word};
 use mg_dev_program::{carry_out, is_mirror};
-use mg_file::FileDisk;
 use mg_io::{ReaderSource, WriterSink};
 use mg_model::Steps;
 use mg_session::Status;
@@ -51,8 +48,10 @@ fn on_files<L: Ledger>(rt: &HostRuntime, words: &[String], blank: Blank) -> u8
     if mirrors && left_path != right_path && are_one_file(rt, left_path, right_path) {
         report(rt, NAME, "LEFT and RIGHT are one file");
     }
-    let left = file_of(rt, left_path, right_path, mirrors);
-    let right = file_of(rt, right_path, left_path, mirrors);
+    let task = if mirrors { Task::Side } else { Task::Volume };
+    let is_terminal = rt.stderr().is_terminal();
+    let left = disk_in(rt, NAME, left_path, task, right_path, is_terminal);
+    let right = disk_in(rt, NAME, right_path, task, left_path, is_terminal);
     let mut source = ReaderSource::new(rt.stdin());
     let mut sink = WriterSink::new(rt.stdout());
     let mut windows = match Windows::new(rt.alloc()) {
@@ -100,23 +99,4 @@ fn boxed<D: Drop>(alloc: Global, made: Result<D, AllocError>) -> Result<Box<D>, 
 fn without_memory(rt: &HostRuntime) -> u8 {
     report_status(rt, NAME, Status::Memory, None, None);
     Status::Memory.code()
-}
-
-/// The disk in the file at `path`. The fault of a side of a mirror is reported at once. If a side is made, it gets the permissions of
-/// the other file.
-fn file_of<'a>(
-    rt: &'a HostRuntime,
-    path: &'a str,
-    other_path: &str,
-    mirrors: bool,
-) -> FileDisk<'a, HostRuntime, Notes<'a, HostRuntime>> {
-    let task = if mirrors { Task::Side } else { Task::Volume };
-    let notes = Notes::new(rt, NAME, path, task, mirrors && rt.stderr().is_terminal());
-    let mut disk = FileDisk::watched(rt, path, notes);
-    if mirrors {
-        if let Some(mode) = mode_of(rt, other_path) {
-            disk.set_mode(mode);
-        }
-    }
-    disk
 }
