@@ -41,8 +41,17 @@ pub fn value_line(word: u64) -> [u8; 22]
     ensures { result ≡ reply_line (reply.Value word) }
 {
     let mut line = *b"ok 0x................\n";
-    line[5..21].copy_from_slice(&hex_digits(word));
+    line[5..21].copy_from_slice(&stored_digits(word));
     line
+}
+
+/// As [`hex_digits`]. It is not inlined, so that the digits are stored where they are copied from. A line of which all is inlined keeps each
+/// of them in a register.
+#[inline(never)]
+fn stored_digits(word: u64) -> [u8; 16]
+    ensures { result ≡ hex_digits 16 word }
+{
+    hex_digits(word)
 }
 
 /// Writes a reply without its newline.
@@ -179,9 +188,7 @@ pub fn push_word(out: &mut ArrayVec<u8, 256>, word: u64)
     push_text(out, &hex_digits(word));
 }
 
-/// The hexadecimal digits of a word. It is not inlined, so that the digits are written where they are copied from, and not kept one a
-/// register.
-#[inline(never)]
+/// The hexadecimal digits of a word.
 fn hex_digits(word: u64) -> [u8; 16]
     ensures { result ≡ hex_digits 16 word }
 {
