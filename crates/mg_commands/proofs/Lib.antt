@@ -1,3 +1,4 @@
 mod Seed
 mod Spelled
 mod Summed
+mod HistorySteps

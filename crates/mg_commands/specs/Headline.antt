@@ -6,7 +6,7 @@ use Rattle.std.specs.Io.KnownBytes.{Appends}
 use Rattle.std.specs.List.{range_with_len}
 use Rattle.std.specs.Option.{ForSome}
 use Rattle.mg_disk.specs.Disk.{Image}
-use Rattle.mg_disk.specs.Stops.{NothingPending, WritesNothing}
+use Rattle.mg_disk.specs.Stops.{LeftOr, MightHaveLeft, NothingPending, WritesNothing}
 use Rattle.mg_disk.specs.declared.disk.Disk as disks
 use Rattle.mg_faults.specs.Faults.{Rose}
 use Rattle.mg_gen.specs.Generated.{line_text, run_settings}
@@ -29,7 +29,7 @@ use Rattle.mg_model.specs.State.{State}
 use Rattle.mg_model.specs.Step.{after, step}
 use Rattle.mg_model.specs.Volume.{Damaged, Is, NotVolume, OldVolume, VolumeRead, volume}
 use Rattle.mg_model.specs.Warmth.{cost}
-use Rattle.mg_serve.specs.Sessions.{AlwaysLeft, Answers, DiskRose, DiskUse, Ends, EndsSession, Holds, HoldsExactly, IfShort, IsCut, IsDoneOrMemory, OfInput, Puts, PutsPrefix, SinkRose, SinkUse, SourceRose, SourceUse, SpellsNow, input_limit, left_at, left_now, consumed}
+use Rattle.mg_serve.specs.Sessions.{AlwaysLeft, Answers, AreHeld, DiskRose, DiskUse, Ends, EndsSession, HoldsExactly, IfShort, IsCut, IsDoneOrMemory, MayLeave, OfInput, OfRest, Puts, PutsPrefix, SinkRose, SinkUse, SourceRose, SourceUse, SpellsFirst, SpellsNow, input_limit, left_at, left_now, consumed}
 use Rattle.mg_serve.specs.declared.status.Status.{Status}
 use Rattle.mg_serve.specs.declared.status.Status.TheVariants as status
 
@@ -108,6 +108,15 @@ pub record TellsOfNone {D K : Type 0} (facts : disks.Ghosts D) (to : sinks.Ghost
 abbrev pub EndsRun : Status → Type 0
 EndsRun result = (result ≡ status.NoVolume) ⊎ EndsSession result
 
+-- What a stop leaves of a command that opens a volume and runs lines on it, whatever was pending.
+pub record HoldsSince {D S K : Type 0} (kept : List Line → State) (d : DiskUse D) (i : SourceUse S) (o : SinkUse K) : Type 0 where
+  -- At each moment it leaves what it might have left before, or the state after some first lines.
+  pub moments : OfInput i (λ input. AlwaysLeft d (LeftOr d.facts d.old (λ c. (k : ℕ) × (k ≤ length (lines input)) × SpellsFirst kept input k c)))
+  -- At the end, whatever the status, these are at least the answered lines, and all of them came; and only if no line was answered it may
+  -- leave what it might have left before.
+  pub held : OfRest i (λ input rest. (c : Image) → MayLeave d c
+      → (MightHaveLeft d.facts d.old c × AreHeld o input rest 0) ⊎ ((k : ℕ) × AreHeld o input rest k × SpellsFirst kept input k c))
+
 -- What is kept as lines run on the volume of a disk, by a machine that says and keeps this from a state on. The state is that of the
 -- volume that reads give at entry.
 pub record LinesKeep {D S K : Type 0} (said : State → List Line → List ℕ) (kept_after : State → List Line → State)
@@ -116,9 +125,10 @@ pub record LinesKeep {D S K : Type 0} (said : State → List Line → List ℕ) 
   -- At the end reads give the state after all lines.
   pub kept : s.result ≡ status.Done →
       OfState s.disk (λ state. OfInput s.source (λ input. SpellsNow s.disk (kept_after state (lines input))))
-  pub holds : NothingPending s.disk.facts s.disk.old →
-      OfState s.disk (λ state. Holds (kept_after state) s.disk s.source s.sink)
+  pub holds : OfState s.disk (λ state. HoldsSince (kept_after state) s.disk s.source s.sink)
   pub holds_exactly : OfState s.disk (λ state. HoldsExactly (kept_after state) s.result s.disk s.source s.sink)
+  -- At status 0 nothing is pending.
+  pub settled : s.result ≡ status.Done → NothingPending s.disk.facts s.disk.new
   pub ends : Ends s.batch input_limit s.result s.source s.sink
   pub which : EndsRun s.result
   -- The disk failed only if its count rose.

@@ -1,5 +1,5 @@
 -- An opening and a session after it: from what each of them keeps to the record of a command.
-use Rattle.std.specs.Prelude.{ℕ, ◌≡◌, ◌≢◌, ◌⊎◌, ◌<◌, ◌≤◌, ◌+◌, List, [], ◌++◌, length, take, Option, Some, None, IfSome, Result, Err}
+use Rattle.std.specs.Prelude.{ℕ, ◌≡◌, ◌≢◌, ◌⊎◌, ◌<◌, ◌≤◌, ◌+◌, List, [], ◌++◌, length, take, Option, Some, None, IfSome, IsSomeAnd, Result, Err}
 use Rattle.std.specs.Io.KnownBytes.{Appends}
 use Rattle.std.specs.Option.{ForSome}
 use Rattle.std.proofs.Common.{refl, sym, ap, ◌∙◌, arith, inl, inr, subst, ⊎_elim}
@@ -9,7 +9,7 @@ use Rattle.mg_check.specs.declared.examining.OpenFault.TheVariants as fault
 use Rattle.mg_check.specs.declared.examining.Summary.{Summary}
 use Rattle.mg_disk.specs.Disk.{Image}
 use Rattle.mg_disk.specs.Runs.{leaves_then, leaves_wider}
-use Rattle.mg_disk.specs.Stops.{CountGoes, CountRose, Leaves, NothingPending, WritesNothing}
+use Rattle.mg_disk.specs.Stops.{CountGoes, CountRose, Leaves, LeftOr, WritesNothing}
 use Rattle.mg_disk.specs.declared.disk.Disk.{Ghosts}
 use Rattle.mg_faults.specs.Faults.{Rose, then_rose}
 use Rattle.mg_io.specs.Known.{Appends-none, AppendsPrefix, AppendsPrefix-longer, AppendsPrefix-none, TakesAtMost}
@@ -28,8 +28,8 @@ use Rattle.mg_serve.specs.declared.status.Status.{Status}
 use Rattle.mg_serve.specs.declared.status.Status.TheVariants as status
 use Rattle.mg_serve.specs.Serving.{IsWithin, Serves, Traces}
 use Rattle.mg_serve.specs.Parts.{AnswersLines, AnswersPrefix, AreAnswered, IsPrefix, KeepsAnswered, SpellsAfter, replies}
-use Rattle.mg_serve.specs.Sessions.{Answers, DiskUse, EndsSession, EndsTaking, Holds, HoldsExactly, IsDoneOrMemory, SinkUse, SourceUse, use_of, input_limit, left_at, consumed}
-use Rattle.mg_commands.specs.Headline.{EndsRun, EndsUnopened, IsWithinCost, LinesKeep, OnVolume, TellsLine, TellsOfNone, check_line, session_of}
+use Rattle.mg_serve.specs.Sessions.{Answers, AreHeld, DiskUse, EndsSession, EndsTaking, Holds, HoldsExactly, IsDoneOrMemory, SinkUse, SourceUse, SpellsFirst, use_of, input_limit, left_at, left_now, consumed}
+use Rattle.mg_commands.specs.Headline.{EndsRun, EndsUnopened, HoldsSince, IsWithinCost, LinesKeep, OnVolume, TellsLine, TellsOfNone, check_line, session_of}
 use Rattle.mg_commands.specs.Unopened.{EndsUnopenedBy, FaultTells, TellsNothing, TellsState, fault_line, summary_line}
 
 -- before the first call
@@ -257,44 +257,66 @@ no_lines kept ls c is = (0, omega arith, is)
 
 -- what an opening may leave, if the session then leaves this
 module _ {D : Type 0} (facts : Ghosts D) (d mid : D) where
-  prefix_yet : (left : Option (List ℕ)) (image : Image) (kept : List Line → State) → volume image ≡ Is (kept []) → Leaves facts d mid (λ c. volume c ≡ volume image)
-      → IfSome left (λ input. Leaves facts d mid (IsPrefix kept (lines input)))
+  -- what a stop might have left before, or the state after some first lines
+  abbrev Since : (List Line → State) → List Line → Image → Type 0
+  Since kept ls c = facts.left_since d (facts.moment d) c ⊎ IsPrefix kept ls c
+
+  -- what it might have left before, or the same volume
+  prefix_yet : (left : Option (List ℕ)) (image : Image) (kept : List Line → State) → volume image ≡ Is (kept []) → Leaves facts d mid (LeftOr facts d (λ c. volume c ≡ volume image))
+      → IfSome left (λ input. Leaves facts d mid (Since kept (lines input)))
   prefix_yet None image kept spelled first = tt
   prefix_yet (Some input) image kept spelled first =
-      leaves_wider facts d mid (λ c. volume c ≡ volume image) (IsPrefix kept (lines input)) first (λ c same. no_lines kept (lines input) c (same ∙ spelled))
+      leaves_wider facts d mid (LeftOr facts d (λ c. volume c ≡ volume image)) (Since kept (lines input)) first
+      (λ c may. ⊎_elim (λ before. inl before) (λ same. inr (no_lines kept (lines input) c (same ∙ spelled))) may)
 
-  prefix_then : (d' : D) (left : Option (List ℕ)) (kept : List Line → State) → IfSome left (λ input. Leaves facts d mid (IsPrefix kept (lines input)))
-      → IfSome left (λ input. Leaves facts mid d' (IsPrefix kept (lines input))) → IfSome left (λ input. Leaves facts d d' (IsPrefix kept (lines input)))
+  prefix_then : (d' : D) (left : Option (List ℕ)) (kept : List Line → State) → IfSome left (λ input. Leaves facts d mid (Since kept (lines input)))
+      → IfSome left (λ input. Leaves facts mid d' (IsPrefix kept (lines input))) → IfSome left (λ input. Leaves facts d d' (Since kept (lines input)))
   prefix_then d' None kept first second = tt
-  prefix_then d' (Some input) kept first second = leaves_then facts d mid d' (IsPrefix kept (lines input)) (IsPrefix kept (lines input)) first second (λ c f. f)
+  prefix_then d' (Some input) kept first second = leaves_then facts d mid d' (IsPrefix kept (lines input)) (Since kept (lines input)) first second (λ c f. inr f)
+
+  -- what is held at the end, of a session on a settled disk, or of an opening that failed
+  held_since : {S K : Type 0} (i : SourceUse S) (o : SinkUse K) (kept : List Line → State) (d' : D) (l l' : Option (List ℕ))
+      → IfSome l (λ input. IsSomeAnd l' (λ rest. (c : Image) → facts.left_since d' (facts.moment d') c → (k : ℕ) × AreHeld o input rest k × SpellsFirst kept input k c))
+      → IfSome l (λ input. IsSomeAnd l' (λ rest. (c : Image) → facts.left_since d' (facts.moment d') c
+      → (facts.left_since d (facts.moment d) c × AreHeld o input rest 0) ⊎ ((k : ℕ) × AreHeld o input rest k × SpellsFirst kept input k c)))
+  held_since i o kept d' None l' held = tt
+  held_since i o kept d' (Some input) None held = held
+  held_since i o kept d' (Some input) (Some rest) held = λ c left. inr (held c left)
+
+  none_since : {K : Type 0} (o : SinkUse K) (kept : List Line → State) (image : Image) → volume image ≡ Is (kept []) → o.facts.taken o.new ≡ o.facts.taken o.old
+      → Leaves facts d mid (LeftOr facts d (λ c. volume c ≡ volume image)) → (l : Option (List ℕ))
+      → IfSome l (λ input. IsSomeAnd l (λ rest. (c : Image) → facts.left_since mid (facts.moment mid) c
+      → (facts.left_since d (facts.moment d) c × AreHeld o input rest 0) ⊎ ((k : ℕ) × AreHeld o input rest k × SpellsFirst kept input k c)))
+  none_since o kept image spelled same first None = tt
+  none_since o kept image spelled same first (Some input) = λ c left.
+      let none : AreHeld o input input 0 = record { all_answered = subst (λ t. AreAnswered (o.facts.taken o.old) t 0) (sym same) (none_answered (o.facts.taken o.old)); came = omega arith } in
+      ⊎_elim (λ before. inl (before, none))
+      (λ may. ⊎_elim (λ before. inl (before, none)) (λ is. inr (0, none, is ∙ spelled)) may) (first.time.now c left)
 
   -- an opening, and then a session
   opened_holds : {S K : Type 0} (i : SourceUse S) (o : SinkUse K) (kept : State → List Line → State) → ((s : State) → kept s [] ≡ s) → (now : Image → State) (d' : D) → ForSome (facts.seen d) (λ image. OpensAs now (volume image) (facts.seen mid))
-      → ForSome (facts.seen d) (λ image. Leaves facts d mid (λ c. volume c ≡ volume image))
+      → ForSome (facts.seen d) (λ image. Leaves facts d mid (LeftOr facts d (λ c. volume c ≡ volume image)))
       → ForSome (facts.seen mid) (λ image. Holds (kept (now image)) (use_of facts mid d') i o)
-      → OnVolume (facts.seen d) (λ s. Holds (kept s) (use_of facts d d') i o)
+      → OnVolume (facts.seen d) (λ s. HoldsSince (kept s) (use_of facts d d') i o)
   opened_holds i o kept none now d' opens first second = λ image is.
       let opened : OpensAs now (volume image) (facts.seen mid) = opens image is in
       let h : Holds (kept opened.state) (use_of facts mid d') i o = subst (λ (s : State). Holds (kept s) (use_of facts mid d') i o) opened.has (second opened.image opened.seen) in
-      state_is (volume image) opened.state (λ s. Holds (kept s) (use_of facts d d') i o) opened.is
+      state_is (volume image) opened.state (λ s. HoldsSince (kept s) (use_of facts d d') i o) opened.is
       record {
         moments = prefix_then d' (left_at i) (kept opened.state) (prefix_yet (left_at i) image (kept opened.state) (opened.is ∙ ap (λ v. Is v) (sym (none opened.state))) (first image is)) h.moments;
-        held = h.held;
+        held = held_since i o (kept opened.state) d' (left_at i) (left_now i) h.held;
       }
 
   -- an opening that failed
   unopened_holds : {S K : Type 0} (from : sources.Ghosts S) (to : sinks.Ghosts K) (kept : State → List Line → State) → ((s : State) → kept s [] ≡ s) → (f : OpenFault) (source : S) (sink sink' : K)
-      → FaultTells f (facts.seen d) → (TellsNothing f → sink' ≡ sink) → NothingPending facts d → ForSome (facts.seen d) (λ image. Leaves facts d mid (λ c. volume c ≡ volume image))
-      → OnVolume (facts.seen d) (λ s. Holds (kept s) (use_of facts d mid) (use_of from source source) (use_of to sink sink'))
-  unopened_holds from to kept none f source sink sink' tells same only first =
-      unopened f (facts.seen d) (λ s. Holds (kept s) (use_of facts d mid) (use_of from source source) (use_of to sink sink')) tells (λ quiet image is s spelled.
+      → FaultTells f (facts.seen d) → (TellsNothing f → sink' ≡ sink) → ForSome (facts.seen d) (λ image. Leaves facts d mid (LeftOr facts d (λ c. volume c ≡ volume image)))
+      → OnVolume (facts.seen d) (λ s. HoldsSince (kept s) (use_of facts d mid) (use_of from source source) (use_of to sink sink'))
+  unopened_holds from to kept none f source sink sink' tells same first =
+      unopened f (facts.seen d) (λ s. HoldsSince (kept s) (use_of facts d mid) (use_of from source source) (use_of to sink sink')) tells (λ quiet image is s spelled.
       let here : volume image ≡ Is (kept s []) = spelled ∙ ap (λ v. Is v) (sym (none s)) in
-      subst (λ k. Holds (kept s) (use_of facts d mid) (use_of from source source) (use_of to sink k)) (sym (same quiet)) record {
+      record {
         moments = prefix_yet (from.left source) image (kept s) here (first image is);
-        held = none_held (facts.left_since mid (facts.moment mid)) (kept s) (from.left source) (to.taken sink) (λ c left. ⊎_elim
-            (λ (before : facts.left_since d (facts.moment d) c). ap volume (some_image image c (sym is ∙ only c before)) ∙ here)
-            (λ (same : volume c ≡ volume image). same ∙ here)
-            ((first image is).time.now c left));
+        held = none_since (use_of to sink sink') (kept s) image here (ap to.taken (same quiet)) (first image is) (from.left source);
       })
 
 -- a session that ended so ended in one of the ways of `run`, and not for want of a volume
@@ -345,7 +367,7 @@ module _ {D S K : Type 0} (facts : Ghosts D) (from : sources.Ghosts S) (to : sin
 
   -- a volume was opened, and a machine over its kernel served the lines
   pub lines_opened : {M : Type 0} (is : machines.Ghosts M) (now : Image → State) (m m' : M) (result : Status) (d mid d' : D) (source source' : S) (sink sink' : K) (steps steps' : ℕ)
-      → ForSome (facts.seen d) (λ image. OpensAs now (volume image) (facts.seen mid)) → (NothingPending facts d → ForSome (facts.seen d) (λ image. Leaves facts d mid (λ c. volume c ≡ volume image))) → CountGoes facts d mid
+      → ForSome (facts.seen d) (λ image. OpensAs now (volume image) (facts.seen mid)) → ForSome (facts.seen d) (λ image. Leaves facts d mid (LeftOr facts d (λ c. volume c ≡ volume image))) → CountGoes facts d mid
       → ((image : Image) → is.said m image ≡ said (now image)) → ((image : Image) → is.kept m image ≡ kept (now image)) → ((s : State) → kept s [] ≡ s)
       → Serves is batch input_limit result m m' (use_of facts mid d') (use_of from source source') (use_of to sink sink') steps steps'
       → LinesKeep said kept (session_of batch result (use_of facts d d') (use_of from source source') (use_of to sink sink') steps steps')
@@ -354,10 +376,11 @@ module _ {D S K : Type 0} (facts : Ghosts D) (from : sources.Ghosts S) (to : sin
         (λ image seen. subst (λ (v : List Line → List ℕ). Answers v result (use_of from source source') (use_of to sink sink')) (says image) (serves.answers image seen));
     kept = λ done. opened_then now (facts.seen d) (facts.seen mid) (λ s. IfSome (from.left source) (λ input. SpellsAfter (kept s) input (facts.seen d'))) opens
         (λ image seen. subst (λ (v : List Line → State). IfSome (from.left source) (λ input. SpellsAfter v input (facts.seen d'))) (keeps image) (serves.kept done image seen));
-    holds = λ pending. opened_holds facts d mid (use_of from source source') (use_of to sink sink') kept none now d' opens (first pending)
+    holds = opened_holds facts d mid (use_of from source source') (use_of to sink sink') kept none now d' opens first
         (λ image seen. subst (λ (v : List Line → State). Holds v (use_of facts mid d') (use_of from source source') (use_of to sink sink')) (keeps image) (serves.holds image seen));
     holds_exactly = opened_then now (facts.seen d) (facts.seen mid) (λ s. HoldsExactly (kept s) result (use_of facts d d') (use_of from source source') (use_of to sink sink')) opens
         (λ image seen. subst (λ (v : List Line → State). HoldsExactly v result (use_of facts d d') (use_of from source source') (use_of to sink sink')) (keeps image) (exactly_since (is.kept m image) result mid d d' (use_of from source source') (use_of to sink sink') (serves.holds_exactly image seen)));
+    settled = serves.settled;
     ends = serves.ends;
     which = inr serves.which;
     disk_failed = λ h. then_rose _ _ _ _ _ _ count (serves.disk_failed h);
@@ -375,15 +398,16 @@ module _ {D S K : Type 0} (facts : Ghosts D) (from : sources.Ghosts S) (to : sin
       → ForSome (facts.seen d) (λ image. IsNoState (volume image) → WritesNothing facts d d') → (TellsNothing f → sink' ≡ sink)
       → (result ≡ status.NoVolume → Appends (to.taken sink) (to.taken sink') (fault_line f)) → AppendsPrefix (to.taken sink) (to.taken sink') (fault_line f)
       → (result ≡ status.Sink → Rose (to.faults sink) (to.faults sink') (to.is_spent sink')) → (f ≡ fault.Disk → CountRose facts d d')
-      → (NothingPending facts d → ForSome (facts.seen d) (λ image. Leaves facts d d' (λ c. volume c ≡ volume image))) → ((s : State) → said s [] ≡ []) → ((s : State) → kept s [] ≡ s)
+      → ForSome (facts.seen d) (λ image. Leaves facts d d' (LeftOr facts d (λ c. volume c ≡ volume image))) → ((s : State) → said s [] ≡ []) → ((s : State) → kept s [] ≡ s)
       → LinesKeep said kept (session_of batch result (use_of facts d d') (use_of from source source) (use_of to sink sink') steps steps)
   lines_unopened f result d d' source sink sink' steps tells ends writes none_written quiet put prefix sink_rose disk_rose first says none =
       let un : EndsUnopened result = fault_ends f result ends in
       let disk : result ≡ status.Disk → CountRose facts d d' = λ h. disk_rose (fault_disk f result ends h) in record {
         answers = unopened_answers from to said says f (facts.seen d) result source sink sink' tells ends quiet;
         kept = λ done. absurd (other_end result status.Done un (λ h. cc) (λ h. cc) (λ h. cc) (λ h. cc) done);
-        holds = λ pending. unopened_holds facts d d' from to kept none f source sink sink' tells quiet pending (first pending);
+        holds = unopened_holds facts d d' from to kept none f source sink sink' tells quiet first;
         holds_exactly = unopened_exactly (use_of facts d d') (use_of from source source) (use_of to sink sink') kept f (facts.seen d) result tells ends;
+        settled = λ done. absurd (other_end result status.Done un (λ h. cc) (λ h. cc) (λ h. cc) (λ h. cc) done);
         ends = record {
           few = λ h. absurd (not_taking result h (other_end result status.Source un (λ h. cc) (λ h. cc) (λ h. cc) (λ h. cc)) (other_end result status.TooLong un (λ h. cc) (λ h. cc) (λ h. cc) (λ h. cc)));
           memory = λ h. (refl, quiet (fault_quiet f result ends (λ line. cc) (λ sink. cc)));

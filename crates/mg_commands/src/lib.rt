@@ -14,11 +14,13 @@
 mod checking;
 mod fault_line;
 mod formatting;
+mod history;
 mod usage;
 mod words;
 
 pub use checking::{check, put_summary};
 pub use fault_line::put_fault;
 pub use formatting::{make_volume, put_small};
+pub use history::runs_hold_what_was_answered;
 pub use usage::put_usage;
 pub use words::{Command, read_words};

@@ -3,7 +3,7 @@ use Rattle.std.specs.Prelude.{◌≡◌, ◌⊎◌, ℕ, Some}
 use Rattle.std.proofs.Common.{refl, inl, inr, ⊎_elim, sym, subst, ◌∙◌}
 use Rattle.mg_disk.specs.Disk.{Image, SameBut, no_image, only_place, TornAt}
 use Rattle.mg_disk.specs.PlaceLemmas.{same_as, same_after}
-use Rattle.mg_disk.specs.Stops.{NothingPending, StandsAt, TimeGoes, Leaves, WritesNothing}
+use Rattle.mg_disk.specs.Stops.{LeftOr, MightHaveLeft, NothingPending, StandsAt, TimeGoes, Leaves, WritesNothing}
 use Rattle.mg_disk.specs.declared.disk.Disk.{Ghosts}
 
 -- Over a run of calls: what a stop left since it began has P, and what it may leave now has Q.
@@ -90,6 +90,23 @@ module _ {D : Type 0} (facts : Ghosts D) where
     each = λ c left. ⊎_elim (a.each c) (λ none. absurd none) (call.nothing_else (facts.moment old) c (a.time.past (facts.moment old) a.time.begins) left);
     time = time_then old mid new no_image P a.time call (λ c none. absurd none);
   }
+
+  -- a run of writes at some places, whatever was pending: a stop leaves one of the images that it might have left before, with any bytes there
+  pub torn_once : (old new : D) (places : ℕ → Type 0) → TimeGoes facts old new (TornAt places (MightHaveLeft facts old)) → Leaves facts old new (TornAt places (MightHaveLeft facts old))
+  torn_once old new places call = record {
+    each = λ c left. ⊎_elim (λ before. (c, before, same_as places c c refl)) (λ torn. torn) (call.nothing_else (facts.moment old) c call.begins left);
+    time = call;
+  }
+
+  -- calls that write nothing, whatever was pending: a stop leaves what it might have left before
+  pub left_still : (old new : D) (P : Image → Type 0) → facts.has_been old (facts.moment old) → TimeGoes facts old new no_image → Leaves facts old new (LeftOr facts old P)
+  left_still old new P been call = leaves_quiet old old new (LeftOr facts old P) (leaves_yet old (LeftOr facts old P) been (λ c left. inl left)) call
+
+  -- and a run after them
+  pub left_still_then : (old mid new : D) (P : Image → Type 0) → facts.has_been old (facts.moment old) → TimeGoes facts old mid no_image → Leaves facts mid new (LeftOr facts mid P) → Leaves facts old new (LeftOr facts old P)
+  left_still_then old mid new P been call run =
+      leaves_then old mid new (LeftOr facts mid P) (LeftOr facts old P) (left_still old mid P been call) run
+      (λ c may. ⊎_elim (λ left. inl (⊎_elim (λ before. before) (λ none. absurd none) (call.now c left))) (λ kept. inr kept) may)
 
   -- after calls that write nothing, nothing is pending if nothing was before
   pub still_seen : (mid new : D) → NothingPending facts mid → facts.seen new ≡ facts.seen mid → TimeGoes facts mid new no_image → NothingPending facts new

@@ -1,5 +1,5 @@
 -- What the layers above say of a disk, each in one word. The trait's members are one value, `D.Disk` in a clause.
-use Rattle.std.specs.Prelude.{◌≡◌, OnErr, Option, Result, None, Some}
+use Rattle.std.specs.Prelude.{◌≡◌, ◌⊎◌, OnErr, Option, Result, None, Some}
 use Rattle.mg_faults.specs.Faults.{CountGoesOn, Rose}
 use Rattle.mg_disk.specs.Disk.{Image, GoesOn, no_image, OnlySeen}
 use Rattle.mg_disk.specs.declared.disk.Disk.{Ghosts}
@@ -30,6 +30,18 @@ pub record Leaves {D : Type 0} (facts : Ghosts D) (old new : D) (P : Image → T
   pub each : (c : Image) → facts.left_since new (facts.moment old) c → P c
   -- for a run that began earlier
   pub time : TimeGoes facts old new P
+
+-- as a run began, a stop might have left this image
+abbrev pub MightHaveLeft : {D : Type 0} → Ghosts D → D → Image → Type 0
+MightHaveLeft facts old c = facts.left_since old (facts.moment old) c
+
+-- so it might, or the image has P
+abbrev pub LeftOr : {D : Type 0} → Ghosts D → D → (Image → Type 0) → Image → Type 0
+LeftOr facts old P c = MightHaveLeft facts old c ⊎ P c
+
+-- the image comes by R from one that a stop might have left as the run began
+abbrev pub FromLeft : {D : Type 0} → Ghosts D → D → (Image → Image → Type 0) → Image → Type 0
+FromLeft facts old R c = (a : Image) × MightHaveLeft facts old a × R a c
 
 -- no write was made: reads give what they gave, and a stop may leave what it might have left
 pub record WritesNothing {D : Type 0} (facts : Ghosts D) (old new : D) : Type 0 where

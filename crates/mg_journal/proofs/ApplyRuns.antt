@@ -1,6 +1,6 @@
 -- Bodies that are read together, and homes that are written together.
 use Rattle.std.proofs.lemmas.Bool.Decides.{nat_tests}
-use Rattle.std.specs.Prelude.{◌≡◌, ◌+◌, ◌-◌, ◌≤◌, ◌<◌, ℕ, zero, suc, true, All, List, [], length, option_map, slice_set, take, Option, Some, None}
+use Rattle.std.specs.Prelude.{◌≡◌, ◌+◌, ◌-◌, ◌≤◌, ◌<◌, ℕ, zero, suc, true, All, List, [], ◌∷◌, length, option_map, slice_set, take, Option, Some, None}
 use Rattle.std.specs.Option.{ForSome}
 use Rattle.std.proofs.Common.{refl, sym, ap, subst, ◌∙◌, ⊎_elim, arith}
 use Rattle.std.proofs.lemmas.Bool.{cases_lt}
@@ -150,6 +150,12 @@ row_applied n places first count memory row (Some a) mid (Some b) all inside in_
   where
     but : SameBut (InRange (nth_home places first) count) (written a (filled a (take (first + 0) places))) b
     but = grind (arith)
+
+-- when there are no bodies
+pub none_written : (places : List (ℕ × ℕ)) (told : Option Image) → length places ≡ 0 → told ≡ option_map (λ a. written a (filled a places)) told
+none_written [] None none = refl
+none_written [] (Some a) none = refl
+none_written (place ∷ places) told none = absurd (omega arith)
 
 -- What reads give after one more call, whatever it answers: still the image as it was told first but at these places.
 pub torn_more : (P : Image → ℕ → Type 0) (these : ℕ → Type 0) (told mid new : Option Image) → ((a : Image) (k : ℕ) → these k → P a k) → Becomes (λ a. SameBut (P a) a) told mid → SeenBut these mid new → Becomes (λ a. SameBut (P a) a) told new

@@ -1,13 +1,12 @@
 -- An opening: the journal is looked through, and then recovered.
-use Rattle.std.specs.Prelude.{◌≡◌, ℕ, Option, Some, Result, Err}
-use Rattle.std.specs.Option.{ForSome}
-use Rattle.std.proofs.Common.{subst, ◌∙◌}
+use Rattle.std.specs.Prelude.{◌≡◌, ℕ, Option, Result, Err}
+use Rattle.std.proofs.Common.{inr, subst}
 use Rattle.mg_disk.specs.BecomesLemmas.{becomes-after, becomes-same}
-use Rattle.mg_disk.specs.Disk.{Image}
-use Rattle.mg_disk.specs.Runs.{leaves_quiet, leaves_then, still_seen}
-use Rattle.mg_disk.specs.Stops.{Becomes, Leaves, NothingPending, WritesNothing}
+use Rattle.mg_disk.specs.Disk.{Image, no_image}
+use Rattle.mg_disk.specs.Runs.{leaves_then, left_still, left_still_then}
+use Rattle.mg_disk.specs.Stops.{Becomes, Leaves, LeftOr, TimeGoes}
 use Rattle.mg_disk.specs.declared.disk.Disk.{Ghosts}
-use Rattle.mg_journal.proofs.CommitRuns.{same_itself, yet_same}
+use Rattle.mg_journal.proofs.CommitRuns.{same_itself}
 use Rattle.mg_journal.specs.Contents.{SameContents}
 
 -- an error stays the same if it is handed on with another type of value
@@ -22,13 +21,14 @@ contents_kept n total same told mid now still stays = becomes-after (SameContent
 pub contents_still : (total : ℕ) (told now : Option Image) → now ≡ told → Becomes (SameContents total) told now
 contents_still total told now still = becomes-same (SameContents total) told now still (λ a is. same_itself total a)
 
-module _ {D : Type 0} (facts : Ghosts D) (total : ℕ) (old mid : D) (been : facts.has_been old (facts.moment old)) (look : WritesNothing facts old mid) (pending : NothingPending facts old) (a : Image) (told : facts.seen old ≡ Some a) where
-  -- after the look
-  pub looked : Leaves facts old mid (SameContents total a)
-  looked = leaves_quiet facts old old mid (SameContents total a) (yet_same facts total old a been told pending) look.stops
+-- homes and gates are written after a sync, whatever was pending before it
+pub settled_then : {D : Type 0} (facts : Ghosts D) (total : ℕ) (old mid new : D) (a : Image) → facts.has_been old (facts.moment old) → TimeGoes facts old mid no_image
+    → Leaves facts mid new (SameContents total a) → Leaves facts old new (LeftOr facts old (SameContents total a))
+settled_then facts total old mid new a been sync run =
+    leaves_then facts old mid new (SameContents total a) (LeftOr facts old (SameContents total a)) (left_still facts old mid (SameContents total a) been sync) run (λ c same. inr same)
 
-  -- after the recovery
-  pub opened : (new : D) (n : ℕ) → n ≡ total → (NothingPending facts mid → ForSome (facts.seen mid) (λ i. Leaves facts mid new (SameContents n i))) → Leaves facts old new (SameContents total a)
-  opened new n same run =
-      leaves_then facts old mid new (SameContents total a) (SameContents total a) looked
-      (subst (λ m. Leaves facts mid new (SameContents m a)) same (run (still_seen facts old mid pending look.same look.stops) a (look.same ∙ told))) (λ c is. is)
+-- a recovery after a look
+pub looked_then : {D : Type 0} (facts : Ghosts D) (total n : ℕ) (old mid new : D) (a : Image) → facts.has_been old (facts.moment old) → TimeGoes facts old mid no_image → n ≡ total
+    → Leaves facts mid new (LeftOr facts mid (SameContents n a)) → Leaves facts old new (LeftOr facts old (SameContents total a))
+looked_then facts total n old mid new a been look same run =
+    left_still_then facts old mid new (SameContents total a) been look (subst (λ m. Leaves facts mid new (LeftOr facts mid (SameContents m a))) same run)

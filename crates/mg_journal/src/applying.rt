@@ -46,8 +46,7 @@ impl HomeBuffers {
         })
     }
 
-    /// Writes the bodies at these places to their homes, in order, and syncs them: also if there are none, so that
-    /// nothing is pending afterwards.
+    /// Writes the bodies at these places to their homes, in order, and syncs them. Nothing is pending before and after.
     pub(crate) fn write<D: Disk>(
         &mut self,
         disk: &mut D,
@@ -55,7 +54,8 @@ impl HomeBuffers {
     ) -> Result<(), Failed>
         requires within_disk { globals_block ≤ D.block_count disk.old }
         requires all_on_disk { All (IsPlace (D.block_count disk.old)) places.now }
-        ensures any_moment { NothingPending D.Disk disk.old → ForSome (D.seen disk.old) (λ image. Leaves D.Disk disk.old disk.new (SameBut (λ k. names (filled image places.now) k ≡ true) image)) }
+        requires settled { NothingPending D.Disk disk.old }
+        ensures any_moment { ForSome (D.seen disk.old) (λ image. Leaves D.Disk disk.old disk.new (SameBut (λ k. names (filled image places.now) k ≡ true) image)) }
         ensures written { OnOk result (D.seen disk.new ≡ option_map (λ image. written image (filled image places.now)) (D.seen disk.old)) }
         ensures torn { Becomes (λ image. SameBut (λ k. names (filled image places.now) k ≡ true) image) (D.seen disk.old) (D.seen disk.new) }
         ensures settled { OnOk result (NothingPending D.Disk disk.new) }
@@ -200,7 +200,8 @@ fn row_among<'a>(
     }
 }
 
-// Writes the bodies at these places to their homes, in order, those that follow one another in one call, and syncs them.
+// Writes the bodies at these places to their homes, in order, those that follow one another in one call, and syncs them. If there
+// are none no call is made.
 fn apply<D: Disk>(
     disk: &mut D,
     places: &[(u64, u64)],
@@ -211,12 +212,16 @@ fn apply<D: Disk>(
     requires bodies { (k : ℕ) → k < length places.now → nth_body places.now k < length journal.now }
     requires read { ForSome (D.seen disk.old) (HasBodies globals_block places.now journal.now) }
     requires room { min (length places.now) body_limit ≤ length run.old }
-    ensures any_moment { NothingPending D.Disk disk.old → ForSome (D.seen disk.old) (λ image. Leaves D.Disk disk.old disk.new (SameBut (λ k. names (filled image places.now) k ≡ true) image)) }
+    requires settled { NothingPending D.Disk disk.old }
+    ensures any_moment { ForSome (D.seen disk.old) (λ image. Leaves D.Disk disk.old disk.new (SameBut (λ k. names (filled image places.now) k ≡ true) image)) }
     ensures written { OnOk result (D.seen disk.new ≡ option_map (λ image. written image (filled image places.now)) (D.seen disk.old)) }
     ensures torn { Becomes (λ image. SameBut (λ k. names (filled image places.now) k ≡ true) image) (D.seen disk.old) (D.seen disk.new) }
     ensures settled { OnOk result (NothingPending D.Disk disk.new) }
     ensures calls { DiskCalls D.Disk disk.old disk.new result }
 {
+    if places.len() == 0 {
+        return Ok(());
+    }
     let mut first = 0;
     while first < places.len() {
         let count = count_row(places, first, run.len().min(MOST_WRITES));

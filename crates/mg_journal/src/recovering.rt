@@ -71,14 +71,15 @@ fn close_gates<D: Disk>(disk: &mut D, opened: u64) -> Result<(), Failed>
     Ok(())
 }
 
-/// Recovers a disk that this view fits. Each home is written once, from its newest body, in the order of blocks, and is
+/// Recovers a disk that this view fits, with nothing pending. Each home is written once, from its newest body, in the order of blocks, and is
 /// synced; then the gates are closed, first to last. The bodies are read from the journal, and so are the gates, but for the first
 /// `opened` ones, which are open.
 pub(crate) fn recover<D: Disk>(disk: &mut D, view: &mut View, opened: u64) -> Result<(), Failed>
     requires looks { IsViewOf D.Disk view.old disk.old }
     requires at_most_8_open { opened ≤ segment_count }
     requires gates { ForSome (D.seen disk.old) (AreOpen 0 opened) }
-    ensures any_moment { NothingPending D.Disk disk.old → ForSome (D.seen disk.old) (λ image. Leaves D.Disk disk.old disk.new (SameContents view.old.total image)) }
+    requires settled { NothingPending D.Disk disk.old }
+    ensures any_moment { ForSome (D.seen disk.old) (λ image. Leaves D.Disk disk.old disk.new (SameContents view.old.total image)) }
     ensures contents { Becomes (SameContents view.old.total) (D.seen disk.old) (D.seen disk.new) }
     ensures recovered { OnOk result (Becomes (IsRecovered view.old.total) (D.seen disk.old) (D.seen disk.new)) }
     ensures settled { OnOk result (NothingPending D.Disk disk.new) }

@@ -2,7 +2,7 @@
 ghost use Rattle.std.specs.Prelude.{◌≡◌, ◌≤◌, ◌<◌, ◌+◌, [], IfOk, IsOk, IsSome, None, OnOk, is_ok, length, true};
 ghost use Rattle.std.specs.Option.{ForSome};
 ghost use Rattle.mg_disk.specs.Disk.{block_at};
-ghost use Rattle.mg_disk.specs.Stops.{Becomes, DiskCalls, DiskCallsBy, Leaves, NothingPending, OnlyReads, WritesNothing};
+ghost use Rattle.mg_disk.specs.Stops.{Becomes, DiskCalls, DiskCallsBy, Leaves, LeftOr, NothingPending, OnlyReads, WritesNothing};
 ghost use Rattle.mg_model.specs.Layout.{body_limit, globals_block, segment_body, segment_count};
 ghost use Rattle.mg_model.specs.Replay.{homes_fit, replay};
 ghost use Rattle.mg_journal.specs.Contents.{SameContents};
@@ -44,10 +44,10 @@ impl Model for Store {
 }
 
 impl Store {
-    /// Opens the journal of a volume of `total` blocks, whatever a stop left of a commit: each home that open segments name is
-    /// written once, from its newest body, and synced, and then the gates are closed first to last, with a sync after
-    /// each. The contents stay, whatever the answer: those of what reads give, and if nothing was pending those of what a
-    /// stop leaves at any moment. After Ok nothing is pending, and no segment is open.
+    /// Opens the journal of a volume of `total` blocks, whatever a stop left of a commit: what reads give is synced, each home that
+    /// open segments name is written once, from its newest body, and synced, and then the gates are closed first to last, with a
+    /// sync after each. The contents of what reads give stay, whatever the answer, and at any moment a stop leaves an image that
+    /// it might have left before, or these contents. After Ok nothing is pending, and no segment is open.
     ///
     /// [`ViewFault::Damaged`] comes if the journal cannot be replayed, and then nothing was written,
     /// [`ViewFault::Disk`] only if a call of the disk failed, and [`ViewFault::Memory`] if there was not enough
@@ -55,7 +55,7 @@ impl Store {
     pub fn open<D: Disk>(alloc: Global, disk: &mut D, total: u64) -> Result<Store, ViewFault>
         requires journal { globals_block ≤ total }
         requires within_disk { total ≤ D.block_count disk.old }
-        ensures any_moment { NothingPending D.Disk disk.old → ForSome (D.seen disk.old) (λ image. Leaves D.Disk disk.old disk.new (SameContents total image)) }
+        ensures any_moment { ForSome (D.seen disk.old) (λ image. Leaves D.Disk disk.old disk.new (LeftOr D.Disk disk.old (SameContents total image))) }
         ensures contents { Becomes (SameContents total) (D.seen disk.old) (D.seen disk.new) }
         ensures opened { IfOk result (λ store. IsOpened D.Disk total store disk.new) }
         ensures replayed { IfOk result (λ _. ForSome (D.seen disk.old) (λ image. IsSome (replay image total))) }
@@ -77,11 +77,13 @@ impl Store {
     /// takes no memory. [`Failed`] comes only if a call of the disk failed.
     pub fn recover<D: Disk>(disk: &mut D, mut view: View) -> Result<Store, Failed>
         requires looks { IsViewOf D.Disk view disk.old }
-        ensures any_moment { NothingPending D.Disk disk.old → ForSome (D.seen disk.old) (λ image. Leaves D.Disk disk.old disk.new (SameContents view.total image)) }
+        ensures any_moment { ForSome (D.seen disk.old) (λ image. Leaves D.Disk disk.old disk.new (LeftOr D.Disk disk.old (SameContents view.total image))) }
         ensures contents { Becomes (SameContents view.total) (D.seen disk.old) (D.seen disk.new) }
         ensures opened { IfOk result (λ store. IsOpened D.Disk view.total store disk.new) }
         ensures calls { DiskCalls D.Disk disk.old disk.new result }
     {
+        // What reads give may be pending, and then a stop may still leave what was there before it.
+        disk.sync()?;
         match recover(disk, &mut view, 0) {
             Ok(()) => {
                 view.clear();

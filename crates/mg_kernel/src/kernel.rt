@@ -2,7 +2,7 @@
 ghost use Rattle.std.specs.Prelude.{◌≡◌, ◌≤◌, ◌+◌, IfErr, IfOk, IsOk, IsTrue, None, OnOk, is_ok, is_some, option_map, replicate, if◌then◌else◌};
 ghost use Rattle.std.specs.Option.{ForSome};
 ghost use Rattle.mg_disk.specs.Disk.{Image};
-ghost use Rattle.mg_disk.specs.Stops.{DiskCalls, DiskCallsBy, Leaves, NothingPending};
+ghost use Rattle.mg_disk.specs.Stops.{DiskCalls, DiskCallsBy, Leaves, LeftOr};
 ghost use Rattle.mg_kernel.specs.Meaning.{StandsOn, is_live, now_of, seats_in, staged_of, words_in};
 ghost use Rattle.mg_kernel.specs.Opening.{Opens, Refuses, Saves, Starts};
 ghost use Rattle.mg_kernel.specs.Serving.{ProbeCosts, Serves, Stays, StepAnswers, StepCosts};
@@ -44,8 +44,7 @@ impl Kernel {
     pub fn open<D: Disk>(alloc: Global, disk: &mut D) -> Result<Kernel, OpenFault>
         ensures opens { IfOk result (λ k. ForSome (D.seen disk.old) (λ image. Opens (volume image) k (D.seen disk.new))) }
         ensures starts { IfOk result (λ k. Starts D.Disk k disk.new) }
-        ensures any_moment { NothingPending D.Disk disk.old
-            → ForSome (D.seen disk.old) (λ image. Leaves D.Disk disk.old disk.new (λ c. volume c ≡ volume image)) }
+        ensures any_moment { ForSome (D.seen disk.old) (λ image. Leaves D.Disk disk.old disk.new (LeftOr D.Disk disk.old (λ c. volume c ≡ volume image))) }
         ensures not { result ≡ Err OpenFault.Not → Refuses D.Disk NotVolume disk.old disk.new }
         ensures old { result ≡ Err OpenFault.Old → Refuses D.Disk OldVolume disk.old disk.new }
         ensures damaged { result ≡ Err OpenFault.Damaged → Refuses D.Disk Damaged disk.old disk.new }

@@ -249,6 +249,7 @@ module _ {M D S K : Type 0} (is : machines.Ghosts M) (d : DiskUse D) (i : Source
     holds_exactly = session_exactly r w;
     traces = session_traces r f w;
     ends = session_ends r f w source_rose sink_rose;
+    settled = is_done r settled;
     disk_failed = λ h. disk_rose (at_disk r h);
     complete = λ no_disk no_source no_sink. within_more_of limit left (IsOk r) (IsDoneOrMemory (status_of r)) (done_or_memory r) (session_done r f w disk_rose source_rose sink_rose no_disk no_source no_sink);
   }

@@ -3,7 +3,7 @@ use Rattle.std.specs.Prelude.{ℕ, ◌≡◌, ◌≢◌, ◌⊎◌, ◌<◌, ◌
 use Rattle.std.specs.Io.KnownBytes.{Appends}
 use Rattle.std.specs.Option.{ForSome}
 use Rattle.mg_disk.specs.Disk.{Image}
-use Rattle.mg_disk.specs.Stops.{DiskCallsBy, Leaves}
+use Rattle.mg_disk.specs.Stops.{DiskCallsBy, Leaves, NothingPending}
 use Rattle.mg_disk.specs.declared.disk.Disk as disks
 use Rattle.mg_faults.specs.Faults.{CountGoesOn, Rose}
 use Rattle.mg_io.specs.declared.traits.Sink as sinks
@@ -157,6 +157,8 @@ pub record Serves {M D S K : Type 0} (is : machines.Ghosts M) (batch limit : ℕ
   pub holds_exactly : ForSome (d.facts.seen d.old) (λ image. HoldsExactly (is.kept m image) result d i o)
   pub traces : ForSome (d.facts.seen d.old) (λ image. Traces is batch result m image (i.facts.left i.old) (i.facts.left i.new) (o.facts.taken o.old) (o.facts.taken o.new) steps steps' m')
   pub ends : Ends batch limit result i o
+  -- At the end nothing is pending.
+  pub settled : result ≡ status.Done → NothingPending d.facts d.new
   -- The disk failed only if its count rose.
   pub disk_failed : result ≡ status.Disk → DiskRose d
   -- If no call failed and the input is not too long, all is done, or there was not enough memory.

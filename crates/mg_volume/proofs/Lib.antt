@@ -26,7 +26,6 @@ pub mod ObjectOrder
 pub mod ObjectRemoved
 pub mod ObjectStaged
 pub mod ObjectWithout
-mod OpenRuns
 pub mod Opened
 pub mod OpenedFormed
 pub mod PagesChange

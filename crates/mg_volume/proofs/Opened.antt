@@ -4,14 +4,14 @@ use Rattle.std.proofs.lemmas.Bool.Decides.{nat_tests}
 use Rattle.std.specs.Prelude.{◌≡◌, ◌≤◌, ◌<◌, ◌+◌, ℕ, ◌&&◌, true, List, [], ◌∷◌, length, map, sum_by, drop, Option, Some, None}
 use Rattle.std.specs.List.{list_all, list_any}
 use Rattle.std.specs.Option.{ForSome, option_map_or}
-use Rattle.std.proofs.Common.{refl, sym, ap, subst, ◌∙◌, arith}
+use Rattle.std.proofs.Common.{refl, sym, ap, subst, ◌∙◌, inl, inr, ⊎_elim, arith}
 use Rattle.std.proofs.lemmas.Bool.{and_from}
 use Rattle.mg_rules.specs.RowsRead.{AreKept, IsReadAs, live_from, objects_of, rows_in, state_in}
 use Rattle.mg_rules.specs.declared.volume_rows.VolumeRows.{VolumeRows}
 use Rattle.mg_disk.specs.BecomesLemmas.{becomes-of, becomes-to}
 use Rattle.mg_disk.specs.Disk.{Image}
 use Rattle.mg_disk.specs.Runs.{leaves_wider}
-use Rattle.mg_disk.specs.Stops.{Becomes, Leaves}
+use Rattle.mg_disk.specs.Stops.{Becomes, Leaves, LeftOr}
 use Rattle.mg_disk.specs.declared.disk.Disk.{Ghosts}
 use Rattle.mg_journal.specs.Contents.{SameContents}
 use Rattle.mg_journal.specs.Standing as journal
@@ -36,7 +36,6 @@ use Rattle.mg_volume.proofs.BareRows.{sum_bare}
 use Rattle.mg_volume.proofs.ObjectLists.{by_base_all}
 use Rattle.mg_volume.proofs.ObjectOrder.{into_length}
 use Rattle.mg_volume.proofs.ObjectRemoved.{apart_pairs}
-use Rattle.mg_volume.proofs.OpenRuns.{Still}
 use Rattle.mg_volume.proofs.Reread.{IsThere, row_parts, there}
 use Rattle.mg_volume.specs.Contents.{volume_of_replay}
 use Rattle.mg_volume.specs.Held.{VolumeHeld}
@@ -277,10 +276,11 @@ module _ (rows : VolumeRows) (kept : AreKept rows) (store : Store) (p : Pages) (
 
 -- what a stop leaves
 module _ (rows : VolumeRows) {D : Type 0} (facts : Ghosts D) (total : ℕ) (same : total ≡ total_blocks rows.params.frames) (old new : D) (read : ForSome (facts.seen old) (IsReadAs rows)) where
-  pub leaves_still : ForSome (facts.seen old) (λ image. Leaves facts old new (SameContents total image)) → ForSome (facts.seen old) (λ image. Leaves facts old new (Still image))
+  pub leaves_still : ForSome (facts.seen old) (λ image. Leaves facts old new (LeftOr facts old (SameContents total image))) → ForSome (facts.seen old) (λ image. Leaves facts old new (LeftOr facts old (λ c. volume c ≡ volume image)))
   leaves_still each image told =
-      leaves_wider facts old new (SameContents total image) (Still image) (each image told)
-      (λ c contents. (there rows image c (read image told) (let P : ℕ → Type 0 = λ n. SameContents n image c in subst P same contents)).same)
+      leaves_wider facts old new (LeftOr facts old (SameContents total image)) (LeftOr facts old (λ c. volume c ≡ volume image)) (each image told)
+      (λ c may.
+      ⊎_elim (λ left. inl left) (λ contents. inr (there rows image c (read image told) (let P : ℕ → Type 0 = λ n. SameContents n image c in subst P same contents)).same) may)
 
 -- the volume with the lists that were made of the rows
 pub made_is : (rows : VolumeRows) (p : Pages) (objects : List (ℕ × ObjectRow)) (accounts : List AccRow) (threads : List (ℕ × ThreadRow)) → objects ≡ by_base (objects_of rows) → accounts ≡ rows.accounts.items → threads ≡ numbered rows.threads.items

@@ -3,7 +3,7 @@ ghost use Rattle.std.specs.Prelude.{◌≡◌, ◌≤◌, true, IfOk, IfSome, le
 ghost use Rattle.std.specs.Option.{ForSome};
 ghost use Rattle.mg_bank.specs.Bank.{credits_of};
 ghost use Rattle.mg_rules.specs.RowsRead.{AreKept, ArePlaced, IsReadAs};
-ghost use Rattle.mg_disk.specs.Stops.{Becomes, DiskCallsBy, Leaves, NothingPending};
+ghost use Rattle.mg_disk.specs.Stops.{Becomes, DiskCallsBy, Leaves, LeftOr};
 ghost use Rattle.mg_journal.specs.Contents.{SameContents};
 ghost use Rattle.mg_journal.specs.Looked.{Fits};
 ghost use Rattle.mg_model.specs.Layout.{total_blocks};
@@ -88,7 +88,7 @@ fn open_pages<D: Disk>(
     requires fits { ForSome (D.seen disk.old) (λ image. Fits view image) }
     ensures opened { IfOk result (λ p. ArePagesOver D.Disk (store_of p) entries.items view.total p disk.new) }
     ensures contents { Becomes (SameContents view.total) (D.seen disk.old) (D.seen disk.new) }
-    ensures any_moment { NothingPending D.Disk disk.old → ForSome (D.seen disk.old) (λ image. Leaves D.Disk disk.old disk.new (SameContents view.total image)) }
+    ensures any_moment { ForSome (D.seen disk.old) (λ image. Leaves D.Disk disk.old disk.new (LeftOr D.Disk disk.old (SameContents view.total image))) }
     ensures judges_nothing { JudgesNothing result }
     ensures calls { DiskCallsBy D.Disk disk.old disk.new (result ≡ Err OpenFault.Disk) }
 {
@@ -116,7 +116,7 @@ pub(crate) fn open_rows<D: Disk>(
     requires total { view.total ≡ total_blocks rows.params.frames }
     requires within_disk { view.total ≤ D.block_count disk.old }
     ensures opened { IfOk result (λ v. IsOpened D.Disk (D.seen disk.old) v disk.new) }
-    ensures any_moment { NothingPending D.Disk disk.old → ForSome (D.seen disk.old) (λ image. Leaves D.Disk disk.old disk.new (λ c. volume c ≡ volume image)) }
+    ensures any_moment { ForSome (D.seen disk.old) (λ image. Leaves D.Disk disk.old disk.new (LeftOr D.Disk disk.old (λ c. volume c ≡ volume image))) }
     ensures judges_nothing { JudgesNothing result }
     ensures calls { DiskCallsBy D.Disk disk.old disk.new (result ≡ Err OpenFault.Disk) }
 {

@@ -3,7 +3,7 @@ ghost use Rattle.std.specs.Prelude.{List, ◌≡◌, ◌≤◌, ◌<◌, ◌+◌
 ghost use Rattle.std.specs.List.{list_all};
 ghost use Rattle.std.specs.Option.{ForSome, option_copied};
 ghost use Rattle.mg_bank.specs.Bank.{pages_at};
-ghost use Rattle.mg_disk.specs.Stops.{DiskCallsBy, Leaves, NothingPending};
+ghost use Rattle.mg_disk.specs.Stops.{DiskCallsBy, Leaves, LeftOr};
 ghost use Rattle.mg_model.specs.Abbreviations.{free_number};
 ghost use Rattle.mg_model.specs.Access.{covers};
 ghost use Rattle.mg_model.specs.Bank.{account_of};
@@ -78,7 +78,7 @@ impl Volume {
     /// stop left of a commit was made good; the volume is then the same as before.
     pub fn open<D: Disk>(alloc: Global, disk: &mut D) -> Result<Volume, OpenFault>
         ensures opened { IfOk result (λ v. IsOpened D.Disk (D.seen disk.old) v disk.new) }
-        ensures any_moment { NothingPending D.Disk disk.old → ForSome (D.seen disk.old) (λ image. Leaves D.Disk disk.old disk.new (λ c. volume c ≡ volume image)) }
+        ensures any_moment { ForSome (D.seen disk.old) (λ image. Leaves D.Disk disk.old disk.new (LeftOr D.Disk disk.old (λ c. volume c ≡ volume image))) }
         ensures not { result ≡ Err OpenFault.Not → Refuses D.Disk NotVolume disk.old disk.new }
         ensures old { result ≡ Err OpenFault.Old → Refuses D.Disk OldVolume disk.old disk.new }
         ensures damaged { result ≡ Err OpenFault.Damaged → Refuses D.Disk Damaged disk.old disk.new }

@@ -197,8 +197,8 @@ fn wrong_stop(alloc: Global) -> Option<u64> {
     None
 }
 
-/// The calls of an opening after the eight commits: gates and indexes; bodies and homes, and a sync; three for each gate.
-const OPENING: u64 = 16 + 2560 + 1 + 24;
+/// The calls of an opening after the eight commits: gates and indexes, and a sync; bodies and homes, and a sync; three for each gate.
+const OPENING: u64 = 16 + 1 + 2560 + 1 + 24;
 
 /// Whether the journal is opened, and what is held after a stop of each kind.
 fn opened(alloc: Global, mut fuse: Fuse<MemDisk>) -> Found
@@ -227,7 +227,7 @@ fn opened_after(alloc: Global, calls: u64) -> Option<Found> {
 }
 
 /// Numbers of calls of that opening: among the reads, within a run of homes and between two, before the sync, and among the gates.
-const OPENINGS: [u64; 9] = [0, 17, 1296, 1297, 1376, 1456, 2576, 2577, 2590];
+const OPENINGS: [u64; 9] = [0, 18, 1297, 1298, 1377, 1457, 2577, 2578, 2591];
 
 /// The first of these numbers, or that of all calls, if something else is held.
 fn wrong_opening(alloc: Global) -> Option<u64> {

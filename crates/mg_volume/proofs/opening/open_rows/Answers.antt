@@ -1,7 +1,7 @@
 use Rattle.std.proofs.Common.{◌≡◌, ◌∙◌, ℕ, List, ap, arith, refl, subst, sym, true}
 use Rattle.std.specs.Option.{ForSome}
 use Rattle.mg_disk.specs.Disk.{Image}
-use Rattle.mg_disk.specs.Runs.{nothing_none}
+use Rattle.mg_disk.specs.Runs.{left_still, nothing_none}
 use Rattle.mg_faults.specs.Faults.{count_none}
 use Rattle.mg_model.specs.State.{ObjectRow}
 use Rattle.mg_model.specs.Volume.{volume}
@@ -11,7 +11,6 @@ use Rattle.mg_volume.specs.Held.{VolumeHeld}
 use Rattle.mg_volume.specs.Meaning.{IsKept, StandsOn, is_live, is_sound, now_of, staged_of}
 use Rattle.mg_volume.specs.Opening.{Opens}
 use Rattle.mg_volume.proofs.Handed.{calls_as, judged_memory, judged_ok, judges_as, unfailed_memory, unfailed_ok}
-use Rattle.mg_volume.proofs.OpenRuns.{quiet}
 use Rattle.mg_volume.proofs.Opened.{ArePages, apart_is, credits_is, distinct_is, held_is, leaves_still, live_is, made_is, opens_now, same_objects, sound_is, staged_none, stands_now}
 use Rattle.mg_volume.proofs.opening.open_rows.Goals as goal
 
@@ -60,7 +59,7 @@ returns-in-Ok g c =
         staged = ap staged_of made ∙ staged_none rows p said.staged;
         live = ap is_live made ∙ live_is rows p said.live;
       };
-      any_moment = λ pending. leaves_still rows g.D.Disk c.args.view.total same c.args.disk.now new c.requires.told (c.open_pages.ensures.any_moment pending);
+      any_moment = leaves_still rows g.D.Disk c.args.view.total same c.args.disk.now new c.requires.told c.open_pages.ensures.any_moment;
       judges_nothing = judged_ok _;
       calls = unfailed_ok g.D.Disk c.args.disk.now new _ c.open_pages.ensures.calls.count c.open_pages.ensures.calls.blocks;
     }
@@ -73,7 +72,7 @@ returns-in-Err g c =
     let told = c.in-Err.ensures in
     record {
       opened = tt;
-      any_moment = λ pending. leaves_still rows g.D.Disk c.args.view.total c.requires.total disk new c.requires.told (told.any_moment pending);
+      any_moment = leaves_still rows g.D.Disk c.args.view.total c.requires.total disk new c.requires.told told.any_moment;
       judges_nothing = judges_as c.in-Err.fault told.judges_nothing;
       calls = calls_as g.D.Disk disk new c.in-Err.fault told.calls;
     }
@@ -84,7 +83,7 @@ returns-in-None g c =
     let been = g.met.D.Disk.now_has_been disk in
     record {
       opened = tt;
-      any_moment = quiet g.D.Disk disk disk been (nothing_none g.D.Disk disk been);
+      any_moment = λ image told. left_still g.D.Disk disk disk (λ c. volume c ≡ volume image) been (nothing_none g.D.Disk disk been).stops;
       judges_nothing = judged_memory;
       calls = unfailed_memory g.D.Disk disk disk (count_none (g.D.Disk.faults disk) (g.D.Disk.is_spent disk)) refl;
     }

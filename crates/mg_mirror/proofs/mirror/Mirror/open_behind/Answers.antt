@@ -1,4 +1,6 @@
-use Rattle.std.proofs.Common.{◌≡◌, min, rules, subst}
+use Rattle.std.proofs.Common.{◌≡◌, IsTrue, min, rules, subst, ⊎_elim}
+use Rattle.mg_mirror.proofs.Found.{found_left, found_right}
+use Rattle.mg_mirror.specs.MirrorLemmas.{and_left, and_right}
 use Rattle.mg_mirror.specs.Copy.{LeavesCopy}
 use Rattle.mg_mirror.proofs.mirror.Mirror.open_behind.Goals as goal
 
@@ -14,6 +16,8 @@ returns-in-Err g c =
         right_reads = search rules;
         left_settled = search rules;
         right_settled = search rules;
+        left_found = λ is. tt;
+        right_found = λ is. tt;
         no_faults = search rules;
         blocks = search rules;
         tells = search rules;
@@ -44,6 +48,16 @@ returns g c =
         right_reads = λ is. let steps = (told.right is).calls.steps in search rules;
         left_settled = λ is. let steps = (told.left is).calls.steps in search rules;
         right_settled = λ is. let steps = (told.right is).calls.steps in search rules;
+        left_found = λ is.
+            let steps = (told.left is).calls.steps in
+            found_left _ _ _ _ _ _ _ (d.seen c.args.left) (e.seen c.copy_side.new.right)
+            (λ tells. g.met.D.Disk.seen_may_stay c.args.left (subst IsTrue steps.from_tells (and_left (d.tells_stops c.copy_side.new.left) (e.tells_stops c.copy_side.new.right) tells)))
+            c.if-copy_side.alone (search rules) (λ a left. ⊎_elim (λ before. before) (λ none. absurd none) (steps.reads.stops.now a left)) (search rules) (search rules);
+        right_found = λ is.
+            let steps = (told.right is).calls.steps in
+            found_right _ _ _ _ _ _ _ (e.seen c.args.right) (d.seen c.copy_side.new.left)
+            (λ tells. g.met.E.Disk.seen_may_stay c.args.right (subst IsTrue steps.from_tells (and_right (d.tells_stops c.copy_side.new.left) (e.tells_stops c.copy_side.new.right) tells)))
+            c.if-copy_side.alone (search rules) (λ a left. ⊎_elim (λ before. before) (λ none. absurd none) (steps.reads.stops.now a left)) (search rules) (search rules);
         no_faults = search rules;
         blocks = n_is;
         tells = search rules;
