@@ -1,13 +1,12 @@
 -- What runs keep together, by induction over them.
 use Rattle.std.specs.Prelude.{ℕ, ◌≡◌, ◌≤◌, List, length, take, Option, Some, None, IfSome, IsSome, IsSomeAnd}
-use Rattle.std.proofs.Common.{refl, ⊎_elim, arith}
+use Rattle.std.proofs.Common.{refl, sym, ⊎_elim, arith}
 use Rattle.mg_disk.specs.Disk.{Image}
 use Rattle.mg_disk.specs.declared.disk.Disk as disks
 use Rattle.mg_io.specs.declared.traits.Sink as sinks
 use Rattle.mg_io.specs.declared.traits.Source as sources
 use Rattle.mg_model.specs.Lines.{lines}
 use Rattle.mg_model.specs.State.{State}
-use Rattle.mg_model.specs.Step.{after}
 use Rattle.mg_serve.specs.Sessions.{AreHeld}
 use Rattle.mg_commands.specs.Headline.{HoldsSince}
 use Rattle.mg_commands.specs.History as history
@@ -38,7 +37,7 @@ module _ {D S K : Type 0} (d : disks.Ghosts D) (i : sources.Ghosts S) (o : sinks
   -- one run more
   module _ (s : State) (runs : Runs D S K) (r : Run D S K) (finds : Finds d i o s runs r) (before : (c : Image) → LeftBy d i o s runs c → SpellsReached d i o s runs c) where
     -- it begins in a state that is reached, and keeps what a run from that one does
-    begun : (u : State) × Reaches d i o s runs u × HoldsSince (after u) (session d i o r).disk (session d i o r).source (session d i o r).sink
+    begun : (u : State) × Reaches d i o s runs u × HoldsSince (r.kept u) (session d i o r).disk (session d i o r).source (session d i o r).sink
     begun =
         let read = of_told (d.seen r.disk) (LeftBy d i o s runs) finds.reads in
         let at = before read.0 read.2 in
@@ -51,11 +50,11 @@ module _ {D S K : Type 0} (d : disks.Ghosts D) (i : sources.Ghosts S) (o : sinks
         ⊎_elim
         (λ none.
         let at = before c (finds.no_others c none.0) in
-        (at.0, at.1, (at.0, at.2, back (λ x y. (k : ℕ) × AreHeld (session d i o r).sink x y k × (at.0 ≡ after at.0 (take k (lines x)))) (0, none.1, refl))))
+        (at.0, at.1, (at.0, at.2, back (λ x y. (k : ℕ) × AreHeld (session d i o r).sink x y k × (at.0 ≡ r.kept at.0 (take k (lines x)))) (0, none.1, sym (finds.still at.0)))))
         (λ some.
         let u = begun.0 in
-        let t = after u (take some.0 (lines input)) in
-        (t, some.2, (u, begun.1, back (λ x y. (k : ℕ) × AreHeld (session d i o r).sink x y k × (t ≡ after u (take k (lines x)))) (some.0, some.1, refl))))
+        let t = r.kept u (take some.0 (lines input)) in
+        (t, some.2, (u, begun.1, back (λ x y. (k : ℕ) × AreHeld (session d i o r).sink x y k × (t ≡ r.kept u (take k (lines x)))) (some.0, some.1, refl))))
         (held c may))
 
     within : (c : Image) → LeftBy d i o s (history.CutOff runs r) c → SpellsReached d i o s (history.CutOff runs r) c
@@ -65,11 +64,11 @@ module _ {D S K : Type 0} (d : disks.Ghosts D) (i : sources.Ghosts S) (o : sinks
         ⊎_elim
         (λ none.
         let at = before c (finds.no_others c none) in
-        (at.0, at.1, (at.0, at.2, back (λ x. (k : ℕ) × (k ≤ length (lines x)) × (at.0 ≡ after at.0 (take k (lines x)))) (0, omega arith, refl))))
+        (at.0, at.1, (at.0, at.2, back (λ x. (k : ℕ) × (k ≤ length (lines x)) × (at.0 ≡ r.kept at.0 (take k (lines x)))) (0, omega arith, sym (finds.still at.0)))))
         (λ some.
         let u = begun.0 in
-        let t = after u (take some.0 (lines input)) in
-        (t, some.2, (u, begun.1, back (λ x. (k : ℕ) × (k ≤ length (lines x)) × (t ≡ after u (take k (lines x)))) (some.0, some.1, refl))))
+        let t = r.kept u (take some.0 (lines input)) in
+        (t, some.2, (u, begun.1, back (λ x. (k : ℕ) × (k ≤ length (lines x)) × (t ≡ r.kept u (take k (lines x)))) (some.0, some.1, refl))))
         (leaves.each c was))
 
   all_left : (s : State) (runs : Runs D S K) → Follow d i o s runs → (c : Image) → LeftBy d i o s runs c → SpellsReached d i o s runs c

@@ -1,20 +1,22 @@
 -- Runs of lines one after another on one disk, with kills and stops between and within them, and what they keep together.
-use Rattle.std.specs.Prelude.{ℕ, ◌≡◌, ◌≤◌, length, take, IsSome, IsSomeAnd}
+use Rattle.std.specs.Prelude.{ℕ, ◌≡◌, ◌≤◌, List, [], length, take, IsSome, IsSomeAnd}
 use Rattle.mg_disk.specs.Disk.{Image}
 use Rattle.mg_disk.specs.declared.disk.Disk as disks
 use Rattle.mg_io.specs.declared.traits.Sink as sinks
 use Rattle.mg_io.specs.declared.traits.Source as sources
+use Rattle.mg_model.specs.declared.calls.Line.{Line}
 use Rattle.mg_model.specs.Lines.{lines}
-use Rattle.mg_model.specs.Print.{replies_text}
 use Rattle.mg_model.specs.State.{State}
-use Rattle.mg_model.specs.Step.{after}
 use Rattle.mg_model.specs.Volume.{Is, volume}
 use Rattle.mg_serve.specs.Sessions.{AreHeld, OfInput, OfRest, use_of}
 use Rattle.mg_serve.specs.declared.status.Status.{Status}
 use Rattle.mg_commands.specs.Headline.{LinesKeep, Session, session_of}
 
--- A run: its disk, its source and its sink as it found them and as it left them, and the rest of a session.
+-- A run: what its machine says and keeps of lines from a state on, which for `run` are `replies_text` and `after`; its disk, its source and
+-- its sink as it found them and as it left them; and the rest of a session.
 pub record Run (D S K : Type 0) : Type 0 where
+  pub said : State → List Line → List ℕ
+  pub kept : State → List Line → State
   pub batch : ℕ
   pub result : Status
   pub disk : D
@@ -49,8 +51,9 @@ module _ {D S K : Type 0} (d : disks.Ghosts D) (i : sources.Ghosts S) (o : sinks
     pub reads : IsSomeAnd (d.seen r.disk) (LeftBy s runs)
     pub no_others : (c : Image) → d.left_since r.disk (d.moment r.disk) c → LeftBy s runs c
     pub told : IsSomeAnd (i.left r.source) (λ input. IsSome (i.left r.source'))
-    -- what `run` keeps
-    pub keeps : LinesKeep replies_text after (session r)
+    -- It kept what `run` keeps, and no lines leave a state as it is.
+    pub keeps : LinesKeep r.said r.kept (session r)
+    pub still : (u : State) → r.kept u [] ≡ u
 
   -- each of them finds what the one before it left
   abbrev pub Follow : State → Runs D S K → Type 0
@@ -62,9 +65,9 @@ module _ {D S K : Type 0} (d : disks.Ghosts D) (i : sources.Ghosts S) (o : sinks
   abbrev pub Reaches : State → Runs D S K → State → Type 0
   Reaches s None t = t ≡ s
   Reaches s (Ended runs r) t = (u : State) × Reaches s runs u
-      × OfRest (session r).source (λ input rest. (k : ℕ) × AreHeld (session r).sink input rest k × (t ≡ after u (take k (lines input))))
+      × OfRest (session r).source (λ input rest. (k : ℕ) × AreHeld (session r).sink input rest k × (t ≡ r.kept u (take k (lines input))))
   Reaches s (CutOff runs r) t = (u : State) × Reaches s runs u
-      × OfInput (session r).source (λ input. (k : ℕ) × (k ≤ length (lines input)) × (t ≡ after u (take k (lines input))))
+      × OfInput (session r).source (λ input. (k : ℕ) × (k ≤ length (lines input)) × (t ≡ r.kept u (take k (lines input))))
 
   -- an image spells a state that is reached
   abbrev pub SpellsReached : State → Runs D S K → Image → Type 0
