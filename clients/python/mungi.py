@@ -428,6 +428,26 @@ def _put_by(words: list[str], program: str | os.PathLike | None) -> str:
     return done.stdout
 
 
+def drop_cache(volume: str | os.PathLike) -> None:
+    """Has the system write what it keeps of a volume's file, and forget the rest. Call it after status 4, before the volume is opened again.
+
+    A block that the system could not write may stay in its cache: reads then give the new bytes, the next sync answers that all is well, and
+    the medium still has the old ones. Opening the volume after this call reads what the medium has. A file that is not there, or that can't
+    be written, is left alone.
+    """
+    try:
+        file = os.open(volume, os.O_RDONLY | os.O_CLOEXEC)
+    except OSError:
+        return
+    try:
+        with contextlib.suppress(OSError):
+            os.fsync(file)
+        with contextlib.suppress(OSError):
+            os.posix_fadvise(file, 0, 0, os.POSIX_FADV_DONTNEED)
+    finally:
+        os.close(file)
+
+
 def new_volume(
     path: str | os.PathLike,
     frames: int,

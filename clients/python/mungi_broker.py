@@ -485,6 +485,8 @@ class Broker:
         self.alone = 0
         self.ending: collections.Counter[int] = collections.Counter()
         self.process: subprocess.Popen | None = None
+        # Whether the run before ended with status 0, so that the system's cache has nothing that the medium lacks.
+        self.is_clean = False
         # Whether the program was started and has not answered yet, and whether its input was closed.
         self.is_opening = self.is_closing = False
         self.is_gathering = False
@@ -849,6 +851,8 @@ class Broker:
         self.is_opening, self.is_closing = True, False
         self.sent_bytes = 0
         self.begun = b""
+        if not self.is_clean:
+            mungi.drop_cache(self.volume)
         # Whoever ended in what was under way is not known, so all are asked for.
         self.asking = sorted(self.users.named - self.gone)
         try:
@@ -890,6 +894,7 @@ class Broker:
         except subprocess.TimeoutExpired:
             process.kill()
             status = process.wait()
+        self.is_clean = status == 0
         lost: collections.Counter[Connection] = collections.Counter()
         for entry in self.owed:
             connection = entry.connection if isinstance(entry, Note) else entry

@@ -111,11 +111,12 @@ EndsRun result = (result ≡ status.NoVolume) ⊎ EndsSession result
 -- What a stop leaves of a command that opens a volume and runs lines on it, whatever was pending.
 pub record HoldsSince {D S K : Type 0} (kept : List Line → State) (d : DiskUse D) (i : SourceUse S) (o : SinkUse K) : Type 0 where
   -- At each moment it leaves what it might have left before, or the state after some first lines.
-  pub moments : OfInput i (λ input. AlwaysLeft d (LeftOr d.facts d.old (λ c. (k : ℕ) × (k ≤ length (lines input)) × SpellsFirst kept input k c)))
-  -- At the end, whatever the status, these are at least the answered lines, and all of them came; and only if no line was answered it may
-  -- leave what it might have left before.
-  pub held : OfRest i (λ input rest. (c : Image) → MayLeave d c
-      → (MightHaveLeft d.facts d.old c × AreHeld o input rest 0) ⊎ ((k : ℕ) × AreHeld o input rest k × SpellsFirst kept input k c))
+  pub moments : OfInput i (λ input. AlwaysLeft d (LeftOr d.facts d.old (λ c.
+      (k : ℕ) × (k ≤ length (lines input)) × SpellsFirst kept input k c)))
+  -- At the end these are at least the answered lines, and all of them came. Only if no line was answered may it leave what it might have
+  -- left before.
+  pub held : OfRest i (λ input rest. (c : Image) → MayLeave d c → (MightHaveLeft d.facts d.old c × AreHeld o input rest 0)
+      ⊎ ((k : ℕ) × AreHeld o input rest k × SpellsFirst kept input k c))
 
 -- What is kept as lines run on the volume of a disk, by a machine that says and keeps this from a state on. The state is that of the
 -- volume that reads give at entry.

@@ -12,8 +12,8 @@ use Rattle.mg_serve.specs.Sessions.{AreHeld, OfInput, OfRest, use_of}
 use Rattle.mg_serve.specs.declared.status.Status.{Status}
 use Rattle.mg_commands.specs.Headline.{LinesKeep, Session, session_of}
 
--- A run: what its machine says and keeps of lines from a state on, which for `run` are `replies_text` and `after`; its disk, its source and
--- its sink as it found them and as it left them; and the rest of a session.
+-- A run: what its machine says and keeps of lines from a state on, which for `run` are `replies_text` and `after`; its disk, its
+-- source and its sink as it found them and as it left them; and the rest of a session.
 pub record Run (D S K : Type 0) : Type 0 where
   pub said : State → List Line → List ℕ
   pub kept : State → List Line → State
@@ -28,8 +28,8 @@ pub record Run (D S K : Type 0) : Type 0 where
   pub steps : ℕ
   pub steps' : ℕ
 
--- Runs, the last one last. Each one ended, by itself or since its disk, its source or its sink failed at every call from some moment on;
--- or it was cut off at some moment, as its process was killed or the machine stopped.
+-- Runs, the last one last. Each one ended, by itself or since its disk, its source or its sink failed at every call from some
+-- moment on; or it was cut off at some moment, as its process was killed or the machine stopped.
 pub data Runs (D S K : Type 0) : Type 0 where
   None : Runs D S K
   Ended : Runs D S K → Run D S K → Runs D S K
@@ -37,7 +37,8 @@ pub data Runs (D S K : Type 0) : Type 0 where
 
 module _ {D S K : Type 0} (d : disks.Ghosts D) (i : sources.Ghosts S) (o : sinks.Ghosts K) where
   abbrev pub session : Run D S K → Session D S K
-  session r = session_of r.batch r.result (use_of d r.disk r.disk') (use_of i r.source r.source') (use_of o r.sink r.sink') r.steps r.steps'
+  session r = session_of r.batch r.result (use_of d r.disk r.disk') (use_of i r.source r.source') (use_of o r.sink r.sink')
+      r.steps r.steps'
 
   -- the images that a stop may leave after runs that began on a volume of the state s
   abbrev pub LeftBy : State → Runs D S K → Image → Type 0
@@ -45,11 +46,12 @@ module _ {D S K : Type 0} (d : disks.Ghosts D) (i : sources.Ghosts S) (o : sinks
   LeftBy s (Ended runs r) c = d.left_since r.disk' (d.moment r.disk') c
   LeftBy s (CutOff runs r) c = d.left_since r.disk' (d.moment r.disk) c
 
-  -- A run finds its disk as these left it: reads give one of the images, and a stop may leave no others. So it is after a process that ended
-  -- or was killed, with what is pending, and after a machine that stopped and left one of them. Its source tells what it has left.
+  -- A run finds its disk as these left it: reads give one of the images, and a stop may leave no others. So it is after a process
+  -- that ended or was killed, with what is pending, and after a machine that stopped and left one of them.
   pub record Finds (s : State) (runs : Runs D S K) (r : Run D S K) : Type 0 where
     pub reads : IsSomeAnd (d.seen r.disk) (LeftBy s runs)
     pub no_others : (c : Image) → d.left_since r.disk (d.moment r.disk) c → LeftBy s runs c
+    -- Its source tells what it has left.
     pub told : IsSomeAnd (i.left r.source) (λ input. IsSome (i.left r.source'))
     -- It kept what `run` keeps, and no lines leave a state as it is.
     pub keeps : LinesKeep r.said r.kept (session r)
@@ -65,7 +67,8 @@ module _ {D S K : Type 0} (d : disks.Ghosts D) (i : sources.Ghosts S) (o : sinks
   abbrev pub Reaches : State → Runs D S K → State → Type 0
   Reaches s None t = t ≡ s
   Reaches s (Ended runs r) t = (u : State) × Reaches s runs u
-      × OfRest (session r).source (λ input rest. (k : ℕ) × AreHeld (session r).sink input rest k × (t ≡ r.kept u (take k (lines input))))
+      × OfRest (session r).source (λ input rest. (k : ℕ) × AreHeld (session r).sink input rest k
+      × (t ≡ r.kept u (take k (lines input))))
   Reaches s (CutOff runs r) t = (u : State) × Reaches s runs u
       × OfInput (session r).source (λ input. (k : ℕ) × (k ≤ length (lines input)) × (t ≡ r.kept u (take k (lines input))))
 
@@ -76,4 +79,5 @@ module _ {D S K : Type 0} (d : disks.Ghosts D) (i : sources.Ghosts S) (o : sinks
   -- After such runs a stop leaves no other image, and one run more opens a state that they reach.
   pub record RunsHold : Type 0 where
     pub left : (s : State) (runs : Runs D S K) → Follow s runs → (c : Image) → LeftBy s runs c → SpellsReached s runs c
-    pub opened : (s : State) (runs : Runs D S K) → Follow s runs → (r : Run D S K) → Finds s runs r → IsSomeAnd (d.seen r.disk) (SpellsReached s runs)
+    pub opened : (s : State) (runs : Runs D S K) → Follow s runs → (r : Run D S K) → Finds s runs r
+        → IsSomeAnd (d.seen r.disk) (SpellsReached s runs)

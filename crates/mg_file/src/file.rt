@@ -76,6 +76,11 @@ pub struct Found {
 /// what is written, a block or a run of them. The next call tries again. A sync is `sync_data` of the file. After an Ok the
 /// file's bytes are on the medium, and also all that reading them back takes, such as the file's size. The time of its last
 /// change need not be there.
+///
+/// A sync that fails is where a real file may not keep the contract. There a failed sync leaves pending what was pending. Linux may drop a
+/// block that it could not write: reads give the new bytes while they are in its cache, the next sync answers Ok, and the medium has the
+/// old ones. So after a failed call whoever runs the program has the system forget what it keeps of the file, by `fsync` and
+/// `posix_fadvise(POSIX_FADV_DONTNEED)`, before the file is opened again.
 #[derive(Drop)]
 pub struct FileDisk<'a, R: Files + Clock, W: Watch = Unwatched>
 where
