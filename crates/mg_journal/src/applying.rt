@@ -46,7 +46,7 @@ impl HomeBuffers {
         })
     }
 
-    /// Writes the bodies at these places to their homes, in order, and syncs them. Nothing is pending before and after.
+    /// Writes the bodies at these places to their homes, in order, and syncs them. If there are none no call is made.
     pub(crate) fn write<D: Disk>(
         &mut self,
         disk: &mut D,
@@ -54,11 +54,10 @@ impl HomeBuffers {
     ) -> Result<(), Failed>
         requires within_disk { globals_block ≤ D.block_count disk.old }
         requires all_on_disk { All (IsPlace (D.block_count disk.old)) places.now }
-        requires settled { NothingPending D.Disk disk.old }
-        ensures any_moment { ForSome (D.seen disk.old) (λ image. Leaves D.Disk disk.old disk.new (SameBut (λ k. names (filled image places.now) k ≡ true) image)) }
+        ensures any_moment { NothingPending D.Disk disk.old → ForSome (D.seen disk.old) (λ image. Leaves D.Disk disk.old disk.new (SameBut (λ k. names (filled image places.now) k ≡ true) image)) }
         ensures written { OnOk result (D.seen disk.new ≡ option_map (λ image. written image (filled image places.now)) (D.seen disk.old)) }
         ensures torn { Becomes (λ image. SameBut (λ k. names (filled image places.now) k ≡ true) image) (D.seen disk.old) (D.seen disk.new) }
-        ensures settled { OnOk result (NothingPending D.Disk disk.new) }
+        ensures settled { OnOk result (NothingPending D.Disk disk.old → NothingPending D.Disk disk.new) }
         ensures calls { DiskCalls D.Disk disk.old disk.new result }
     {
         let (_, end) = span_of(places, 0, GLOBALS_BLOCK);
@@ -212,11 +211,10 @@ fn apply<D: Disk>(
     requires bodies { (k : ℕ) → k < length places.now → nth_body places.now k < length journal.now }
     requires read { ForSome (D.seen disk.old) (HasBodies globals_block places.now journal.now) }
     requires room { min (length places.now) body_limit ≤ length run.old }
-    requires settled { NothingPending D.Disk disk.old }
-    ensures any_moment { ForSome (D.seen disk.old) (λ image. Leaves D.Disk disk.old disk.new (SameBut (λ k. names (filled image places.now) k ≡ true) image)) }
+    ensures any_moment { NothingPending D.Disk disk.old → ForSome (D.seen disk.old) (λ image. Leaves D.Disk disk.old disk.new (SameBut (λ k. names (filled image places.now) k ≡ true) image)) }
     ensures written { OnOk result (D.seen disk.new ≡ option_map (λ image. written image (filled image places.now)) (D.seen disk.old)) }
     ensures torn { Becomes (λ image. SameBut (λ k. names (filled image places.now) k ≡ true) image) (D.seen disk.old) (D.seen disk.new) }
-    ensures settled { OnOk result (NothingPending D.Disk disk.new) }
+    ensures settled { OnOk result (NothingPending D.Disk disk.old → NothingPending D.Disk disk.new) }
     ensures calls { DiskCalls D.Disk disk.old disk.new result }
 {
     if places.len() == 0 {

@@ -12,11 +12,11 @@ use Rattle.mg_journal.proofs.ApplyRuns.{named_row, none_written, row_applied, ro
 use Rattle.mg_journal.proofs.applying.apply.Goals as goal
 
 pub returns-then-places-eq0-clause-any_moment : goal.returns-then-places-eq0-clause-any_moment
-returns-then-places-eq0-clause-any_moment g c image told =
+returns-then-places-eq0-clause-any_moment g c pending image told =
     let disk = c.args.disk.now in
     let P : ℕ → Type 0 = λ i. names (filled image c.args.places.now) i ≡ true in
     leaves_yet g.D.Disk disk (SameBut P image) (g.met.D.Disk.now_has_been disk)
-    (λ x left. same_as P image x (only_image g.D.Disk disk image x (record { told = told; settled = c.requires.settled }) left))
+    (λ x left. same_as P image x (only_image g.D.Disk disk image x (record { told = told; settled = pending }) left))
 
 pub returns-then-places-eq0-clause-written : goal.returns-then-places-eq0-clause-written
 returns-then-places-eq0-clause-written g c = none_written c.args.places.now (g.D.Disk.seen c.args.disk.now) (omega (arith, c.if-places-eq0.true))
@@ -26,12 +26,12 @@ returns-then-places-eq0-clause-torn g c =
     becomes-same (λ image. SameBut (λ k. names (filled image c.args.places.now) k ≡ true) image) _ _ refl (λ a told. same_as (λ k. names (filled a c.args.places.now) k ≡ true) a a refl)
 
 pub returns-in_err-write_blocks-clause-any_moment : goal.returns-in_err-write_blocks-clause-any_moment
-returns-in_err-write_blocks-clause-any_moment g c image told =
+returns-in_err-write_blocks-clause-any_moment g c pending image told =
     let places = c.args.places.now in
     let row = c.count_row-count.ensures in
     let first = c.loop-first.first in
     let P : ℕ → Type 0 = λ i. names (filled image places) i ≡ true in
-    (torn_at g.D.Disk P image c.args.disk.now c.loop-first.disk c.write_blocks.new.self (InRange (nth_home places first) _) (SameBut P image) (c.loop-first.invariant.tracks image told)
+    (torn_at g.D.Disk P image c.args.disk.now c.loop-first.disk c.write_blocks.new.self (InRange (nth_home places first) _) (SameBut P image) (c.loop-first.invariant.tracks pending image told)
     c.write_blocks.ensures.stops (named_row image places first c.count_row-count.result c.row_among-row.result.now row.there row.row c.row_among-row.ensures.long) (λ x same. same)).leaves
 
 pub returns-in_err-write_blocks-clause-torn : goal.returns-in_err-write_blocks-clause-torn
@@ -60,9 +60,9 @@ loop-first-preserved g c =
           c.requires.all_on_disk counted.there counted.row made.row made.long c.requires.read inv.written c.write_blocks.ensures.unknown c.in_ok-write_blocks.ensures.written;
       torn = torn_more (λ image i. names (filled image places) i ≡ true) (InRange (nth_home places first) _) (g.D.Disk.seen c.args.disk.now) (g.D.Disk.seen c.loop-first.disk) (g.D.Disk.seen c.write_blocks.new.self)
           (λ image. named_row image places first n row counted.there counted.row made.long) inv.torn c.write_blocks.ensures.unknown;
-      tracks = λ image told.
+      tracks = λ pending image told.
           let P : ℕ → Type 0 = λ i. names (filled image places) i ≡ true in
-          torn_at g.D.Disk P image c.args.disk.now c.loop-first.disk c.write_blocks.new.self (InRange (nth_home places first) _) (SameBut P image) (inv.tracks image told)
+          torn_at g.D.Disk P image c.args.disk.now c.loop-first.disk c.write_blocks.new.self (InRange (nth_home places first) _) (SameBut P image) (inv.tracks pending image told)
           c.write_blocks.ensures.stops (named_row image places first n row counted.there counted.row made.long) (λ x same. same);
     }
 
@@ -74,9 +74,9 @@ write_blocks-requires g c =
     record { in_range = omega (arith, fits, c.loop-first.invariant.blocks) }
 
 pub returns-clause-any_moment : goal.returns-clause-any_moment
-returns-clause-any_moment g c image told =
+returns-clause-any_moment g c pending image told =
     let Q : Image → Type 0 = SameBut (λ i. names (filled image c.args.places.now) i ≡ true) image in
-    (quiet g.D.Disk c.args.disk.now c.loop-first.disk c.sync.new.self Q Q (c.loop-first.invariant.tracks image told) c.sync.ensures.stops).leaves
+    (quiet g.D.Disk c.args.disk.now c.loop-first.disk c.sync.new.self Q Q (c.loop-first.invariant.tracks pending image told) c.sync.ensures.stops).leaves
 
 pub returns-clause-torn : goal.returns-clause-torn
 returns-clause-torn g c =

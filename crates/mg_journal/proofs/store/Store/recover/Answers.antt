@@ -22,11 +22,11 @@ recover-requires-clause-looks g c = record {
 
 pub returns-in-Ok-clause-any_moment : goal.returns-in-Ok-clause-any_moment
 returns-in-Ok-clause-any_moment g c image told =
-    settled_then g.D.Disk c.args.view.total _ _ _ image (g.met.D.Disk.now_has_been c.args.disk.now) c.sync.ensures.stops (c.recover.ensures.any_moment image (c.sync.ensures.seen ∙ told))
+    settled_then g.D.Disk c.args.view.total _ _ _ image (g.met.D.Disk.now_has_been c.args.disk.now) c.sync.ensures.stops (c.recover.ensures.any_moment c.in_ok-sync.ensures.durable image (c.sync.ensures.seen ∙ told))
 
 pub returns-in-Err-clause-any_moment : goal.returns-in-Err-clause-any_moment
 returns-in-Err-clause-any_moment g c image told =
-    settled_then g.D.Disk c.args.view.total _ _ _ image (g.met.D.Disk.now_has_been c.args.disk.now) c.sync.ensures.stops (c.recover.ensures.any_moment image (c.sync.ensures.seen ∙ told))
+    settled_then g.D.Disk c.args.view.total _ _ _ image (g.met.D.Disk.now_has_been c.args.disk.now) c.sync.ensures.stops (c.recover.ensures.any_moment c.in_ok-sync.ensures.durable image (c.sync.ensures.seen ∙ told))
 
 pub returns-in-Ok-clause-opened : goal.returns-in-Ok-clause-opened
 returns-in-Ok-clause-opened g c =
@@ -41,7 +41,7 @@ returns-in-Ok-clause-opened g c =
       stands = record {
         journal = omega arith;
         room = omega (arith, c.recover.ensures.calls.blocks, c.sync.ensures.blocks);
-        settled = c.in-Ok.ensures.settled;
+        settled = c.in-Ok.ensures.settled c.in_ok-sync.ensures.durable;
         fits = λ now told.
             fits_held (record { total = total; live = true; opened = 0; table = c.clear.new.self.table }) now (subst (λ t. HoldsOpen total 0 t now) (sym c.clear.ensures.none) (closed_holds total now (closed now told)));
       };
