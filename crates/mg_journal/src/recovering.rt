@@ -1,7 +1,7 @@
 // Recovery: what open segments hold is written to its homes, and then the gates are closed.
 ghost use Rattle.std.specs.Prelude.{◌≡◌, ◌≤◌, ◌<◌, ℕ, OnOk, Some, true};
 ghost use Rattle.std.specs.Option.{ForSome};
-ghost use Rattle.mg_disk.specs.Stops.{Becomes, DiskCalls, Leaves, NothingPending};
+ghost use Rattle.mg_disk.specs.Stops.{Becomes, DiskCalls, Leaves, LeftOr, NothingPending};
 ghost use Rattle.mg_model.specs.Layout.{globals_block, segment_count};
 ghost use Rattle.mg_model.specs.Replay.{is_open, replay};
 ghost use Rattle.mg_journal.specs.Contents.{SameContents};
@@ -66,6 +66,22 @@ fn close_gates<D: Disk>(disk: &mut D, opened: u64) -> Result<(), Failed>
         close_gate(disk, segment, segment < opened)?;
     }
     Ok(())
+}
+
+/// Recovers a disk that this view fits, whatever is pending there. A run that was killed may have left what reads give pending, and a
+/// stop may still lose it then: so it is synced before the first home is written.
+#[tactic(auto, using(crate::proofs::OpenSteps::settled_then))]
+pub(crate) fn sync_and_recover<D: Disk>(disk: &mut D, view: &mut View) -> Result<(), Failed>
+    requires looks { IsViewOf D.Disk view.old disk.old }
+    ensures any_moment { ForSome (D.seen disk.old) (λ image. Leaves D.Disk disk.old disk.new (LeftOr D.Disk disk.old (SameContents view.old.total image))) }
+    ensures contents { Becomes (SameContents view.old.total) (D.seen disk.old) (D.seen disk.new) }
+    ensures recovered { OnOk result (Becomes (IsRecovered view.old.total) (D.seen disk.old) (D.seen disk.new)) }
+    ensures settled { OnOk result (NothingPending D.Disk disk.new) }
+    ensures same { view.new ≡ view.old }
+    ensures calls { DiskCalls D.Disk disk.old disk.new result }
+{
+    disk.sync()?;
+    recover(disk, view, 0)
 }
 
 /// Recovers a disk that this view fits. Each home is written once, from its newest body, in the order of blocks, and is

@@ -6,7 +6,7 @@ use Rattle.mg_disk.specs.Stops.{Becomes, CountGoes, NothingPending}
 use Rattle.mg_model.specs.Replay.{written}
 use Rattle.mg_journal.specs.Applied.{filled}
 use Rattle.mg_journal.specs.Contents.{names}
-use Rattle.mg_journal.proofs.applying.apply.Given as goal
+use Rattle.mg_journal.proofs.applying.put_homes.Given as goal
 
 -- the bodies up to this one are at their homes, and only homes differ, both in what reads give and in what a stop leaves
 abbrev pub invariant-loop-first : goal.invariant-loop-first
