@@ -4,9 +4,8 @@
 //! object with a device reaches the device, and says at the end which devices are left. What the layer above learns is in its contract,
 //! for every disk, source and sink.
 //!
-//! The definitions are in `specs/`: `Commands` (what the words spell), `Machine` (the machine with devices) and `Headline` (what
-//! is kept, in one record), and `History` (runs one after another); for the layers below it `Sessions` (lines kept and answered, and the devices after them), `Stepping`
-//! (one line) and `Running` (lines on a volume that was opened).
+//! The definitions are in `specs/`: `Commands` (what the words spell), `Machine` (the machine with devices), `Headline` (what is kept,
+//! in one record) and `History` (runs one after another); `DeviceKernels` and `Stepping` are for the proofs.
 #![tactic(auto)]
 
 mod device_kernel;
