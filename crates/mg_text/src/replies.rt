@@ -79,7 +79,14 @@ fn push_reply(answer: &Reply, out: &mut Buffer)
             push_number(out, *number);
             push_word(out, *password);
         }
-        Reply::About(base, pages, account, passwords, entries, ext) => {
+        Reply::About {
+            base,
+            pages,
+            account,
+            passwords,
+            entries,
+            ext,
+        } => {
             push_word(out, *base);
             push_number(out, *pages);
             push_number(out, *account);
@@ -87,7 +94,7 @@ fn push_reply(answer: &Reply, out: &mut Buffer)
             push_number(out, *entries);
             push_number(out, *ext);
         }
-        Reply::Slots(count, bases) => {
+        Reply::Slots { count, bases } => {
             push_number(out, *count);
             push_words(out, &bases[..*count as usize]);
         }

@@ -5,9 +5,19 @@ use arrayvec::ArrayVec;
 use mg_model::{Fault, Refusal, Reply, ThrState};
 use mg_text::print_reply;
 
-const ABOUT: Reply = Reply::About(1 << 32, 2, 3, 4, 5, 1);
+const ABOUT: Reply = Reply::About {
+    base: 1 << 32,
+    pages: 2,
+    account: 3,
+    passwords: 4,
+    entries: 5,
+    ext: 1,
+};
 
-const SLOTS: Reply = Reply::Slots(2, [1 << 32, 0, 0, 0, 0, 0, 0, 0]);
+const SLOTS: Reply = Reply::Slots {
+    count: 2,
+    bases: [1 << 32, 0, 0, 0, 0, 0, 0, 0],
+};
 
 fn is_printed(reply: Reply, line: &[u8]) -> bool
     requires { HasFewSlots reply }
