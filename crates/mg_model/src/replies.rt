@@ -2,7 +2,7 @@
 ghost use Rattle.std.specs.Prelude.{◌≡◌, ◌<◌};
 ghost use Rattle.mg_model.specs.Abbreviations.{refusal_number};
 
-use crate::threads::ThrState;
+use crate::threads::After;
 
 /// Why a call is refused. A refused call changes nothing.
 #[derive(Clone, Copy, Debug, Drop, PartialEq, Eq)]
@@ -85,10 +85,10 @@ pub enum Reply {
     About { base: u64, pages: u64, account: u64, passwords: u64, entries: u64, ext: u64 },
     /// How many slots the present frame has, and their bases in order; 0 past the count, which is at most 8.
     Slots { count: u64, bases: [u64; 8] },
-    /// What the thread is after its turn; None if it ended itself.
-    Turned(Option<ThrState>),
+    /// What the thread is after its turn.
+    Turned(After),
     /// Which thread had the turn, and what it is after it.
-    Ran(u64, Option<ThrState>),
+    Ran(u64, After),
     /// An account: its balance, what it owes, and the pages that it pays for.
     Funds(u64, u64, u64),
     /// A collection of rent: the new period, the rate, and the sum of all that was paid.

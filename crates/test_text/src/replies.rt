@@ -2,7 +2,7 @@
 ghost use Rattle.mg_model.specs.FewSlots.{HasFewSlots};
 
 use arrayvec::ArrayVec;
-use mg_model::{Fault, Refusal, Reply, ThrState};
+use mg_model::{After, Fault, Refusal, Reply};
 use mg_text::print_reply;
 
 const ABOUT: Reply = Reply::About {
@@ -40,7 +40,7 @@ fn replies(rt: HostRuntime) {
         is_printed(ABOUT, b"ok 0x0000000100000000 2 3 4 5 1\n"),
         is_printed(SLOTS, b"ok 2 0x0000000100000000 0x0000000000000000\n"),
         is_printed(
-            Reply::Ran(255, Some(ThrState::Faulted(Fault::Opcode))),
+            Reply::Ran(255, After::Faulted(Fault::Opcode)),
             b"ok 255 Faulted Opcode\n",
         ),
         is_printed(
