@@ -6,8 +6,8 @@ use Rattle.std.proofs.lemmas.Bool.{cases_lt}
 use Rattle.std.proofs.lemmas.List.{ext_get_or, get_or-set_other, get_or-set_same, get_or-take, get_or_past, length-set, length-take-le}
 use Rattle.mg_disk.specs.Disk.{HasBlocks, Image, InRange, SameBut, SeenBut, TornAt, block_at, only_place}
 use Rattle.mg_disk.specs.PlaceLemmas.{same_after}
-use Rattle.mg_disk.specs.Runs.{leaves_then, leaves_wider, nothing_none, nothing_then, time_then}
-use Rattle.mg_disk.specs.Stops.{CountGoes, CountRose, Leaves, TimeGoes}
+use Rattle.mg_disk.specs.Runs.{leaves_then, leaves_wider, nothing_none, nothing_then, time_then, time_wider, torn_once}
+use Rattle.mg_disk.specs.Stops.{CountGoes, CountRose, FromLeft, Leaves, MightHaveLeft, NothingPending, TimeGoes}
 use Rattle.mg_disk.specs.declared.disk.Disk.{Ghosts}
 use Rattle.mg_faults.specs.Faults.{count_none, count_then, then_rose}
 use Rattle.mg_mirror.specs.Copy.{AreFrom, AreSame, Copies, CopySteps, IsCopied, LeavesCopy, MayCopy, first_byte}
@@ -20,18 +20,7 @@ still_told places None None same = refl
 still_told places (Some x) None same = absurd same
 still_told places None (Some y) same = absurd same
 
--- an image with the same blocks but at these places is told
-pub record IsThen (places : ℕ → Type 0) (image : Image) (told : Option Image) : Type 0 where
-  pub c : Image
-  pub is : told ≡ Some c
-  pub same : SameBut places image c
-
-pub seen_then : (places : ℕ → Type 0) (old new : Option Image) (image : Image) → SeenBut places old new → old ≡ Some image → IsThen places image new
-seen_then places None new image same is = absurd cc
-seen_then places (Some s) None image same is = absurd same
-seen_then places (Some s) (Some c) image same is = grind (arith)
-
--- and the image before
+-- an image with the same blocks but at these places was told before
 pub record IsBefore (places : ℕ → Type 0) (image : Image) (told : Option Image) : Type 0 where
   pub s : Image
   pub is : told ≡ Some s
@@ -124,6 +113,10 @@ but_first n x s c long long' copied same = record { count = length-take-le n c e
         past : n ≤ k → block_at (take n c) k ≡ block_at (take n x) k
         past above = beyond (take n c) (length-take-le n c enough) above ∙ sym (beyond (take n x) (length-take-le n x long) above)
 
+-- a closed block 0 stays closed
+still_closed : (s c : Image) → first_byte s ≡ 0 → SameBut (λ k. 1 ≤ k) s c → first_byte c ≡ 0
+still_closed s c zero same = ap (λ (block : List ℕ). slice_index block 0) (same.others 0 (λ low. omega arith)) ∙ zero
+
 -- once block 0 is written too, all are copied
 pub all_copied : (n : ℕ) (first : Image) (was from behind last : Option Image) → from ≡ was → 1 ≤ length first → last ≡ option_map (λ image. slice_set image 0 (block_at first 0)) behind → ForSome was (HasBlocks 0 first)
     → ForSome was (λ x. n ≤ length x) → ForSome behind (λ s. n ≤ length s) → ForSome from (λ x. ForSome behind (AreFrom 1 n x)) → IsCopied n was last
@@ -183,19 +176,39 @@ module _ {E : Type 0} (e : Ghosts E) where
           ⊎_elim (λ was. (t.0, was, record { count = t.2.count; others = λ k out. t.2.others k (λ at. out (among k at)) }))
           (λ torn. (torn.0, torn.1, same_after places these places torn.0 t.0 c (λ k at. at) among torn.2 t.2)) (a.now t.0 t.1)
 
--- the three phases
-module _ {E : Type 0} (e : Ghosts E) (n : ℕ) (image x : Image) where
-  pub first_phase : (old new : E) → Leaves e old new (SameBut (only_place 0) image) → Leaves e old new (MayCopy n image x)
-  first_phase old new leaves = leaves_wider e old new (SameBut (only_place 0) image) (MayCopy n image x) leaves (λ c same. inl (same_cut n (only_place 0) image c same))
+  -- a run of blocks after block 0, and writes after its first one
+  pub torn_behind : (old mid new : E) (count start : ℕ) → 1 ≤ start → TimeGoes e old mid (TornAt (InRange 1 count) (MightHaveLeft e old)) → TimeGoes e mid new (TornAt (λ k. start ≤ k) (MightHaveLeft e mid))
+      → Leaves e old new (TornAt (λ k. 1 ≤ k) (MightHaveLeft e old))
+  torn_behind old mid new count start low a b =
+      torn_once e old new (λ k. 1 ≤ k) (torn_more old mid new (λ k. 1 ≤ k) (λ k. start ≤ k) (λ k at. omega arith) (time_wider e old mid (TornAt (InRange 1 count) (MightHaveLeft e old)) (TornAt (λ k. 1 ≤ k) (MightHaveLeft e old)) a wide) b)
+    where
+      wide : (c : Image) → TornAt (InRange 1 count) (MightHaveLeft e old) c → TornAt (λ k. 1 ≤ k) (MightHaveLeft e old) c
+      wide c t = (t.0, t.1, record { count = t.2.count; others = λ k out. t.2.others k (λ at. out at.from) })
 
-  still_closed : (s c : Image) → first_byte s ≡ 0 → SameBut (λ k. 1 ≤ k) s c → first_byte c ≡ 0
-  still_closed s c zero same = ap (λ (block : List ℕ). slice_index block 0) (same.others 0 (λ low. omega arith)) ∙ zero
+-- what a stop may leave, phase by phase, of a disk that x is copied to
+module _ {E : Type 0} (e : Ghosts E) (n : ℕ) (x : Image) (to : E) where
+  abbrev pub IsCopying : Image → Type 0
+  IsCopying = FromLeft e to (λ image. MayCopy n image x)
 
-  pub second_phase : (old mid new : E) (s : Image) → first_byte s ≡ 0 → Leaves e old mid (MayCopy n image x) → Leaves e mid new (SameBut (λ k. 1 ≤ k) s) → Leaves e old new (MayCopy n image x)
-  second_phase old mid new s zero a b = leaves_then e old mid new (SameBut (λ k. 1 ≤ k) s) (MayCopy n image x) a b (λ c same. inr (inl (still_closed s c zero same)))
+  pub first_phase : (new : E) → Leaves e to new (TornAt (only_place 0) (MightHaveLeft e to)) → Leaves e to new IsCopying
+  first_phase new leaves = leaves_wider e to new (TornAt (only_place 0) (MightHaveLeft e to)) IsCopying leaves (λ c torn. (torn.0, torn.1, inl (same_cut n (only_place 0) torn.0 c torn.2)))
 
-  pub third_phase : (old mid new : E) (s : Image) → n ≤ length x → n ≤ length s → AreFrom 1 n x s → Leaves e old mid (MayCopy n image x) → Leaves e mid new (SameBut (only_place 0) s) → Leaves e old new (MayCopy n image x)
-  third_phase old mid new s long long' copied a b = leaves_then e old mid new (SameBut (only_place 0) s) (MayCopy n image x) a b (λ c same. inr (inr (but_first n x s c long long' copied same)))
+  -- writes after it: what a stop may leave of their images comes from the same one as these
+  next_phase : (mid new : E) (places : ℕ → Type 0) → ((a d c : Image) → MightHaveLeft e mid d → SameBut places d c → MayCopy n a x c)
+      → Leaves e to mid IsCopying → Leaves e mid new (TornAt places (MightHaveLeft e mid)) → Leaves e to new IsCopying
+  next_phase mid new places may so_far run = leaves_then e to mid new (TornAt places (MightHaveLeft e mid)) IsCopying so_far run sub
+    where
+      sub : (c : Image) → TornAt places (MightHaveLeft e mid) c → IsCopying c
+      sub c torn =
+          ⊎_elim {C = IsCopying c} (λ before. (torn.0, before, may torn.0 torn.0 c torn.1 torn.2)) (λ from. (from.0, from.1, may from.0 torn.0 c torn.1 torn.2)) (so_far.time.now torn.0 torn.1)
+
+  pub second_phase : (mid new : E) → NothingPending e mid → ForSome (e.seen mid) (λ s. first_byte s ≡ 0)
+      → Leaves e to mid IsCopying → Leaves e mid new (TornAt (λ k. 1 ≤ k) (MightHaveLeft e mid)) → Leaves e to new IsCopying
+  second_phase mid new settled closed = next_phase mid new (λ k. 1 ≤ k) (λ a d c left same. inr (inl (still_closed d c (closed d (settled d left)) same)))
+
+  pub third_phase : (mid new : E) → NothingPending e mid → n ≤ length x → ForSome (e.seen mid) (λ s. n ≤ length s) → ForSome (e.seen mid) (AreFrom 1 n x)
+      → Leaves e to mid IsCopying → Leaves e mid new (TornAt (only_place 0) (MightHaveLeft e mid)) → Leaves e to new IsCopying
+  third_phase mid new settled long long' copied = next_phase mid new (only_place 0) (λ a d c left same. inr (inr (but_first n x d c long (long' d (settled d left)) (copied d (settled d left)) same)))
 
 -- a copy of a disk that was read before
 module _ {D E F : Type 0} (d : Ghosts D) (e : Ghosts E) (n : ℕ) (from mid from' : D) (to to' : E) where

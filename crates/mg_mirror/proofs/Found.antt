@@ -1,6 +1,6 @@
 -- What a stop may leave of a mirror as it was opened.
-use Rattle.std.specs.Prelude.{◌≡◌, ◌≢◌, ℕ, Bool, IsTrue, take, Option, Some, None, IsSomeAnd}
-use Rattle.std.proofs.Common.{refl, sym, ◌∙◌, ⊎_elim}
+use Rattle.std.specs.Prelude.{◌≡◌, ◌≢◌, ℕ, Bool, IsTrue, Option, Some, None, IsSomeAnd}
+use Rattle.std.proofs.Common.{refl, ◌∙◌, ⊎_elim}
 use Rattle.mg_disk.specs.Disk.{Image, Moment, OnlySeen}
 use Rattle.mg_mirror.specs.Copy.{IsCopied}
 use Rattle.mg_mirror.specs.Mirror.{CutOf, LeftSince, moment_of}

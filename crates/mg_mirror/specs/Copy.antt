@@ -2,7 +2,7 @@
 use Rattle.std.specs.Prelude.{◌≡◌, ◌⊎◌, ◌<◌, ◌≤◌, ℕ, Bool, false, IsTrue, is_some, length, slice_index, take, Option, Result, IfOk, OnErr}
 use Rattle.std.specs.Option.{ForSome}
 use Rattle.mg_disk.specs.Disk.{HasBlocks, Image, InRange, SameBut, block_at, only_place}
-use Rattle.mg_disk.specs.Stops.{Leaves, NothingPending, WritesNothing, CountGoes, CountRose}
+use Rattle.mg_disk.specs.Stops.{FromLeft, Leaves, NothingPending, WritesNothing, CountGoes, CountRose}
 use Rattle.mg_disk.specs.declared.disk.Disk.{Ghosts}
 
 -- two disks have n blocks, and these, no more than n, are the first ones of the one that is copied
@@ -33,9 +33,10 @@ first_byte image = slice_index (block_at image 0) 0
 abbrev pub MayCopy : ℕ → Image → Image → Image → Type 0
 MayCopy n image x c = SameBut (only_place 0) (take n image) (take n c) ⊎ ((first_byte c ≡ 0) ⊎ SameBut (only_place 0) (take n x) (take n c))
 
--- At each moment while the first n blocks of what a disk gives are copied to this one, which nothing was pending on, a stop leaves that.
+-- At each moment while the first n blocks of what a disk gives are copied to this one, whatever was pending on it, an image that a stop
+-- may leave of it comes so from one that a stop might have left before.
 abbrev pub LeavesCopy : {E : Type 0} → Ghosts E → ℕ → Option Image → E → E → Type 0
-LeavesCopy e n from to to' = NothingPending e to → ForSome (e.seen to) (λ image. ForSome from (λ x. Leaves e to to' (MayCopy n image x)))
+LeavesCopy e n from to to' = ForSome from (λ x. Leaves e to to' (FromLeft e to (λ image. MayCopy n image x)))
 
 -- Calls that read one disk and write on another.
 pub record CopySteps {D E : Type 0} (d : Ghosts D) (e : Ghosts E) (from from' : D) (to to' : E) : Type 0 where

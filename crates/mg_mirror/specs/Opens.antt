@@ -36,8 +36,8 @@ pub record Opens {D E K : Type 0} (d : Ghosts D) (e : Ghosts E) (k : counts.Ghos
   pub right_kept : from ≡ Right → IfOk result (λ m. WritesNothing e right m.right)
   pub left_back : from ≡ Left → IfErr result (λ disks. WritesNothing d left disks.left)
   pub right_back : from ≡ Right → IfErr result (λ disks. WritesNothing e right disks.right)
-  -- On the other disk, whatever opening answers, a stop within the copy leaves its blocks as they were but for block 0, a closed block 0,
-  -- or the blocks of that disk but for block 0, of those that the mirror has.
+  -- On the other disk, whatever opening answers and whatever was pending there, a stop within the copy leaves, of the blocks that the
+  -- mirror has, those that it might have left before but for block 0, a closed block 0, or those of that disk but for block 0.
   pub right_copy : from ≡ Left → IfOk result (λ m. LeavesCopy e (min (d.block_count left) (e.block_count right)) (d.seen left) right m.right)
   pub left_copy : from ≡ Right → IfOk result (λ m. LeavesCopy d (min (d.block_count left) (e.block_count right)) (e.seen right) left m.left)
   pub right_torn : from ≡ Left → IfErr result (λ disks. LeavesCopy e (min (d.block_count left) (e.block_count right)) (d.seen left) right disks.right)

@@ -2,8 +2,8 @@
 // the copy leaves nothing there that counts as a volume.
 ghost use Rattle.std.specs.Prelude.{◌≡◌, ◌+◌, ◌≤◌, IfOk, IsTrue, OnOk, length};
 ghost use Rattle.std.specs.Option.{ForSome};
-ghost use Rattle.mg_disk.specs.Disk.{InRange, SameBut, SeenBut, TornAt, only_place};
-ghost use Rattle.mg_disk.specs.Stops.{DiskCalls, Leaves, NothingPending, TimeGoes};
+ghost use Rattle.mg_disk.specs.Disk.{InRange, SeenBut, TornAt, only_place};
+ghost use Rattle.mg_disk.specs.Stops.{DiskCalls, Leaves, MightHaveLeft, NothingPending, TimeGoes};
 ghost use Rattle.mg_mirror.specs.Copy.{AreFrom, AreSame, CanCopy, Copies, CopyCalls, first_byte};
 
 use crate::mirror::Side;
@@ -73,7 +73,7 @@ fn copy_gated<D: Disk, E: Disk>(
 /// Writes zeros over block 0 and syncs them.
 fn close<E: Disk>(to: &mut E) -> Result<(), Failed>
     requires some { 1 ≤ E.block_count to.old }
-    ensures any_moment { NothingPending E.Disk to.old → ForSome (E.seen to.old) (λ image. Leaves E.Disk to.old to.new (SameBut (only_place 0) image)) }
+    ensures any_moment { Leaves E.Disk to.old to.new (TornAt (only_place 0) (MightHaveLeft E.Disk to.old)) }
     ensures closed { OnOk result (ForSome (E.seen to.new) (λ c. first_byte c ≡ 0)) }
     ensures seen { SeenBut (only_place 0) (E.seen to.old) (E.seen to.new) }
     ensures settled { OnOk result (NothingPending E.Disk to.new) }
@@ -94,7 +94,7 @@ fn copy_after<D: Disk, E: Disk>(
 ) -> Result<bool, Failed>
     requires can { CanCopy D.Disk E.Disk blocks first.now from.old to.old }
     requires some { 1 ≤ length first.now }
-    ensures any_moment { NothingPending E.Disk to.old → ForSome (E.seen to.old) (λ image. Leaves E.Disk to.old to.new (SameBut (λ k. 1 ≤ k) image)) }
+    ensures any_moment { Leaves E.Disk to.old to.new (TornAt (λ k. 1 ≤ k) (MightHaveLeft E.Disk to.old)) }
     ensures seen { SeenBut (λ k. 1 ≤ k) (E.seen to.old) (E.seen to.new) }
     ensures copied { IfOk result (λ good. IsTrue good → ForSome (D.seen from.old) (λ x. ForSome (E.seen to.new) (AreFrom 1 blocks x))) }
     ensures settled { IfOk result (λ good. IsTrue good → NothingPending E.Disk to.new) }

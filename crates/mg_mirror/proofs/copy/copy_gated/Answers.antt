@@ -3,8 +3,29 @@ use Rattle.std.proofs.Common.{◌≡◌, ◌∙◌, ◌≤◌, Some, arith, leng
 use Rattle.mg_disk.specs.Disk.{Image, block_at, only_place}
 use Rattle.mg_disk.specs.Stops.{NothingPending}
 use Rattle.mg_mirror.specs.Copy.{AreFrom, first_byte}
-use Rattle.mg_mirror.proofs.Copied.{all_copied, first_phase, second_phase, seen_then, steps_then, steps_to, still_told, third_phase}
+use Rattle.mg_mirror.proofs.Copied.{all_copied, first_phase, second_phase, steps_then, steps_to, still_told, third_phase}
 use Rattle.mg_mirror.proofs.copy.copy_gated.Goals as goal
+
+pub returns-then-is_err : goal.returns-then-is_err
+returns-then-is_err g c =
+    let d = g.D.Disk in
+    let e = g.E.Disk in
+    let from = c.args.from.now in
+    let to = c.args.to.now in
+    let shut = c.close.new.to in
+    record {
+      copies = record {
+        copied = search rules;
+        settled = search rules;
+        leaves = λ x read. first_phase e c.args.blocks x to shut c.close.ensures.any_moment;
+        to_told = still_told (only_place 0) (e.seen to) (e.seen shut) c.close.ensures.seen;
+        calls = record {
+          steps = steps_to d e from to shut (g.met.D.Disk.now_has_been from) c.close.ensures.calls.blocks c.close.ensures.tells c.close.ensures.calls.count;
+          to_cause = search rules;
+          cause = search rules;
+        };
+      };
+    }
 
 pub returns-in_err-copy_after : goal.returns-in_err-copy_after
 returns-in_err-copy_after g c =
@@ -21,9 +42,7 @@ returns-in_err-copy_after g c =
       copies = record {
         copied = search rules;
         settled = search rules;
-        leaves = λ pending image told x read.
-            let s = seen_then (only_place 0) (e.seen to) (e.seen shut) image c.close.ensures.seen told in
-            second_phase e n image x to shut last s.c (zero s.c s.is) (first_phase e n image x to shut (c.close.ensures.any_moment pending image told)) (c.copy_after.ensures.any_moment settled s.c s.is);
+        leaves = λ x read. second_phase e n x to shut last settled zero (first_phase e n x to shut c.close.ensures.any_moment) c.copy_after.ensures.any_moment;
         to_told = still_told (λ k. 1 ≤ k) (e.seen shut) (e.seen last) c.copy_after.ensures.seen ∙ still_told (only_place 0) (e.seen to) (e.seen shut) c.close.ensures.seen;
         calls = record {
           steps = steps_then d e from from c.copy_after.new.from to shut last (steps_to d e from to shut (g.met.D.Disk.now_has_been from) c.close.ensures.calls.blocks c.close.ensures.tells c.close.ensures.calls.count) c.copy_after.ensures.calls.steps;
@@ -48,9 +67,7 @@ returns-then-not-branch g c =
       copies = record {
         copied = search rules;
         settled = search rules;
-        leaves = λ pending image told x read.
-            let s = seen_then (only_place 0) (e.seen to) (e.seen shut) image c.close.ensures.seen told in
-            second_phase e n image x to shut last s.c (zero s.c s.is) (first_phase e n image x to shut (c.close.ensures.any_moment pending image told)) (c.copy_after.ensures.any_moment settled s.c s.is);
+        leaves = λ x read. second_phase e n x to shut last settled zero (first_phase e n x to shut c.close.ensures.any_moment) c.copy_after.ensures.any_moment;
         to_told = still_told (λ k. 1 ≤ k) (e.seen shut) (e.seen last) c.copy_after.ensures.seen ∙ still_told (only_place 0) (e.seen to) (e.seen shut) c.close.ensures.seen;
         calls = record {
           steps = steps_then d e from from c.copy_after.new.from to shut last (steps_to d e from to shut (g.met.D.Disk.now_has_been from) c.close.ensures.calls.blocks c.close.ensures.tells c.close.ensures.calls.count) c.copy_after.ensures.calls.steps;
@@ -83,13 +100,10 @@ returns g c =
             let put : e.seen last ≡ option_map (λ image. slice_set image 0 (block_at first 0)) (e.seen after) = search rules in
             all_copied n first (d.seen from) (d.seen from) (e.seen after) (e.seen last) refl c.requires.some put c.requires.can.are_first from_long after_long copied;
         settled = search rules;
-        leaves = λ pending image told x read.
-            let s = seen_then (only_place 0) (e.seen to) (e.seen shut) image c.close.ensures.seen told in
-            let t = seen_then (λ k. 1 ≤ k) (e.seen shut) (e.seen after) s.c c.copy_after.ensures.seen s.is in
+        leaves = λ x read.
             let safe : NothingPending e after = search rules in
-            third_phase e n image x to after last t.c (from_long x read) (after_long t.c t.is) (copied x read t.c t.is)
-            (second_phase e n image x to shut after s.c (zero s.c s.is) (first_phase e n image x to shut (c.close.ensures.any_moment pending image told)) (c.copy_after.ensures.any_moment settled s.c s.is))
-            (c.write_firmly.ensures.any_moment safe t.c t.is);
+            third_phase e n x to after last safe (from_long x read) after_long (copied x read)
+            (second_phase e n x to shut after settled zero (first_phase e n x to shut c.close.ensures.any_moment) c.copy_after.ensures.any_moment) c.write_firmly.ensures.from_any;
         to_told = still_told (only_place 0) (e.seen after) (e.seen last) c.write_firmly.ensures.torn ∙ (still_told (λ k. 1 ≤ k) (e.seen shut) (e.seen after) c.copy_after.ensures.seen ∙ still_told (only_place 0) (e.seen to) (e.seen shut) c.close.ensures.seen);
         calls = record {
           steps = steps_then d e from c.copy_after.new.from c.copy_after.new.from to after last steps
