@@ -10,6 +10,9 @@ It has to be root, since it connects as eight users and as `nobody`. The parts a
   says that this user may see.
 - kills: the program and the broker are killed N times each (50) in the middle of stores and loads of 16 connections. No line that was
   answered may be lost, none may be done that was told as not given, and no reply may come twice.
+- power: the volume is on a device that loses what was not flushed (scripts/losing_device.py; the packages are those of
+  scripts/device_faults). The program is killed N times, the broker opens the volume again, and the device loses power in that opening
+  or soon after it. No line that was answered may be lost.
 - out: another user's thread in 40 spellings, N byte strings (10,000), users who aren't named, and the same as `nobody`. All that the
   machine is given is recorded: it must hold no line but those of the sender's thread, and lines that are no call.
 
@@ -19,9 +22,12 @@ It prints a line for each part, and ends with status 1 at the first difference.
 import argparse
 import collections
 import contextlib
+import importlib.machinery
+import importlib.util
 import os
 import random
 import select
+import shutil
 import signal
 import socket
 import sys
@@ -42,6 +48,8 @@ GROUP = 62100
 CONNECTIONS = 100
 # The words of an object that one connection alone stores to.
 WORDS = 512 // (CONNECTIONS // len(USERS) + 1)
+# The blocks of the volume, which has 200 frames.
+BLOCKS = 2796
 # The most lines of a connection that are not answered.
 MOST_IN_FLIGHT = 20
 PATIENCE = 120
@@ -378,6 +386,84 @@ def kills(folder, options, made):
         running.stop()
 
 
+def device_faults():
+    """The script of that name, as a module."""
+    loader = importlib.machinery.SourceFileLoader("device_faults", str(Path(__file__).resolve().parent / "device_faults"))
+    module = importlib.util.module_from_spec(importlib.util.spec_from_loader("device_faults", loader))
+    sys.modules["device_faults"] = module
+    loader.exec_module(module)
+    return module
+
+
+def talk(storers, until):
+    """Sends stores and loads and reads replies until so: how many replies came."""
+    replies, alive = 0, set(storers)
+    deadline = time.monotonic() + PATIENCE
+    while alive and not until() and time.monotonic() < deadline:
+        for storer in list(alive):
+            storer.write()
+            count = storer.read()
+            if count is None:
+                alive.discard(storer)
+            else:
+                replies += count
+        time.sleep(0.001)
+    return replies
+
+
+def power(folder, options, made):
+    """The third part."""
+    if any(shutil.which(command) is None for command in ("nbdkit", "nbdfuse", "fusermount3")):
+        print("power: not tried, there is no nbdkit, nbdfuse or fusermount3", flush=True)
+        return
+    device = device_faults().Device(folder, "device", BLOCKS)
+    device.fill(folder / "volume")
+    storers = [Storer(index, made) for index in range(16)]
+    more = ("--openings", "1000")
+    replies = lost = 0
+    running = None
+    try:
+        for turn in range(options.kills + 1):
+            # The last turn has no fault, and looks at what is there.
+            faults = {"fault": random.choice(("loses", "tears")), "at": random.randint(1, 6), "waits": True} if turn < options.kills else {}
+            device.start(**faults)
+            running = Running(folder, device.path, users_text(made), *more, program=options.program, name="power").ready()
+            for storer in storers:
+                if turn == 0:
+                    peer = Peer(running.path, USERS[storer.number], groups=[GROUP] if storer.number == len(USERS) - 1 else [])
+                    if peer.ask(f"{storer.thread} store {storer.place} 0")[0] != "ok":
+                        fail(f"a first store was refused: {running.log_text()}")
+                    peer.close()
+                if not storer.connect(running.path):
+                    fail(f"nobody serves: {running.log_text()}")
+            end = time.monotonic() + random.uniform(0.05, 0.3)
+            replies += talk(storers, lambda: time.monotonic() > end)
+            if turn == options.kills:
+                break
+            device.now()
+            os.kill(running.program(), signal.SIGKILL)
+            # The broker opens the volume again, and the device loses power meanwhile.
+            end = time.monotonic() + 5
+            replies += talk(storers, lambda: device.server.poll() is not None or time.monotonic() > end)
+            while device.server.poll() is None and time.monotonic() < end:
+                time.sleep(0.001)
+            lost += device.server.poll() is not None
+            device.cut()
+            running.process.kill()
+            running.process.wait()
+            replies += sum(storer.read() or 0 for storer in storers)
+            device.stop()
+        if running.stop() != 0:
+            fail(running.log_text())
+        print(f"power: {options.kills} kills of the program, {lost} losses of power in the next opening or soon after, {replies} replies; none lost", flush=True)
+    finally:
+        if running is not None and running.process.poll() is None:
+            running.process.kill()
+            running.process.wait()
+        device.cut()
+        device.stop()
+
+
 def out(folder, options, made):
     """The third part."""
     record, program = folder / "record", folder / "recorded"
@@ -441,9 +527,9 @@ def main():
     parser.add_argument("--seconds", type=float, default=60)
     parser.add_argument("--kills", type=int, default=50)
     parser.add_argument("--fuzz", type=int, default=10_000)
-    parser.add_argument("parts", nargs="*", metavar="PART", help="right, kills or out")
+    parser.add_argument("parts", nargs="*", metavar="PART", help="right, kills, power or out")
     options = parser.parse_args()
-    parts = {"right": right, "kills": kills, "out": out}
+    parts = {"right": right, "kills": kills, "power": power, "out": out}
     for part in options.parts:
         if part not in parts:
             parser.error(f"{part} is none of {', '.join(parts)}")

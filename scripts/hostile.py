@@ -3,6 +3,8 @@
 
     scripts/hostile.py files            files, folders, modes, limits, streams, two runs at once, two files, migrations
     scripts/hostile.py kill [RUNS]      runs that are killed at random moments, 100 of them
+    scripts/hostile.py restart [IMAGES] runs that are killed, the next run on the same file, and what a loss of power then leaves:
+                                        1,000 images, which takes strace
     scripts/hostile.py memory           each allocation refused in turn, which takes a C compiler
 
 --program names the program; without it that of the script mungi is used. The cases of a volume in two files use the program that the variable
@@ -13,6 +15,7 @@ import argparse
 import fcntl
 import os
 import random
+import re
 import resource
 import shutil
 import signal
@@ -20,6 +23,7 @@ import subprocess
 import sys
 import tempfile
 import time
+from concurrent.futures import ThreadPoolExecutor
 from pathlib import Path
 
 from version1 import version1
@@ -497,6 +501,210 @@ def kill_cases(folder, runs):
     tell(lost == 0, case, f"{min(counts, default=0)} to {max(counts, default=0)} answers before a kill, {lost} lost")
 
 
+# A run after one that was killed, and a loss of power then
+
+BLOCK = 4096
+OBJECT = 0x100001000
+PASSWORD = "0x28bd8653e56a5d40"
+# Makes an object of three pages and gives the root access to it.
+SETUP = (f"1 create 3 1 {PASSWORD}\n1 store 0x100000020 {OBJECT}\n1 store 0x100000028 0x1aed8da0b819d2bd\n1 store 0x100000000 2\n").encode()
+# Shows what the lines below change.
+ASK = ("".join(f"1 load {OBJECT + 4096 * page + 8 * word}\n" for page in range(3) for word in range(5)) + f"1 balance 1 {PASSWORD}\nrent\n").encode()
+MOST_LINES = 140
+
+
+def changes(first, count):
+    """Lines that change pages, and the period and an account, by turns. No two states after some first ones are the same."""
+    lines = []
+    for i in range(first, first + count):
+        lines.append("rent\n" if i % 4 == 0 else f"1 store {OBJECT + 4096 * (i % 4 - 1) + 8 * (i // 4 % 5)} {i}\n")
+    return "".join(lines).encode()
+
+
+class Cache:
+    """The blocks of a file: what a sync made durable, and the forms that each block was given since."""
+
+    def __init__(self, blocks):
+        self.durable, self.since = dict(blocks), {}
+
+    def write(self, at, data):
+        for i in range(0, len(data), BLOCK):
+            self.since.setdefault((at + i) // BLOCK, []).append(data[i:i + BLOCK])
+
+    def sync(self):
+        self.durable, self.since = self.newest(), {}
+
+    def newest(self):
+        return self.durable | {i: forms[-1] for i, forms in self.since.items()}
+
+    def left(self, chance):
+        """The blocks as a loss of power may leave them: each that was written since the last sync is old or new as a whole or by sectors."""
+        blocks = dict(self.durable)
+        kind = chance.randrange(4)
+        for i, forms in self.since.items():
+            old = self.durable.get(i, bytes(BLOCK))
+            if kind == 3 and chance.randrange(2):
+                blocks[i] = b"".join(chance.choice([old, *forms])[at:at + 512] for at in range(0, BLOCK, 512))
+            else:
+                blocks[i] = chance.choice([old, forms[-1], chance.choice(forms)])
+        return blocks
+
+
+def blocks_of(path):
+    """The blocks of a file that are not zeros."""
+    data = Path(path).read_bytes()
+    whole = ((i // BLOCK, data[i:i + BLOCK]) for i in range(0, len(data), BLOCK))
+    return {i: block for i, block in whole if block.count(0) != BLOCK}
+
+
+def lay(path, blocks, size):
+    """Makes a file of these blocks."""
+    with open(path, "wb") as file:
+        file.truncate(size)
+        for i, block in blocks.items():
+            os.pwrite(file.fileno(), block, BLOCK * i)
+
+
+CALL = re.compile(r'(pwrite64|fdatasync|fsync|write)\((\d+)(?:, "((?:\\x[0-9a-f]{2})*)"(?:, (\d+)(?:, (\d+))?)?)?(?:\)\s+= (\d+|\?)| <unfinished)?')
+
+
+def traced(words, lines, stop=None):
+    """Runs the program, and kills it as it begins a call of a kind for the nth time. Returns its status, what it printed, and in their order
+    what it did: ('write', place, bytes), ('sync',), ('answers', number). A write that was begun when it was killed is 'cut'."""
+    with tempfile.NamedTemporaryFile() as log, tempfile.TemporaryFile() as source, tempfile.TemporaryFile() as sink:
+        source.write(lines)
+        source.flush()
+        source.seek(0)
+        kill = ["-e", f"inject={stop[0]}:signal=SIGKILL:when={stop[1]}"] if stop else []
+        words = ["strace", "-o", log.name, "-xx", "-s", "1000000", "-e", "trace=pwrite64,fdatasync,fsync,write", *kill, PROGRAM, *words]
+        done = subprocess.run(words, stdin=source, stdout=sink, stderr=subprocess.DEVNULL)
+        sink.seek(0)
+        put, did = sink.read(), []
+        for line in log.read().decode().splitlines():
+            call = CALL.match(line)
+            if call is None:
+                continue
+            name, file, data, _, at, result = call.groups()
+            data = bytes.fromhex(data.replace("\\x", "")) if data else b""
+            is_done = result not in (None, "?")
+            if name == "pwrite64":
+                did.append(("write" if is_done else "cut", int(at), data[:int(result)] if is_done else data))
+            elif name in ("fdatasync", "fsync") and result == "0":
+                did.append(("sync",))
+            elif name == "write" and file == "1" and is_done:
+                did.append(("answers", data[:int(result)].count(b"\n")))
+        return done.returncode, put, did
+
+
+class Known:
+    """The states after the first k lines, and their answers, as dry gives them."""
+
+    def __init__(self):
+        self.answers = run(["x", "dry", "64", SEED, "1000"], SETUP + changes(1, MOST_LINES)).put.splitlines(True)[4:]
+        with ThreadPoolExecutor() as pool:
+            shown = list(pool.map(self.shown_after, range(MOST_LINES + 1)))
+        self.numbers = {text: k for k, text in enumerate(shown)}
+        assert len(self.answers) == MOST_LINES and len(self.numbers) == MOST_LINES + 1
+
+    def shown_after(self, k):
+        return b"".join(run(["x", "dry", "64", SEED, "1000"], SETUP + changes(1, k) + ASK).put.splitlines(True)[4 + k:])
+
+    def number(self, folder, blocks, size):
+        """The k for which these blocks hold the state after the first k lines, or None where it is no such state."""
+        with tempfile.NamedTemporaryFile(dir=folder) as image:
+            lay(image.name, blocks, size)
+            ended = run([image.name, "run", "64"], ASK)
+            return self.numbers.get(ended.put) if ended.status == 0 else None
+
+    def begins(self, first, put):
+        """Whether these are the first answers of the lines after the first ones."""
+        return b"".join(self.answers[first:]).startswith(put)
+
+
+def apply(cache, step, path):
+    if step[0] == "write":
+        cache.write(step[1], step[2])
+    elif step[0] == "sync":
+        cache.sync()
+    elif step[0] == "cut":
+        # What the kill left of the write is what the file has there.
+        with open(path, "rb") as file:
+            cache.write(step[1], os.pread(file.fileno(), len(step[2]), step[1]))
+
+
+def cut_images(cache, did, chance, path, least):
+    """Images that a loss of power may leave while something is pending and at the end of a run, with the number of lines that each must hold."""
+    answers = 0
+    for step in [None, *did, None]:
+        if step is not None:
+            apply(cache, step, path)
+            answers += step[1] if step[0] == "answers" else 0
+        for _ in range(min(4, 2 ** len(cache.since)) if cache.since else step is None):
+            yield cache.left(chance), least(answers)
+
+
+def a_kill(chance, batch, count):
+    """A call at which a run of these lines is killed: half of the times the sync of a gate that was just written, and else any."""
+    commits = -(-count // int(batch))
+    if chance.randrange(2):
+        # The syncs of the opening, and then of the bodies and the gate of each commit. A ninth commit has those of a checkpoint too.
+        return "fdatasync", 1 + 2 * chance.randint(1, min(commits, 8))
+    return chance.choice(("pwrite64", "fdatasync", "write")), chance.randint(1, 2 * commits + 10 * (commits // 9) + 1)
+
+
+def restarted(folder, chance, known, start, size):
+    """A run that is killed and one after it: images, each with the number of lines that it must hold, and what is wrong with the runs."""
+    with tempfile.NamedTemporaryFile(dir=folder) as volume:
+        path, cache = volume.name, Cache(start)
+        lay(path, start, size)
+        batch, again = chance.choice(("1", "8", "64")), chance.choice(("1", "8", "64"))
+        count = chance.randint(1, {"1": 20, "8": 80, "64": 100}[batch])
+        stop = a_kill(chance, batch, count)
+        status, put, did = traced([path, "run", batch], changes(1, count), stop)
+        first = put.count(b"\n")
+        images = list(cut_images(cache, did, chance, path, lambda answers: answers))
+        found = blocks_of(path)
+        kept = known.number(folder, found, size)
+        is_traced = found == {i: block for i, block in cache.newest().items() if block.count(0) != BLOCK}
+        if status not in (0, -signal.SIGKILL) or not known.begins(0, put) or kept is None or kept < first or not is_traced:
+            return images, f"batch {batch}, killed at {stop}: status {status}, {first} answers, kept {kept}, traced {is_traced}"
+        status, put, did = traced([path, "run", again], changes(kept + 1, chance.choice((0, 0, 3, 12))))
+        images += cut_images(cache, did, chance, path, lambda answers: kept + answers if answers else first)
+        good = status == 0 and known.begins(kept, put)
+        return images, None if good else f"batch {again}, after a kill at {stop}: status {status}, {put.count(b'ok')} answers"
+
+
+def restart_cases(folder, wanted):
+    if shutil.which("strace") is None:
+        not_tried("a loss of power after a kill", "there is no strace")
+        return
+    volume, chance = fresh(folder, "start"), random.Random(1)
+    assert run([volume, "run"], SETUP).put.count(b"ok") == 4 and run([volume, "run"]).status == 0
+    known, start, size = Known(), blocks_of(volume), os.path.getsize(volume)
+    images, wrong, pairs, bad = 0, 0, 0, 0
+
+    def judge(image):
+        k = known.number(folder, image[0], size)
+        return k, k is not None and image[1] <= k
+
+    with ThreadPoolExecutor() as pool:
+        while images < wanted:
+            seeds = [chance.getrandbits(64) for _ in range(16)]
+            for left, fault in pool.map(lambda seed: restarted(folder, random.Random(seed), known, start, size), seeds):
+                pairs += 1
+                if fault is not None:
+                    bad += 1
+                    print(f"            pair {pairs}: {fault}", flush=True)
+                judged = list(pool.map(judge, left))
+                images += len(judged)
+                wrong += sum(not good for _, good in judged)
+                for (_, least), (k, good) in zip(left, judged):
+                    if not good:
+                        print(f"            pair {pairs}: at least {least} lines must be held, held {k}", flush=True)
+                        break
+    tell(wrong == bad == 0, f"{images} losses of power in {pairs} pairs of runs", f"{wrong} images and {bad} runs wrong")
+
+
 # Memory
 
 SHIM = r"""
@@ -561,8 +769,8 @@ def refused_cases(folder, shim, command, lines):
 def main():
     global PROGRAM
     parser = argparse.ArgumentParser(description=__doc__, formatter_class=argparse.RawDescriptionHelpFormatter)
-    parser.add_argument("kind", choices=("files", "kill", "memory"))
-    parser.add_argument("runs", nargs="?", type=int, default=100)
+    parser.add_argument("kind", choices=("files", "kill", "restart", "memory"))
+    parser.add_argument("runs", nargs="?", type=int)
     parser.add_argument("--program")
     words = parser.parse_args()
     if words.program is None:
@@ -577,7 +785,9 @@ def main():
             for cases in (file_cases, maker_cases, mode_cases, mirror_cases, limit_cases, full_cases, stream_cases, two_cases, migrate_cases):
                 cases(folder)
         elif words.kind == "kill":
-            kill_cases(folder, words.runs)
+            kill_cases(folder, words.runs or 100)
+        elif words.kind == "restart":
+            restart_cases(folder, words.runs or 1000)
         else:
             memory_cases(folder)
     return 1 if failed else 0

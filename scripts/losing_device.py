@@ -1,6 +1,6 @@
 """A device for nbdkit that loses what was not flushed, as one without power does. scripts/device_faults runs it:
 
-    nbdkit python losing_device.py medium=FILE [fault=KIND at=NUMBER] [after=FILE] [lasts=yes] [flush=nothing] [random=NUMBER] [counts=FILE]
+    nbdkit python losing_device.py medium=FILE [fault=KIND at=NUMBER] [after=FILE] [lasts=yes] [dies=NUMBER] [flush=nothing] [random=NUMBER] [counts=FILE]
 
 FILE of `medium` is what outlives the device, and gives its size. What is written is kept in memory until a flush brings it there: a device that
 is killed has lost it. Requests are counted from 1, and from when the file of `after` is there. At request `at` the fault comes:
@@ -11,7 +11,7 @@ is killed has lost it. Requests are counted from 1, and from when the file of `a
     write    a write is answered with an error, and some of its sectors are written
     flush    a flush is answered with an error; of what was not flushed some reaches the medium, and the rest is gone
 
-With `lasts=yes` later requests of that kind fail too. With `flush=nothing` a flush is answered and does nothing: such a device is broken, and
+With `lasts=yes` later requests of that kind fail too. With `dies` the device loses power, and tears, at that write or flush after the fault. With `flush=nothing` a flush is answered and does nothing: such a device is broken, and
 loses what was answered. `counts` gets the number of reads, writes and flushes when the device is ended in order.
 """
 import errno
@@ -32,6 +32,8 @@ made = {"read": 0, "write": 0, "flush": 0}
 # The blocks that are not flushed, each with all that was written to it since the last flush, the newest last.
 pending = {}
 counted = 0
+# How many writes and flushes came after the fault.
+since = 0
 
 
 def config(key, value):
@@ -64,8 +66,13 @@ def can_flush(_handle):
 
 def comes(kind):
     """Counts a request. Whether the fault comes at it."""
-    global counted
+    global counted, since
     made[kind] += 1
+    if counted >= at > 0 and kind != "read" and "dies" in words:
+        since += 1
+        if since == int(words["dies"]):
+            tear(garbles=True)
+            os.kill(os.getpid(), signal.SIGKILL)
     if kind not in COUNTED.get(words.get("fault"), ()) or "after" in words and not os.path.exists(words["after"]):
         return False
     counted += 1

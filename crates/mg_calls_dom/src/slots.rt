@@ -90,5 +90,8 @@ fn listed(slots: &[Slot]) -> Reply
     for place in 0..slots.len() {
         bases[place] = slots[place].base;
     }
-    Reply::Slots(slots.len() as u64, bases)
+    Reply::Slots {
+        count: slots.len() as u64,
+        bases,
+    }
 }

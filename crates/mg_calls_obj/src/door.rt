@@ -51,12 +51,12 @@ fn wanted(call: &Call) -> (u64, Right)
     ensures { result ≡ (named call.now, asked call.now) }
 {
     match *call {
-        Call::Delete { b: base } => (base, Right::D),
-        Call::Pwadd(base, _, _)
-        | Call::Pwdel { b: base, .. }
-        | Call::Entry { b: base, .. }
-        | Call::Ext { b: base, .. }
-        | Call::Recharge { b: base, .. } => (base, Right::O),
+        Call::Delete { base } => (base, Right::D),
+        Call::Pwadd { base, .. }
+        | Call::Pwdel { base, .. }
+        | Call::Entry { base, .. }
+        | Call::Ext { base, .. }
+        | Call::Recharge { base, .. } => (base, Right::O),
         _ => unreachable!(),
     }
 }
@@ -71,17 +71,17 @@ fn act(volume: &mut Volume, cache: &mut VCache, object: ObjRow, call: &Call) -> 
 {
     match *call {
         Call::Delete { .. } => delete_by_row(volume, cache, object),
-        Call::Pwadd(_, rights, until) => pwadd_by_row(volume, object, rights, until),
-        Call::Pwdel { pw: password, .. } => pwdel_by_row(volume, cache, object, password),
+        Call::Pwadd { rights, until, .. } => pwadd_by_row(volume, object, rights, until),
+        Call::Pwdel { password, .. } => pwdel_by_row(volume, cache, object, password),
         Call::Entry { off, .. } => entry_by_row(volume, object, off),
         Call::Ext {
-            cb: clist,
-            cpw: password,
+            clist,
+            password,
             ..
         } => ext_by_row(volume, object, clist, password),
         Call::Recharge {
-            acc: account,
-            pw: password,
+            account,
+            password,
             ..
         } => recharge_by_row(volume, object, account, password),
         _ => unreachable!(),

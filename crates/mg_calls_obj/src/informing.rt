@@ -61,12 +61,12 @@ pub fn info(volume: &Volume, base: u64) -> Reply
 fn about(object: &ObjRow) -> Reply
     ensures { result ≡ calls.about object.now }
 {
-    Reply::About(
-        object.base(),
-        object.pages(),
-        object.account(),
-        object.passwords().len() as u64,
-        object.entries().len() as u64,
-        object.ext().is_some() as u64,
-    )
+    Reply::About {
+        base: object.base(),
+        pages: object.pages(),
+        account: object.account(),
+        passwords: object.passwords().len() as u64,
+        entries: object.entries().len() as u64,
+        ext: object.ext().is_some() as u64,
+    }
 }

@@ -3,7 +3,7 @@ use Rattle.std.specs.Prelude.{◌≡◌, ◌⊎◌, ℕ, Some}
 use Rattle.std.proofs.Common.{refl, inl, inr, ⊎_elim, sym, subst, ◌∙◌}
 use Rattle.mg_disk.specs.Disk.{Image, SameBut, no_image, only_place, TornAt}
 use Rattle.mg_disk.specs.PlaceLemmas.{same_as, same_after}
-use Rattle.mg_disk.specs.Stops.{LeftOr, MightHaveLeft, NothingPending, StandsAt, TimeGoes, Leaves, WritesNothing}
+use Rattle.mg_disk.specs.Stops.{FromLeft, LeftOr, MightHaveLeft, NothingPending, StandsAt, TimeGoes, Leaves, WritesNothing}
 use Rattle.mg_disk.specs.declared.disk.Disk.{Ghosts}
 
 -- Over a run of calls: what a stop left since it began has P, and what it may leave now has Q.
@@ -97,6 +97,29 @@ module _ {D : Type 0} (facts : Ghosts D) where
     each = λ c left. ⊎_elim (λ before. (c, before, same_as places c c refl)) (λ torn. torn) (call.nothing_else (facts.moment old) c call.begins left);
     time = call;
   }
+
+  -- one run of writes more, at some of the places
+  pub torn_more : (old mid new : D) (these places : ℕ → Type 0) → Leaves facts old mid (TornAt places (MightHaveLeft facts old)) → TimeGoes facts mid new (TornAt these (MightHaveLeft facts mid))
+      → ((k : ℕ) → these k → places k) → Leaves facts old new (TornAt places (MightHaveLeft facts old))
+  torn_more old mid new these places so_far call among =
+      leaves_then old mid new (TornAt these (MightHaveLeft facts mid)) (TornAt places (MightHaveLeft facts old)) so_far (torn_once mid new these call)
+      (λ c torn. ⊎_elim (λ before. (torn.0, before, same_after places these places torn.0 torn.0 c (λ k at. at) among (same_as places torn.0 torn.0 refl) torn.2))
+      (λ from. (from.0, from.1, same_after places these places from.0 torn.0 c (λ k at. at) among from.2 torn.2)) (so_far.time.now torn.0 torn.1))
+
+  -- before the first call each image comes from itself
+  pub from_yet : (old : D) (P : Image → Image → Type 0) → facts.has_been old (facts.moment old) → ((c : Image) → P c c) → Leaves facts old old (FromLeft facts old P)
+  from_yet old P been itself = leaves_yet old (FromLeft facts old P) been (λ c left. (c, left, itself c))
+
+  -- it comes by a weaker relation
+  pub from_wider : (old new : D) (R P : Image → Image → Type 0) → Leaves facts old new (FromLeft facts old R) → ((a c : Image) → R a c → P a c) → Leaves facts old new (FromLeft facts old P)
+  from_wider old new R P run sub = leaves_wider old new (FromLeft facts old R) (FromLeft facts old P) run (λ c from. (from.0, from.1, sub from.0 c from.2))
+
+  -- and a run after it, if what comes of what it finds comes of any image, as after a good sync
+  pub from_then : (old mid new : D) (R P : Image → Image → Type 0) → Leaves facts old mid (FromLeft facts old P) → Leaves facts mid new (FromLeft facts mid R)
+      → ((d : Image) → MightHaveLeft facts mid d → (a c : Image) → R d c → P a c) → Leaves facts old new (FromLeft facts old P)
+  from_then old mid new R P so_far run sub =
+      leaves_then old mid new (FromLeft facts mid R) (FromLeft facts old P) so_far run
+      (λ c from. ⊎_elim (λ before. (from.0, before, sub from.0 from.1 from.0 c from.2)) (λ first. (first.0, first.1, sub from.0 from.1 first.0 c from.2)) (so_far.time.now from.0 from.1))
 
   -- calls that write nothing, whatever was pending: a stop leaves what it might have left before
   pub left_still : (old new : D) (P : Image → Type 0) → facts.has_been old (facts.moment old) → TimeGoes facts old new no_image → Leaves facts old new (LeftOr facts old P)

@@ -1,16 +1,19 @@
 -- Bodies that are read together, and homes that are written together.
 use Rattle.std.proofs.lemmas.Bool.Decides.{nat_tests}
-use Rattle.std.specs.Prelude.{◌≡◌, ◌+◌, ◌-◌, ◌≤◌, ◌<◌, ℕ, zero, suc, true, All, List, [], ◌∷◌, length, option_map, slice_set, take, Option, Some, None}
+use Rattle.std.specs.Prelude.{◌≡◌, ◌+◌, ◌-◌, ◌≤◌, ◌<◌, ℕ, zero, suc, true, All, List, [], ◌∷◌, length, option_map, slice_set, take, OnOk, Option, Some, None, Result}
 use Rattle.std.specs.Option.{ForSome}
 use Rattle.std.proofs.Common.{refl, sym, ap, subst, ◌∙◌, ⊎_elim, arith}
 use Rattle.std.proofs.lemmas.Bool.{cases_lt}
+use Rattle.std.proofs.lemmas.Result.{on_ok_weaker}
 use Rattle.std.proofs.lemmas.List.{ext_get_or, get_or_past, get_or-set_other, get_or-set_same}
 use Rattle.std.proofs.lemmas.Simd.{get_or-put_chunk_above, get_or-put_chunk_at, get_or-put_chunk_below, put_chunk_is}
 use Rattle.std.specs.Simd.Lanes.{put_chunk}
-use Rattle.mg_disk.specs.BecomesLemmas.{becomes-seen, becomes-then}
-use Rattle.mg_disk.specs.Disk.{HasBlocks, Image, InRange, SameBut, SeenBut, block_at}
+use Rattle.mg_disk.specs.BecomesLemmas.{becomes-kept, becomes-seen, becomes-then}
+use Rattle.mg_disk.specs.Disk.{HasBlocks, Image, InRange, SameBut, SeenBut, block_at, no_image}
 use Rattle.mg_disk.specs.PlaceLemmas.{same_after}
-use Rattle.mg_disk.specs.Stops.{Becomes}
+use Rattle.mg_disk.specs.Runs.{Tracks, quiet}
+use Rattle.mg_disk.specs.Stops.{Becomes, Leaves, NothingPending, TimeGoes}
+use Rattle.mg_disk.specs.declared.disk.Disk.{Ghosts}
 use Rattle.mg_journal.proofs.ApplySteps.{filled_more, named_place}
 use Rattle.mg_journal.specs.Applied.{AreInRow, HasBodies, HasRun, filled, nth_body, nth_home}
 use Rattle.mg_journal.specs.Contents.{names}
@@ -161,3 +164,15 @@ none_written (place ∷ places) told none = absurd (omega arith)
 pub torn_more : (P : Image → ℕ → Type 0) (these : ℕ → Type 0) (told mid new : Option Image) → ((a : Image) (k : ℕ) → these k → P a k) → Becomes (λ a. SameBut (P a) a) told mid → SeenBut these mid new → Becomes (λ a. SameBut (P a) a) told new
 torn_more P these told mid new among so_far one =
     becomes-then (λ a. SameBut (P a) a) (SameBut these) (λ a. SameBut (P a) a) told mid new (λ a b c is first then. same_after (P a) these (P a) a b c (λ k at. at) (among a) first then) so_far (becomes-seen these mid new one)
+
+-- A sync after a run of writes: what a stop left, what reads give, and what is pending.
+pub homes_synced : {D : Type 0} (facts : Ghosts D) (old mid new : D) (P : Image → ℕ → Type 0)
+    → (NothingPending facts old → ForSome (facts.seen old) (λ image. Tracks facts old mid (SameBut (P image) image) (SameBut (P image) image))) → TimeGoes facts mid new no_image
+    → NothingPending facts old → ForSome (facts.seen old) (λ image. Leaves facts old new (SameBut (P image) image))
+homes_synced facts old mid new P run call pending image told = (quiet facts old mid new (SameBut (P image) image) (SameBut (P image) image) (run pending image told) call).leaves
+
+pub kept_synced : (R : Image → Image → Type 0) (told mid new : Option Image) → Becomes R told mid → new ≡ mid → Becomes R told new
+kept_synced R told mid new so_far same = becomes-kept R told mid new same so_far
+
+pub settled_synced : {T E : Type 0} (result : Result T E) (P Q : Type 0) → OnOk result Q → OnOk result (P → Q)
+settled_synced result P Q durable = on_ok_weaker result (λ q p. q) durable

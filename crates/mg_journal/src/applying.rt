@@ -2,6 +2,7 @@
 ghost use Rattle.std.specs.Prelude.{◌≡◌, ◌≤◌, ◌<◌, ◌+◌, ℕ, All, OnOk, length, min, option_map, true, vec_capacity};
 ghost use Rattle.std.specs.Option.{ForSome};
 ghost use Rattle.mg_disk.specs.Disk.{SameBut};
+ghost use Rattle.mg_disk.specs.Runs.{Tracks};
 ghost use Rattle.mg_disk.specs.Stops.{Becomes, DiskCalls, Leaves, NothingPending, OnlyReads};
 ghost use Rattle.mg_model.specs.Layout.{body_limit, globals_block};
 ghost use Rattle.mg_model.specs.Replay.{written};
@@ -46,7 +47,7 @@ impl HomeBuffers {
         })
     }
 
-    /// Writes the bodies at these places to their homes, in order, and syncs them. Nothing is pending before and after.
+    /// Writes the bodies at these places to their homes, in order, and syncs them. If there are none no call is made.
     pub(crate) fn write<D: Disk>(
         &mut self,
         disk: &mut D,
@@ -54,11 +55,10 @@ impl HomeBuffers {
     ) -> Result<(), Failed>
         requires within_disk { globals_block ≤ D.block_count disk.old }
         requires all_on_disk { All (IsPlace (D.block_count disk.old)) places.now }
-        requires settled { NothingPending D.Disk disk.old }
-        ensures any_moment { ForSome (D.seen disk.old) (λ image. Leaves D.Disk disk.old disk.new (SameBut (λ k. names (filled image places.now) k ≡ true) image)) }
+        ensures any_moment { NothingPending D.Disk disk.old → ForSome (D.seen disk.old) (λ image. Leaves D.Disk disk.old disk.new (SameBut (λ k. names (filled image places.now) k ≡ true) image)) }
         ensures written { OnOk result (D.seen disk.new ≡ option_map (λ image. written image (filled image places.now)) (D.seen disk.old)) }
         ensures torn { Becomes (λ image. SameBut (λ k. names (filled image places.now) k ≡ true) image) (D.seen disk.old) (D.seen disk.new) }
-        ensures settled { OnOk result (NothingPending D.Disk disk.new) }
+        ensures settled { OnOk result (NothingPending D.Disk disk.old → NothingPending D.Disk disk.new) }
         ensures calls { DiskCalls D.Disk disk.old disk.new result }
     {
         let (_, end) = span_of(places, 0, GLOBALS_BLOCK);
@@ -200,8 +200,8 @@ fn row_among<'a>(
     }
 }
 
-// Writes the bodies at these places to their homes, in order, those that follow one another in one call, and syncs them. If there
-// are none no call is made.
+// Writes the bodies at these places to their homes and syncs them. If there are none no call is made.
+#[tactic(auto, using(crate::proofs::ApplyRuns::homes_synced, crate::proofs::ApplyRuns::kept_synced, crate::proofs::ApplyRuns::settled_synced))]
 fn apply<D: Disk>(
     disk: &mut D,
     places: &[(u64, u64)],
@@ -212,16 +212,35 @@ fn apply<D: Disk>(
     requires bodies { (k : ℕ) → k < length places.now → nth_body places.now k < length journal.now }
     requires read { ForSome (D.seen disk.old) (HasBodies globals_block places.now journal.now) }
     requires room { min (length places.now) body_limit ≤ length run.old }
-    requires settled { NothingPending D.Disk disk.old }
-    ensures any_moment { ForSome (D.seen disk.old) (λ image. Leaves D.Disk disk.old disk.new (SameBut (λ k. names (filled image places.now) k ≡ true) image)) }
+    ensures any_moment { NothingPending D.Disk disk.old → ForSome (D.seen disk.old) (λ image. Leaves D.Disk disk.old disk.new (SameBut (λ k. names (filled image places.now) k ≡ true) image)) }
     ensures written { OnOk result (D.seen disk.new ≡ option_map (λ image. written image (filled image places.now)) (D.seen disk.old)) }
     ensures torn { Becomes (λ image. SameBut (λ k. names (filled image places.now) k ≡ true) image) (D.seen disk.old) (D.seen disk.new) }
-    ensures settled { OnOk result (NothingPending D.Disk disk.new) }
+    ensures settled { OnOk result (NothingPending D.Disk disk.old → NothingPending D.Disk disk.new) }
     ensures calls { DiskCalls D.Disk disk.old disk.new result }
 {
     if places.len() == 0 {
         return Ok(());
     }
+    put_homes(disk, places, journal, run)?;
+    disk.sync()
+}
+
+// Writes the bodies at these places to their homes, in order, those that follow one another in one call. Nothing is synced.
+fn put_homes<D: Disk>(
+    disk: &mut D,
+    places: &[(u64, u64)],
+    journal: &[Block],
+    run: &mut [Block],
+) -> Result<(), Failed>
+    requires all_on_disk { All (IsPlace (D.block_count disk.old)) places.now }
+    requires bodies { (k : ℕ) → k < length places.now → nth_body places.now k < length journal.now }
+    requires read { ForSome (D.seen disk.old) (HasBodies globals_block places.now journal.now) }
+    requires room { min (length places.now) body_limit ≤ length run.old }
+    ensures tracks { NothingPending D.Disk disk.old → ForSome (D.seen disk.old) (λ image. Tracks D.Disk disk.old disk.new (SameBut (λ k. names (filled image places.now) k ≡ true) image) (SameBut (λ k. names (filled image places.now) k ≡ true) image)) }
+    ensures written { OnOk result (D.seen disk.new ≡ option_map (λ image. written image (filled image places.now)) (D.seen disk.old)) }
+    ensures torn { Becomes (λ image. SameBut (λ k. names (filled image places.now) k ≡ true) image) (D.seen disk.old) (D.seen disk.new) }
+    ensures calls { DiskCalls D.Disk disk.old disk.new result }
+{
     let mut first = 0;
     while first < places.len() {
         let count = count_row(places, first, run.len().min(MOST_WRITES));
@@ -230,5 +249,5 @@ fn apply<D: Disk>(
         disk.write_blocks(places[first].0, row)?;
         first += count;
     }
-    disk.sync()
+    Ok(())
 }

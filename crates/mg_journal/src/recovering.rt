@@ -1,7 +1,7 @@
 // Recovery: what open segments hold is written to its homes, and then the gates are closed.
 ghost use Rattle.std.specs.Prelude.{◌≡◌, ◌≤◌, ◌<◌, ℕ, OnOk, Some, true};
 ghost use Rattle.std.specs.Option.{ForSome};
-ghost use Rattle.mg_disk.specs.Stops.{Becomes, DiskCalls, Leaves, NothingPending};
+ghost use Rattle.mg_disk.specs.Stops.{Becomes, DiskCalls, Leaves, LeftOr, NothingPending};
 ghost use Rattle.mg_model.specs.Layout.{globals_block, segment_count};
 ghost use Rattle.mg_model.specs.Replay.{is_open, replay};
 ghost use Rattle.mg_journal.specs.Contents.{SameContents};
@@ -19,8 +19,7 @@ fn close_open<D: Disk>(disk: &mut D, segment: u64) -> Result<(), Failed>
     requires place { segment < segment_count }
     requires within_disk { globals_block ≤ D.block_count disk.old }
     requires gate { ForSome (D.seen disk.old) (λ image. is_open image segment ≡ true) }
-    requires settled { NothingPending D.Disk disk.old }
-    ensures any_moment { ForSome (D.seen disk.old) (λ image. Leaves D.Disk disk.old disk.new (MayCloseOne segment image)) }
+    ensures any_moment { NothingPending D.Disk disk.old → ForSome (D.seen disk.old) (λ image. Leaves D.Disk disk.old disk.new (MayCloseOne segment image)) }
     ensures may { Becomes (MayCloseOne segment) (D.seen disk.old) (D.seen disk.new) }
     ensures closed { OnOk result (Becomes (ClosedOne segment) (D.seen disk.old) (D.seen disk.new)) }
     ensures settled { OnOk result (NothingPending D.Disk disk.new) }
@@ -34,11 +33,10 @@ fn close_gate<D: Disk>(disk: &mut D, segment: u64, is_known: bool) -> Result<(),
     requires place { segment < segment_count }
     requires within_disk { globals_block ≤ D.block_count disk.old }
     requires known { is_known ≡ true → ForSome (D.seen disk.old) (λ image. is_open image segment ≡ true) }
-    requires settled { NothingPending D.Disk disk.old }
-    ensures any_moment { ForSome (D.seen disk.old) (λ image. Leaves D.Disk disk.old disk.new (MayCloseOne segment image)) }
+    ensures any_moment { NothingPending D.Disk disk.old → ForSome (D.seen disk.old) (λ image. Leaves D.Disk disk.old disk.new (MayCloseOne segment image)) }
     ensures may { Becomes (MayCloseOne segment) (D.seen disk.old) (D.seen disk.new) }
     ensures closed { OnOk result (Becomes (ClosedOne segment) (D.seen disk.old) (D.seen disk.new)) }
-    ensures settled { OnOk result (NothingPending D.Disk disk.new) }
+    ensures settled { OnOk result (NothingPending D.Disk disk.old → NothingPending D.Disk disk.new) }
     ensures calls { DiskCalls D.Disk disk.old disk.new result }
 {
     if is_known {
@@ -58,11 +56,10 @@ fn close_gate<D: Disk>(disk: &mut D, segment: u64, is_known: bool) -> Result<(),
 fn close_gates<D: Disk>(disk: &mut D, opened: u64) -> Result<(), Failed>
     requires within_disk { globals_block ≤ D.block_count disk.old }
     requires gates { ForSome (D.seen disk.old) (AreOpen 0 opened) }
-    requires settled { NothingPending D.Disk disk.old }
-    ensures any_moment { ForSome (D.seen disk.old) (λ image. (total : ℕ) → replay image total ≡ Some image → Leaves D.Disk disk.old disk.new (IsStill total image)) }
+    ensures any_moment { NothingPending D.Disk disk.old → ForSome (D.seen disk.old) (λ image. (total : ℕ) → replay image total ≡ Some image → Leaves D.Disk disk.old disk.new (IsStill total image)) }
     ensures closed { OnOk result (Becomes (ClosesUpTo segment_count) (D.seen disk.old) (D.seen disk.new)) }
     ensures still { Becomes StaysStill (D.seen disk.old) (D.seen disk.new) }
-    ensures settled { OnOk result (NothingPending D.Disk disk.new) }
+    ensures settled { OnOk result (NothingPending D.Disk disk.old → NothingPending D.Disk disk.new) }
     ensures calls { DiskCalls D.Disk disk.old disk.new result }
 {
     for segment in 0..SEGMENTS {
@@ -71,18 +68,33 @@ fn close_gates<D: Disk>(disk: &mut D, opened: u64) -> Result<(), Failed>
     Ok(())
 }
 
-/// Recovers a disk that this view fits, with nothing pending. Each home is written once, from its newest body, in the order of blocks, and is
+/// Recovers a disk that this view fits, whatever is pending there. A run that was killed may have left what reads give pending, and a
+/// stop may still lose it then: so it is synced before the first home is written.
+#[tactic(auto, using(crate::proofs::OpenSteps::settled_then))]
+pub(crate) fn sync_and_recover<D: Disk>(disk: &mut D, view: &mut View) -> Result<(), Failed>
+    requires looks { IsViewOf D.Disk view.old disk.old }
+    ensures any_moment { ForSome (D.seen disk.old) (λ image. Leaves D.Disk disk.old disk.new (LeftOr D.Disk disk.old (SameContents view.old.total image))) }
+    ensures contents { Becomes (SameContents view.old.total) (D.seen disk.old) (D.seen disk.new) }
+    ensures recovered { OnOk result (Becomes (IsRecovered view.old.total) (D.seen disk.old) (D.seen disk.new)) }
+    ensures settled { OnOk result (NothingPending D.Disk disk.new) }
+    ensures same { view.new ≡ view.old }
+    ensures calls { DiskCalls D.Disk disk.old disk.new result }
+{
+    disk.sync()?;
+    recover(disk, view, 0)
+}
+
+/// Recovers a disk that this view fits. Each home is written once, from its newest body, in the order of blocks, and is
 /// synced; then the gates are closed, first to last. The bodies are read from the journal, and so are the gates, but for the first
 /// `opened` ones, which are open.
 pub(crate) fn recover<D: Disk>(disk: &mut D, view: &mut View, opened: u64) -> Result<(), Failed>
     requires looks { IsViewOf D.Disk view.old disk.old }
     requires at_most_8_open { opened ≤ segment_count }
     requires gates { ForSome (D.seen disk.old) (AreOpen 0 opened) }
-    requires settled { NothingPending D.Disk disk.old }
-    ensures any_moment { ForSome (D.seen disk.old) (λ image. Leaves D.Disk disk.old disk.new (SameContents view.old.total image)) }
+    ensures any_moment { NothingPending D.Disk disk.old → ForSome (D.seen disk.old) (λ image. Leaves D.Disk disk.old disk.new (SameContents view.old.total image)) }
     ensures contents { Becomes (SameContents view.old.total) (D.seen disk.old) (D.seen disk.new) }
     ensures recovered { OnOk result (Becomes (IsRecovered view.old.total) (D.seen disk.old) (D.seen disk.new)) }
-    ensures settled { OnOk result (NothingPending D.Disk disk.new) }
+    ensures settled { OnOk result (NothingPending D.Disk disk.old → NothingPending D.Disk disk.new) }
     ensures same { view.new ≡ view.old }
     ensures calls { DiskCalls D.Disk disk.old disk.new result }
 {

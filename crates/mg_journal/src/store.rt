@@ -14,7 +14,7 @@ ghost use Rattle.mg_journal.specs.Standing.{AllClosed, CanCommit, HasRoom, IsCom
 use crate::committing::write_firmly;
 use crate::faults::ViewFault;
 use crate::places::{SEGMENTS, gate_of, index_of, opened_gate};
-use crate::recovering::recover;
+use crate::recovering::{recover, sync_and_recover};
 use crate::segment::write_segment;
 use crate::view::View;
 use crate::writes::Writes;
@@ -82,9 +82,7 @@ impl Store {
         ensures opened { IfOk result (λ store. IsOpened D.Disk view.total store disk.new) }
         ensures calls { DiskCalls D.Disk disk.old disk.new result }
     {
-        // What reads give may be pending, and then a stop may still leave what was there before it.
-        disk.sync()?;
-        match recover(disk, &mut view, 0) {
+        match sync_and_recover(disk, &mut view) {
             Ok(()) => {
                 view.clear();
                 Ok(Store {

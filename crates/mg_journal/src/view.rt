@@ -80,18 +80,17 @@ impl View {
         })
     }
 
-    /// Writes the newest body of each block that the open segments have to its home, in the order of blocks, and syncs them.
-    /// Nothing is pending before and after.
+    /// Writes the newest body of each block that the open segments have to its home, in the order of blocks, and syncs them. If
+    /// there are none no call is made.
     pub(crate) fn write_homes<D: Disk>(&mut self, disk: &mut D) -> Result<(), Failed>
         requires journal { globals_block ≤ self.old.total }
         requires within_disk { self.old.total ≤ D.block_count disk.old }
-        requires settled { NothingPending D.Disk disk.old }
         ensures ascends { Ascends self.old.table }
         ensures same { self.new ≡ self.old }
-        ensures any_moment { ForSome (D.seen disk.old) (λ image. Leaves D.Disk disk.old disk.new (SameBut (λ k. names (filled image self.old.table) k ≡ true) image)) }
+        ensures any_moment { NothingPending D.Disk disk.old → ForSome (D.seen disk.old) (λ image. Leaves D.Disk disk.old disk.new (SameBut (λ k. names (filled image self.old.table) k ≡ true) image)) }
         ensures written { OnOk result (D.seen disk.new ≡ option_map (λ image. written image (filled image self.old.table)) (D.seen disk.old)) }
         ensures torn { Becomes (λ image. SameBut (λ k. names (filled image self.old.table) k ≡ true) image) (D.seen disk.old) (D.seen disk.new) }
-        ensures settled { OnOk result (NothingPending D.Disk disk.new) }
+        ensures settled { OnOk result (NothingPending D.Disk disk.old → NothingPending D.Disk disk.new) }
         ensures calls { DiskCalls D.Disk disk.old disk.new result }
     {
         self.buffers.write(disk, self.table.as_slice())

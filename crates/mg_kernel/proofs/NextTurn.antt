@@ -9,7 +9,7 @@ use Rattle.mg_disk.specs.Disk.{Image}
 use Rattle.mg_laws.specs.Backing.{BackingRestsOnDomain}
 use Rattle.mg_laws.specs.Laws.{RanNext, RunsNextReady}
 use Rattle.mg_laws.specs.Scripts.{RestsOnNoCursor, at_cursor}
-use Rattle.mg_model.specs.declared.threads.ThrState.{ThrState}
+use Rattle.mg_model.specs.declared.threads.After.{After}
 use Rattle.mg_model.specs.declared.replies.Reply.TheVariants.{Ran}
 use Rattle.mg_model.specs.declared.seats.Seat.{Seat}
 use Rattle.mg_model.specs.Backed.{KeepsBacked, by_none}
@@ -108,7 +108,7 @@ module _ (state : State) (n : ℕ) (has : Picks state n) where
       subst (λ k. thread_is_ready state k ≡ true) has.number ran.ready
 
   -- what `next` is answered
-  pub next-runs : (middle last : State) (left : Option ThrState) → RestsOnNoCursor turn_state → turn_state state n ≡ middle → left ≡ after_of middle n → last ≡ at_cursor middle n → next state ≡ (last, Ran n left)
+  pub next-runs : (middle last : State) (left : After) → RestsOnNoCursor turn_state → turn_state state n ≡ middle → left ≡ after_of middle n → last ≡ at_cursor middle n → next state ≡ (last, Ran n left)
   next-runs middle last left law turns after moves =
       ap (λ o. run_next state o) has.is
       ∙ ap (λ k. (turn_state (at_cursor state k) k, Ran k (after_of (turn_state (at_cursor state k) k) k))) has.number

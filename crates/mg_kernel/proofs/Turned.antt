@@ -10,7 +10,8 @@ use Rattle.mg_disk.specs.declared.disk.Disk.{Ghosts}
 use Rattle.mg_kernel.proofs.Threads.{found-lives}
 use Rattle.mg_kernel.specs.Calls.{IsRowOf}
 use Rattle.mg_model.specs.declared.calls.Call.{Call}
-use Rattle.mg_model.specs.declared.threads.ThrState.{ThrState}
+use Rattle.mg_model.specs.declared.threads.After.{After}
+use Rattle.mg_model.specs.declared.threads.After.TheVariants as after_turn
 use Rattle.mg_model.specs.declared.replies.Refusal.TheVariants.{NoThread, NotReady}
 use Rattle.mg_model.specs.declared.replies.Reply.{Reply}
 use Rattle.mg_model.specs.declared.replies.Reply.TheVariants.{No, Turned}
@@ -25,7 +26,7 @@ use Rattle.mg_model.specs.Refused.{Answer, first_refusal}
 use Rattle.mg_model.specs.State.{State, Thread, ThreadRow}
 use Rattle.mg_model.specs.Step.{of_thread}
 use Rattle.mg_model.specs.Threads.{is_thread}
-use Rattle.mg_model.specs.Turn.{after_of, is_ready, thread_call, thread_is_ready, turn, turn_state}
+use Rattle.mg_model.specs.Turn.{after_of, as_after, is_ready, thread_call, thread_is_ready, turn, turn_state}
 use Rattle.mg_model.specs.WellFormed.{IsWellFormed}
 use Rattle.mg_script.specs.declared.effects.Effect.{Effect}
 use Rattle.mg_script.specs.Effects.{HasFrames, IsSpelledBy, begun, finished, made_by, resumed, turned_on}
@@ -141,7 +142,7 @@ module _ (state : State) (t : ℕ) (lives : is_thread state t ≡ true) where
   tested : (v : Bool) → thread_is_ready state t ≡ v → turn state t ≡ unless_refused (first_refusal ((not v, NotReady) ∷ [])) state (turn_state state t, Turned (after_of (turn_state state t) t))
   tested v is = ap (λ b. unless_refused (first_refusal ((not b, NotReady) ∷ [])) state (turn_state state t, Turned (after_of (turn_state state t) t))) is
 
-  pub turn-ready : (next : State) (left : Option ThrState) → thread_is_ready state t ≡ true → turn_state state t ≡ next → left ≡ after_of next t → of_thread state t (turn state t) ≡ (next, Turned left)
+  pub turn-ready : (next : State) (left : After) → thread_is_ready state t ≡ true → turn_state state t ≡ next → left ≡ after_of next t → of_thread state t (turn state t) ≡ (next, Turned left)
   turn-ready next left ready is after = of-lives ∙ tested true ready ∙ ap (λ s. (s, Turned (after_of s t))) is ∙ ap (λ l. (next, Turned l)) (sym after)
 
   pub turn-refused : thread_is_ready state t ≡ false → of_thread state t (turn state t) ≡ (state, No NotReady)
@@ -194,10 +195,10 @@ module _ (t : ℕ) (change : ThreadRow → ThreadRow) where
   changes-row (Some thread) row row' is made = ap change (same_Some thread.row row is) ∙ sym made
 
   -- what the thread is then
-  pub after-change : (state new : State) (row row' : ThreadRow) (left : Option ThrState) → row_of state t ≡ Some row → new ≡ with_thread state t change → row' ≡ change row → left ≡ Some row'.state → left ≡ after_of new t
+  pub after-change : (state new : State) (row row' : ThreadRow) (left : After) → row_of state t ≡ Some row → new ≡ with_thread state t change → row' ≡ change row → left ≡ as_after row'.state → left ≡ after_of new t
   after-change state new row row' left there is made after =
-      after ∙ ap (λ (r : ThreadRow). Some r.state) made
-      ∙ sym (ap (λ s. after_of s t) is ∙ ap (λ (o : Option ThreadRow). option_map (λ (r : ThreadRow). r.state) o) (row-with state.threads row there))
+      after ∙ ap (λ (r : ThreadRow). as_after r.state) made
+      ∙ sym (ap (λ s. after_of s t) is ∙ ap (λ (o : Option ThreadRow). option_map_or (λ (r : ThreadRow). as_after r.state) o after_turn.Ended) (row-with state.threads row there))
 
   -- when the thread does not live, nothing changes
   pub no-change : (v : VolumeHeld) (image : Image) → find (λ (thread : Thread). thread.number == t) (threads_in v) ≡ None → now_of v image ≡ with_thread (now_of v image) t change
@@ -205,8 +206,8 @@ module _ (t : ℕ) (change : ThreadRow → ThreadRow) where
       let state = now_of v image in
       sym (ap (λ threads. record state { threads = threads }) (none-with state.threads (told_thread v image t None none)))
 
-  pub after-none : (v : VolumeHeld) (image : Image) → find (λ (thread : Thread). thread.number == t) (threads_in v) ≡ None → None ≡ after_of (now_of v image) t
-  after-none v image none = sym (ap (λ o. option_map (λ (r : ThreadRow). r.state) (option_map_or (λ (x : Thread). Some x.row) o None)) (told_thread v image t None none))
+  pub after-none : (v : VolumeHeld) (image : Image) → find (λ (thread : Thread). thread.number == t) (threads_in v) ≡ None → after_turn.Ended ≡ after_of (now_of v image) t
+  after-none v image none = sym (ap (λ o. option_map_or (λ (r : ThreadRow). as_after r.state) (option_map_or (λ (x : Thread). Some x.row) o None) after_turn.Ended) (told_thread v image t None none))
 
 pub unmapped : (o : Option Thread) → option_map (λ (thread : Thread). thread.row) o ≡ None → o ≡ None
 unmapped None is = refl

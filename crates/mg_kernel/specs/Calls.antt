@@ -6,7 +6,7 @@ use Rattle.mg_disk.specs.Stops.{CountRose}
 use Rattle.mg_disk.specs.declared.disk.Disk.{Ghosts}
 use Rattle.mg_model.specs.Abbreviations.{advanced}
 use Rattle.mg_model.specs.declared.calls.Call.{Call}
-use Rattle.mg_model.specs.declared.threads.ThrState.{ThrState}
+use Rattle.mg_model.specs.declared.threads.After.{After}
 use Rattle.mg_model.specs.declared.seats.Seat.{Seat}
 use Rattle.mg_model.specs.Accesses.{call_accesses, call_words, turn_accesses, turn_words}
 use Rattle.mg_model.specs.Kept.{KeepsKeys, searches_limit}
@@ -62,7 +62,7 @@ pub record Asks (row : ThreadRow) (fetched : Option ℕ) (effect : Effect) (made
   pub value : made ≡ made_by row effect
 
 -- What the turn of a Ready thread keeps, one fact a field. Nothing is staged if a call of the disk failed.
-pub record TurnServes {D E : Type 0} (facts : Ghosts D) (t : ℕ) (result : Result (Option ThrState) E) (old new : VolumeHeld) (seats seats' : List (Option Seat)) (before after : D) (steps steps' : ℕ) : Type 0 where
+pub record TurnServes {D E : Type 0} (facts : Ghosts D) (t : ℕ) (result : Result After E) (old new : VolumeHeld) (seats seats' : List (Option Seat)) (before after : D) (steps steps' : ℕ) : Type 0 where
   pub state : OnOk result (ForSome (facts.seen before) (λ image. turn_state (now_of old image) t ≡ now_of new image))
   pub left : IfOk result (λ left. ForSome (facts.seen before) (λ image. left ≡ after_of (now_of new image) t))
   pub failed : OnErr result (Keeps old new)

@@ -67,12 +67,12 @@ pub(crate) fn dispatch<D: Disk, L: Ledger>(
     steps_keep_backing();
     match *call {
         Call::Load { a } => load(volume, cache, disk, thread, a, steps),
-        Call::Store { a, v: value } => store(volume, cache, disk, thread, a, value, steps),
-        Call::Info { b: base } => validated_info(volume, cache, disk, thread, base, steps),
+        Call::Store { a, value } => store(volume, cache, disk, thread, a, value, steps),
+        Call::Info { base } => validated_info(volume, cache, disk, thread, base, steps),
         Call::Pdx { a, mask } => pdx(volume, cache, disk, thread, a, mask, steps),
         Call::Thread { pc } => validated_make(volume, cache, disk, thread, pc, steps),
         Call::Delete { .. }
-        | Call::Pwadd(..)
+        | Call::Pwadd { .. }
         | Call::Pwdel { .. }
         | Call::Entry { .. }
         | Call::Ext { .. }

@@ -7,7 +7,7 @@ ghost use Rattle.mg_laws.specs.Scripts.{at_cursor};
 ghost use Rattle.mg_model.specs.Domains.{with_thread};
 ghost use Rattle.mg_model.specs.Layout.{body_limit};
 ghost use Rattle.mg_model.specs.State.{ThreadRow};
-ghost use Rattle.mg_model.specs.Turn.{after_of, is_ready, thread_is_ready};
+ghost use Rattle.mg_model.specs.Turn.{after_of, as_after, is_ready, thread_is_ready};
 ghost use Rattle.mg_script.specs.Effects.{HasPlace, IsSpelledBy, resumed};
 ghost use Rattle.mg_vcache.specs.Seats.{AllBacked};
 ghost use Rattle.mg_volume.specs.Calls.{IsSoundOn, Stages};
@@ -23,7 +23,7 @@ use mg_laws::{
     accesses_go_on, backing_rests_on_the_domain, next_runs_the_least_ready_thread,
     turns_rest_on_no_cursor,
 };
-use mg_model::{Call, Line, Refusal, Reply, Steps, ThrRow, ThrState};
+use mg_model::{After, Call, Line, Refusal, Reply, Steps, ThrRow, ThrState};
 use mg_script::{
     Effect, begin, call, resume, standing_after, turns_are_calls, turns_search_as_calls,
 };
@@ -106,7 +106,7 @@ fn run<D: Disk, L: Ledger>(
     disk: &mut D,
     thread: u64,
     steps: &mut Steps<L>,
-) -> Result<Option<ThrState>, Failed>
+) -> Result<After, Failed>
     requires sound { IsSoundOn D.Disk volume.old disk.old }
     requires at_most_28_staged { staged_of volume.old ≤ 28 }
     requires backed { ForSome (D.seen disk.old) (λ image. AllBacked (now_of volume.old image) cache.old) }
@@ -160,7 +160,7 @@ fn asked(volume: &Volume, thread: u64, fetched: Option<u64>) -> (Effect, Call)
 
 // A thread continues after the call of its turn, with the row that its effect makes of the row that the call left. It has none
 // if it ended itself.
-fn go_on(volume: &mut Volume, thread: u64, effect: &Effect, reply: &Reply) -> Option<ThrState>
+fn go_on(volume: &mut Volume, thread: u64, effect: &Effect, reply: &Reply) -> After
     requires place { HasPlace effect.now }
     requires fewer_than_160_staged { staged_of volume.old < body_limit }
     ensures now { (image : List (List ℕ)) → now_of volume.new image ≡ with_thread (now_of volume.old image) thread (λ row. resumed effect.now reply.now row) }
@@ -171,16 +171,16 @@ fn go_on(volume: &mut Volume, thread: u64, effect: &Effect, reply: &Reply) -> Op
         Some(row) => match standing_after(row, effect, reply) {
             Some(stands) => {
                 volume.move_thread(thread, stands.pc, stands.state, &stands.regs);
-                Some(stands.state)
+                after(stands.state)
             }
             None => go_on_whole(volume, thread, effect, reply),
         },
-        None => None,
+        None => After::Ended,
     }
 }
 
 // As [`go_on`], for a thread that lives and whose row may change in more than its pc, its registers and its state.
-fn go_on_whole(volume: &mut Volume, thread: u64, effect: &Effect, reply: &Reply) -> Option<ThrState>
+fn go_on_whole(volume: &mut Volume, thread: u64, effect: &Effect, reply: &Reply) -> After
     requires place { HasPlace effect.now }
     requires fewer_than_160_staged { staged_of volume.old < body_limit }
     ensures now { (image : List (List ℕ)) → now_of volume.new image ≡ with_thread (now_of volume.old image) thread (λ row. resumed effect.now reply.now row) }
@@ -191,9 +191,20 @@ fn go_on_whole(volume: &mut Volume, thread: u64, effect: &Effect, reply: &Reply)
         Some(row) => {
             let row = resume(row, effect, reply);
             volume.change_thread(thread, row);
-            Some(row.state())
+            after(row.state())
         }
-        None => None,
+        None => After::Ended,
+    }
+}
+
+// What a thread is after its turn, if the turn left it in this state.
+fn after(state: ThrState) -> After
+    ensures { result ≡ as_after state }
+{
+    match state {
+        ThrState::Ready => After::Ready,
+        ThrState::Stopped => After::Stopped,
+        ThrState::Faulted(kind) => After::Faulted(kind),
     }
 }
 

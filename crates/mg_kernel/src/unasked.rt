@@ -24,33 +24,30 @@ pub(crate) fn unasked(volume: &mut Volume, cache: &mut VCache, thread: u64, call
 {
     match *call {
         Call::Create {
-            n: pages,
-            acc: account,
-            pw: password,
+            pages,
+            account,
+            password,
         } => create(volume, pages, account, password),
-        Call::Apdadd {
-            cb: clist,
-            cpw: password,
-        } => apdadd(volume, cache, thread, clist, password),
-        Call::Apddel { i: index } => apddel(volume, cache, thread, index),
+        Call::Apdadd { clist, password } => apdadd(volume, cache, thread, clist, password),
+        Call::Apddel { index } => apddel(volume, cache, thread, index),
         Call::Apdlist => apdlist(volume, thread),
         Call::Ret => ret(volume, cache, thread),
-        Call::End { i: ended } => end(volume, cache, thread, ended),
-        Call::Resume { i: resumed } => resume(volume, thread, resumed),
+        Call::End { thread: ended } => end(volume, cache, thread, ended),
+        Call::Resume { thread: resumed } => resume(volume, thread, resumed),
         Call::Account {
-            acc: payer,
-            pw: password,
-            n: amount,
+            account: payer,
+            password,
+            amount,
         } => account(volume, payer, password, amount),
         Call::Pay {
-            acc: payer,
-            pw: password,
+            account: payer,
+            password,
             to,
-            n: amount,
+            amount,
         } => pay(volume, payer, password, to, amount),
         Call::Balance {
-            acc: payer,
-            pw: password,
+            account: payer,
+            password,
         } => balance(volume, payer, password),
         _ => unreachable!(),
     }

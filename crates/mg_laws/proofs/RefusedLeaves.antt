@@ -4,7 +4,7 @@ use Rattle.std.proofs.Common.{ℕ, ◌+◌, ◌-◌, ◌*◌, ◌≡◌, length,
 use Rattle.std.proofs.lemmas.Bool.{cond_both}
 use Rattle.mg_model.specs.declared.calls.Call.{Call}
 use Rattle.mg_model.specs.declared.calls.Call.TheVariants as call
-use Rattle.mg_model.specs.declared.threads.ThrState.{ThrState}
+use Rattle.mg_model.specs.declared.threads.After.{After}
 use Rattle.mg_model.specs.declared.replies.Refusal.{Refusal}
 use Rattle.mg_model.specs.declared.replies.Refusal.TheVariants as refusal
 use Rattle.mg_model.specs.declared.replies.Reply.{Reply}
@@ -90,7 +90,7 @@ of_thread-leaves state t done leaves = grind (arith, cond_both, same-leaves)
 pub collected-ok : (period rate paid : ℕ) → IsOk (reply.Collected period rate paid)
 collected-ok period rate paid = record { ok = λ word no. cc }
 
-pub turned-ok : (after : Option ThrState) → IsOk (reply.Turned after)
+pub turned-ok : (after : After) → IsOk (reply.Turned after)
 turned-ok after = record { ok = λ word no. cc }
 
 run_next-leaves : (state : State) (o : Option Thread) → Leaves state (run_next state o).0 (run_next state o).1

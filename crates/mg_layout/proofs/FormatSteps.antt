@@ -1,11 +1,12 @@
 -- The steps of making a volume, from the gate closed to the gate open.
 use Rattle.std.specs.Prelude.{◌≡◌, ◌≢◌, ℕ, ◌+◌, ◌≤◌, IsTrue, List, [], ◌∷◌, drop, length, option_map, replicate, slice_set, Option, Some, None}
-use Rattle.std.proofs.Common.{refl, sym, ap, subst, ◌∙◌, arith}
+use Rattle.std.specs.Option.{ForSome}
+use Rattle.std.proofs.Common.{refl, inl, sym, ap, subst, ◌∙◌, arith}
 use Rattle.std.proofs.lemmas.Bool.Decides.{nat_tests}
 use Rattle.std.proofs.lemmas.List.{get_or-set_other, get_or-set_same, length-set}
 use Rattle.mg_disk.specs.Disk.{Image, SameBut, only_place}
-use Rattle.mg_disk.specs.Runs.{leaves_wider}
-use Rattle.mg_disk.specs.Stops.{Leaves}
+use Rattle.mg_disk.specs.Runs.{from_then, from_wider}
+use Rattle.mg_disk.specs.Stops.{FromLeft, Leaves, NothingPending}
 use Rattle.mg_disk.specs.declared.disk.Disk.{Ghosts}
 use Rattle.mg_model.specs.Fresh.{fresh}
 use Rattle.mg_model.specs.Layout.{first_frame, gate_block, gate_open, total_blocks}
@@ -72,8 +73,8 @@ module _ (settings : Settings) (keeps : IsSettings settings) (image : Image) (ro
         same.others i (λ e. omega arith) ∙ until-block settings (first_frame settings.frames) i (with_closed image) low high (omega arith) t;
   }
 
-  pub open_may : (c : Image) → SameBut (only_place gate_block) (with_rest settings image) c → MayFormat image settings c
-  open_may c same = grind (arith, nat_tests, not_volume, volume-closed, fresh_volume, is_fresh)
+  pub open_may : (a c : Image) → SameBut (only_place gate_block) (with_rest settings image) c → MayFormat a settings c
+  open_may a c same = grind (arith, nat_tests, not_volume, volume-closed, fresh_volume, is_fresh)
 
   pub made_fresh : (c : Image) → c ≡ slice_set (with_rest settings image) gate_block gate_bytes → volume c ≡ Is (fresh settings)
   made_fresh c is = grind (arith, length-set, length-with_rest, fresh_volume, is_fresh, get_or-set_other, get_or-set_same)
@@ -97,14 +98,42 @@ all_made settings keeps first closed behind last gate is one two three room =
     from_first (Some image) long =
         made_fresh settings keeps image (long image refl) (slice_set (with_rest settings image) gate_block gate) (ap (slice_set (with_rest settings image) gate_block) is)
 
--- the three phases
-module _ {D : Type 0} (facts : Ghosts D) (settings : Settings) (image : Image) where
-  pub first_phase : (old new : D) → Leaves facts old new (SameBut (only_place gate_block) image) → Leaves facts old new (MayFormat image settings)
-  first_phase old new leaves = leaves_wider facts old new (SameBut (only_place gate_block) image) (MayFormat image settings) leaves (λ c same. close_may settings image c same)
+-- what reads give after the second phase
+pub rest_of : (settings : Settings) (first closed behind : Option Image) → closed ≡ option_map with_closed first → behind ≡ option_map (fresh_until settings (first_frame settings.frames)) closed → behind ≡ option_map (with_rest settings) first
+rest_of settings first closed behind one two = two ∙ ap (option_map (fresh_until settings (first_frame settings.frames))) one ∙ joined first
+  where
+    joined : (o : Option Image) → option_map (fresh_until settings (first_frame settings.frames)) (option_map with_closed o) ≡ option_map (with_rest settings) o
+    joined None = refl
+    joined (Some image) = refl
 
-  pub second_phase : (old mid new : D) → 1 ≤ length image → Leaves facts old mid (MayFormat image settings) → Leaves facts mid new (SameBut (λ i. 1 ≤ i) (with_closed image)) → Leaves facts old new (MayFormat image settings)
-  second_phase old mid new some a b = grind (arith, behind_may, closed_gate)
+-- what was told, of an image that is made of it
+made_of : (f : Image → Image) (o : Option Image) (d : Image) → option_map f o ≡ Some d → (s : Image) × (o ≡ Some s) × (d ≡ f s)
+made_of f None d is = absurd cc
+made_of f (Some s) d is = (s, refl, cc)
 
-  pub third_phase : IsSettings settings → (old mid new : D) → total_blocks settings.frames ≤ length image → Leaves facts old mid (MayFormat image settings) → Leaves facts mid new (SameBut (only_place gate_block) (with_rest settings image))
-      → Leaves facts old new (MayFormat image settings)
-  third_phase keeps old mid new room a b = grind (arith, open_may)
+-- The three phases. After the first and the second one the disk is settled, at an image that is made of what reads gave at first.
+module _ {D : Type 0} (facts : Ghosts D) (settings : Settings) (old : D) where
+  abbrev pub May : Image → Image → Type 0
+  May image c = MayFormat image settings c
+
+  pub first_phase : (new : D) → Leaves facts old new (FromLeft facts old (SameBut (only_place gate_block))) → Leaves facts old new (FromLeft facts old May)
+  first_phase new run = from_wider facts old new (SameBut (only_place gate_block)) May run (close_may settings)
+
+  module _ (room : total_blocks settings.frames ≤ facts.block_count old) (count : ForSome (facts.seen old) (λ image. length image ≡ facts.block_count old)) where
+    pub second_phase : (mid new : D) → NothingPending facts mid → facts.seen mid ≡ option_map with_closed (facts.seen old)
+        → Leaves facts old mid (FromLeft facts old May) → Leaves facts mid new (FromLeft facts mid (SameBut (λ i. 1 ≤ i))) → Leaves facts old new (FromLeft facts old May)
+    second_phase mid new settled closed so_far run =
+        from_then facts old mid new (SameBut (λ i. 1 ≤ i)) May so_far run
+        (λ d left a c same.
+        let s = made_of with_closed (facts.seen old) d (sym closed ∙ settled d left) in
+        let long = count s.0 s.1 in
+        inl (behind_may d c (subst (λ (e : Image). gate_byte e ≢ gate_open) (sym s.2) (closed_gate s.0 (omega (arith, room, long)))) same))
+
+    pub third_phase : IsSettings settings → (mid new : D) → NothingPending facts mid → facts.seen mid ≡ option_map (with_rest settings) (facts.seen old)
+        → Leaves facts old mid (FromLeft facts old May) → Leaves facts mid new (FromLeft facts mid (SameBut (only_place gate_block))) → Leaves facts old new (FromLeft facts old May)
+    third_phase keeps mid new settled behind so_far run =
+        from_then facts old mid new (SameBut (only_place gate_block)) May so_far run
+        (λ d left a c same.
+        let s = made_of (with_rest settings) (facts.seen old) d (sym behind ∙ settled d left) in
+        let long = count s.0 s.1 in
+        open_may settings keeps s.0 (omega (arith, room, long)) a c (subst (λ (e : Image). SameBut (only_place gate_block) e c) s.2 same))

@@ -7,7 +7,7 @@ use Rattle.mg_model.specs.Fresh.{fresh}
 use Rattle.mg_model.specs.Layout.{gate_block, gate_open}
 use Rattle.mg_model.specs.Replay.{block_of}
 use Rattle.mg_model.specs.Settings.{Settings}
-use Rattle.mg_model.specs.Volume.{Damaged, Is, NotVolume, OldVolume, VolumeRead, volume}
+use Rattle.mg_model.specs.Volume.{Is, VolumeRead, volume}
 
 -- it is not a state of the machine
 abbrev pub IsNoState : VolumeRead → Type 0

@@ -1,8 +1,7 @@
 // The blocks after the gate, as they are written when a volume is made.
 ghost use Rattle.std.specs.Prelude.{◌≡◌, ◌≤◌, ◌<◌, ◌+◌, OnErr, OnOk, option_map};
-ghost use Rattle.std.specs.Option.{ForSome};
-ghost use Rattle.mg_disk.specs.Disk.{SameBut, TornAt, only_place};
-ghost use Rattle.mg_disk.specs.Stops.{DiskCalls, Leaves, NothingPending, TimeGoes};
+ghost use Rattle.mg_disk.specs.Disk.{TornAt, only_place};
+ghost use Rattle.mg_disk.specs.Stops.{DiskCalls, Leaves, MightHaveLeft, NothingPending, TimeGoes};
 ghost use Rattle.mg_model.specs.Layout.{first_frame, total_blocks};
 ghost use Rattle.mg_layout.specs.FreshBelow.{fresh_until, with_block};
 ghost use Rattle.mg_layout.specs.FreshImage.{is_written};
@@ -14,10 +13,11 @@ use mg_faults::Failed;
 use mg_model::Params;
 use mg_model::layout::{FIRST_SEGMENT, GLOBALS_BLOCK, SEGMENT_SIZE, SUPER_BLOCK};
 
-/// Writes the blocks after the gate, and syncs the disk.
+/// Writes the blocks after the gate, and syncs the disk. A stop leaves an image that it might have left before, with any bytes
+/// after the gate.
 pub(crate) fn write_behind<D: Disk>(disk: &mut D, params: &Params) -> Result<(), Failed>
     requires within_disk { total_blocks params.now.frames ≤ D.block_count disk.old }
-    ensures any_moment { NothingPending D.Disk disk.old → ForSome (D.seen disk.old) (λ image. Leaves D.Disk disk.old disk.new (SameBut (λ i. 1 ≤ i) image)) }
+    ensures any_moment { Leaves D.Disk disk.old disk.new (TornAt (λ i. 1 ≤ i) (MightHaveLeft D.Disk disk.old)) }
     ensures written { OnOk result (D.seen disk.new ≡ option_map (fresh_until params.now (first_frame params.now.frames)) (D.seen disk.old)) }
     ensures settled { OnOk result (NothingPending D.Disk disk.new) }
     ensures calls { DiskCalls D.Disk disk.old disk.new result }

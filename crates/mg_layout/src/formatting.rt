@@ -1,8 +1,8 @@
-// Making a volume. A stop at any moment leaves what the blocks after the gate spelled, no volume, or the fresh volume.
+// Making a volume. Whatever was pending, a stop at any moment leaves no volume, the fresh volume, or what the blocks after the
+// gate spelled in an image that a stop might have left before.
 ghost use Rattle.std.specs.Prelude.{◌≡◌, ◌≤◌, OnOk};
-ghost use Rattle.std.specs.Option.{ForSome};
 ghost use Rattle.mg_disk.specs.Disk.{Image};
-ghost use Rattle.mg_disk.specs.Stops.{DiskCalls, DiskCallsBy, Leaves, NothingPending};
+ghost use Rattle.mg_disk.specs.Stops.{DiskCalls, DiskCallsBy, FromLeft, Leaves, NothingPending};
 ghost use Rattle.mg_model.specs.Fresh.{fresh};
 ghost use Rattle.mg_model.specs.Layout.{total_blocks};
 ghost use Rattle.mg_model.specs.Volume.{Is, volume};
@@ -31,9 +31,10 @@ pub enum FormatFault {
 /// Makes a fresh volume with these settings. It reads nothing.
 ///
 /// The gate is closed first, then every block after it is written, and then the gate is opened, with a sync after each. So a
-/// stop at any moment leaves no volume, what the blocks after the gate spelled before, or the fresh volume.
+/// stop at any moment leaves no volume, the fresh volume, or what the blocks after the gate spelled in an image that a stop
+/// might have left before, whatever was pending then.
 pub fn format<D: Disk>(disk: &mut D, params: &Params) -> Result<(), FormatFault>
-    ensures any_moment { NothingPending D.Disk disk.old → ForSome (D.seen disk.old) (λ image. Leaves D.Disk disk.old disk.new (MayFormat image params.now)) }
+    ensures any_moment { Leaves D.Disk disk.old disk.new (FromLeft D.Disk disk.old (λ image. MayFormat image params.now)) }
     ensures made { OnOk result (ReadsFresh params.now (D.seen disk.old) (D.seen disk.new)) }
     ensures settled { OnOk result (NothingPending D.Disk disk.new) }
     ensures left { OnOk result ((c : Image) → D.left_since disk.new (D.moment disk.new) c → volume c ≡ Is (fresh params.now)) }
@@ -55,7 +56,7 @@ pub fn format<D: Disk>(disk: &mut D, params: &Params) -> Result<(), FormatFault>
 // Closes the gate, writes the blocks after it, and opens it.
 fn make<D: Disk>(disk: &mut D, params: &Params) -> Result<(), Failed>
     requires within_disk { total_blocks params.now.frames ≤ D.block_count disk.old }
-    ensures any_moment { NothingPending D.Disk disk.old → ForSome (D.seen disk.old) (λ image. Leaves D.Disk disk.old disk.new (MayFormat image params.now)) }
+    ensures any_moment { Leaves D.Disk disk.old disk.new (FromLeft D.Disk disk.old (λ image. MayFormat image params.now)) }
     ensures made { OnOk result (ReadsFresh params.now (D.seen disk.old) (D.seen disk.new)) }
     ensures settled { OnOk result (NothingPending D.Disk disk.new) }
     ensures calls { DiskCalls D.Disk disk.old disk.new result }

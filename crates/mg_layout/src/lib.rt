@@ -1,8 +1,8 @@
 //! The places of everything on a volume, its superblock, and how a volume is made.
 //!
 //! A layer above gets the places of the parts of a volume ([`Geometry`], of `mg_bytes`), reads and writes the superblock, and makes a
-//! volume with [`format`]. At each moment of `format` a stop leaves what the blocks after the gate spelled before, no
-//! volume, or the fresh volume.
+//! volume with [`format`]. At each moment of `format` a stop leaves no volume, the fresh volume, or what the blocks after the
+//! gate spelled in an image that a stop might have left before, whatever was pending then.
 //!
 //! All bytes of a volume are read and written with these: [`number_at`], [`put_number`], [`are_zeros`], and [`Filling`],
 //! bytes that are filled from the first on.

@@ -2,11 +2,11 @@
 use Rattle.std.specs.Prelude.{◌≡◌, ℕ, ◌+◌, ◌-◌, ◌<◌, ◌≤◌, IsTrue, List, length, slice_index, Option, Some, None, IsSomeAnd}
 use Rattle.std.specs.Option.{ForSome}
 use Rattle.std.proofs.Common.{refl, inl, inr, sym, ap, subst, ◌∙◌, ⊎_elim, arith}
-use Rattle.std.proofs.lemmas.Bool.{cases_eq}
-use Rattle.mg_disk.specs.Disk.{HasBlocks, Image, Moment, SameBut, SeenBut, no_image, only_place}
+use Rattle.std.proofs.lemmas.Bool.{cases_eq, cases_lt}
+use Rattle.mg_disk.specs.Disk.{HasBlocks, Image, InRange, SameBut, SeenBut, no_image, only_place}
 use Rattle.mg_disk.specs.declared.disk.Disk.{Ghosts}
-use Rattle.mg_disk.specs.Runs.{Tracks, leaves_then, leaves_wider, quiet}
-use Rattle.mg_disk.specs.Stops.{Leaves, NothingPending, TimeGoes}
+use Rattle.mg_disk.specs.Runs.{from_then, from_wider, leaves_quiet}
+use Rattle.mg_disk.specs.Stops.{FromLeft, Leaves, NothingPending, TimeGoes}
 use Rattle.mg_layout.specs.GateLemmas.{gate_alone}
 use Rattle.mg_migrate.specs.Copied.{AreCopied, AreSame, IsClosed, IsCopy, MayCopy, ReadsNow, StandsClosed}
 use Rattle.mg_model.specs.Layout.{gate_block, gate_open}
@@ -14,17 +14,6 @@ use Rattle.mg_model.specs.Replay.{block_of}
 use Rattle.mg_model.specs.Volume.{NotVolume, gate_byte, volume}
 use Rattle.mg_model.specs.VolumeLemmas.{volume-closed}
 use Rattle.mg_model.specs.Words.{and_then}
-
--- an image with the same blocks but at these places is told
-pub record IsThen (places : ℕ → Type 0) (image : Image) (told : Option Image) : Type 0 where
-  pub c : Image
-  pub is : told ≡ Some c
-  pub same : SameBut places image c
-
-pub seen_then : (places : ℕ → Type 0) (old new : Option Image) (image : Image) → SeenBut places old new → old ≡ Some image → IsThen places image new
-seen_then places None new image same is = absurd cc
-seen_then places (Some s) None image same is = absurd same
-seen_then places (Some s) (Some c) image same is = grind arith
 
 -- the blocks before this one, of n, are those of the contents
 abbrev pub AreBefore : ℕ → ℕ → Image → Image → Type 0
@@ -40,14 +29,24 @@ same_blocks first count blocks r c is read put i at =
     let P : ℕ → Type 0 = λ j. block_of c j ≡ block_of r j in
     subst P place (put (i - first) inside ∙ sym (read (i - first) inside))
 
+-- the blocks before a place, and those that were copied from there on
+pub copied_more : (n first next count : ℕ) (r : Image) (mid new : Option Image) → ((i : ℕ) → i < n → i < next → i < first + count) → SeenBut (InRange first count) mid new
+    → ForSome mid (AreBefore n first r) → ForSome new (AreSame first count r) → ForSome new (AreBefore n next r)
+copied_more n first next count r None new within same before now d is i low inside below = absurd (let P : Option Image → Type 0 = λ o. SeenBut (InRange first count) None o in subst P is same)
+copied_more n first next count r (Some s) new within same before now d is i low inside below =
+    let P : Option Image → Type 0 = λ o. SeenBut (InRange first count) (Some s) o in
+    let same_d : SameBut (InRange first count) s d = subst P is same in
+    ⊎_elim (λ under. same_d.others i (λ at. let from = at.from in omega (arith, under, from)) ∙ before s refl i low inside under) (λ from. now d is i (record { from = from; before = within i inside below }))
+    (cases_lt i first)
+
 -- what is said of the contents that reads give
 pub of_contents : (of : Image → Option Image) (seen : Option Image) (P : Image → Type 0) → ForSome seen (λ image. ForSome (of image) P) → ForSome (and_then seen of) P
 of_contents of None P told r is = absurd cc
 of_contents of (Some s) P told r is = told s refl r is
 
 -- a sync of a disk whose writes were followed
-pub synced : {D : Type 0} (facts : Ghosts D) (P : Image → Type 0) (first at mid new : D) → mid ≡ at → Tracks facts first at P P → TimeGoes facts mid new no_image → Leaves facts first new P
-synced facts P first at mid new is tracks call = (quiet facts first mid new P P (subst (λ d. Tracks facts first d P P) (sym is) tracks) call).leaves
+pub synced : {D : Type 0} (facts : Ghosts D) (P : Image → Type 0) (first at mid new : D) → mid ≡ at → Leaves facts first at P → TimeGoes facts mid new no_image → Leaves facts first new P
+synced facts P first at mid new is run call = leaves_quiet facts first mid new P (subst (λ d. Leaves facts first d P) (sym is) run) call
 
 -- The gate is closed: a stop leaves no volume, or what is after the gate.
 pub close_may : (n : ℕ) (image r c : Image) → SameBut (only_place gate_block) image c → MayCopy n image r c
@@ -67,24 +66,13 @@ seen_closed : (mid new : Option Image) → SeenBut (λ k. 1 ≤ k) mid new → F
 seen_closed None new same closed c is = absurd (let P : Option Image → Type 0 = λ o. SeenBut (λ k. 1 ≤ k) None o in subst P is same)
 seen_closed (Some s) new same closed c is = still_closed s c (closed s refl) (let P : Option Image → Type 0 = λ o. SeenBut (λ k. 1 ≤ k) (Some s) o in subst P is same)
 
-was_told : (places : ℕ → Type 0) (old new : Option Image) (P : Image → Type 0) → SeenBut places old new → IsSomeAnd new P → (s : Image) × (old ≡ Some s)
-was_told places (Some s) new P same some = (s, refl)
-was_told places None (Some c) P same some = absurd same
-was_told places None None P same some = absurd some
-
 -- While the blocks after it are copied a stop leaves the gate closed too.
-pub stands_closed : {D : Type 0} (facts : Ghosts D) (mid new : D) → ((t : Moment) (c : Image) → facts.left_since new t c → IsTrue (facts.tells_stops new))
-    → (IsTrue (facts.tells_stops new) → IsSomeAnd (facts.seen new) (facts.left_since new (facts.moment new))) → SeenBut (λ k. 1 ≤ k) (facts.seen mid) (facts.seen new)
-    → ForSome (facts.seen mid) (λ s. gate_byte s ≡ 0) → NothingPending facts mid → ForSome (facts.seen mid) (λ s. Leaves facts mid new (SameBut (λ k. 1 ≤ k) s)) → StandsClosed facts new
-stands_closed facts mid new told stays same closed settled leaves = record {
+pub stands_closed : {D : Type 0} (facts : Ghosts D) (mid new : D) → SeenBut (λ k. 1 ≤ k) (facts.seen mid) (facts.seen new) → ForSome (facts.seen mid) (λ s. gate_byte s ≡ 0) → NothingPending facts mid
+    → Leaves facts mid new (FromLeft facts mid (SameBut (λ k. 1 ≤ k))) → StandsClosed facts new
+stands_closed facts mid new same closed settled run = record {
   reads = seen_closed (facts.seen mid) (facts.seen new) same closed;
-  left = left;
+  left = λ c may. ⊎_elim (λ before. zero_closed c (closed c (settled c before))) (λ torn. still_closed torn.0 c (closed torn.0 (settled torn.0 torn.1)) torn.2) (run.time.now c may);
 }
-  where
-    left : (c : Image) → facts.left_since new (facts.moment new) c → IsClosed c
-    left c may =
-        let s = was_told (λ k. 1 ≤ k) (facts.seen mid) (facts.seen new) (facts.left_since new (facts.moment new)) same (stays (told (facts.moment new) c may)) in
-        ⊎_elim (λ before. zero_closed c (closed c (settled c before))) (λ torn. still_closed s.0 c (closed s.0 s.1) torn) ((leaves s.0 s.1).time.now c may)
 
 -- With the gate open it is a copy.
 pub is_copy : (n : ℕ) (r s c : Image) → n ≤ length s → AreCopied n r s → SameBut (only_place gate_block) s c → gate_byte c ≡ gate_open → IsCopy n r c
@@ -105,13 +93,21 @@ all_made n r (Some image) (Some s) None last a b c long copied gate = absurd b
 all_made n r None None None (Some u) a b c long copied gate = absurd c
 all_made n r (Some image) (Some s) (Some t) None a b c long copied gate = absurd c
 
--- the three phases
-module _ {D : Type 0} (facts : Ghosts D) (n : ℕ) (image r : Image) where
-  pub first_phase : (old new : D) → Leaves facts old new (SameBut (only_place gate_block) image) → Leaves facts old new (MayCopy n image r)
-  first_phase old new leaves = leaves_wider facts old new (SameBut (only_place gate_block) image) (MayCopy n image r) leaves (λ c same. close_may n image r c same)
+-- The three phases. After the first and the second one the disk is settled.
+module _ {D : Type 0} (facts : Ghosts D) (n : ℕ) (r : Image) (old : D) where
+  abbrev pub May : Image → Image → Type 0
+  May image = MayCopy n image r
 
-  pub second_phase : (old mid new : D) (s : Image) → gate_byte s ≡ 0 → Leaves facts old mid (MayCopy n image r) → Leaves facts mid new (SameBut (λ k. 1 ≤ k) s) → Leaves facts old new (MayCopy n image r)
-  second_phase old mid new s zero a b = leaves_then facts old mid new (SameBut (λ k. 1 ≤ k) s) (MayCopy n image r) a b (λ c same. inl (behind_closed s c zero same))
+  pub first_phase : (new : D) → Leaves facts old new (FromLeft facts old (SameBut (only_place gate_block))) → Leaves facts old new (FromLeft facts old May)
+  first_phase new run = from_wider facts old new (SameBut (only_place gate_block)) May run (λ a c same. close_may n a r c same)
 
-  pub third_phase : (old mid new : D) (s : Image) → n ≤ length s → AreCopied n r s → Leaves facts old mid (MayCopy n image r) → Leaves facts mid new (SameBut (only_place gate_block) s) → Leaves facts old new (MayCopy n image r)
-  third_phase old mid new s long copied a b = leaves_then facts old mid new (SameBut (only_place gate_block) s) (MayCopy n image r) a b (λ c same. open_may n image r s c long copied same)
+  pub second_phase : (mid new : D) → NothingPending facts mid → ForSome (facts.seen mid) (λ s. gate_byte s ≡ 0)
+      → Leaves facts old mid (FromLeft facts old May) → Leaves facts mid new (FromLeft facts mid (SameBut (λ k. 1 ≤ k))) → Leaves facts old new (FromLeft facts old May)
+  second_phase mid new settled closed so_far run =
+      from_then facts old mid new (SameBut (λ k. 1 ≤ k)) May so_far run (λ d left a c same. inl (behind_closed d c (closed d (settled d left)) same))
+
+  pub third_phase : (mid new : D) → NothingPending facts mid → ForSome (facts.seen mid) (λ s. n ≤ length s) → ForSome (facts.seen mid) (AreCopied n r)
+      → Leaves facts old mid (FromLeft facts old May) → Leaves facts mid new (FromLeft facts mid (SameBut (only_place gate_block))) → Leaves facts old new (FromLeft facts old May)
+  third_phase mid new settled long copied so_far run =
+      from_then facts old mid new (SameBut (only_place gate_block)) May so_far run
+      (λ d left a c same. let told = settled d left in open_may n a r d c (long d told) (copied d told) same)

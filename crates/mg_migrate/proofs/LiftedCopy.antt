@@ -6,9 +6,10 @@ use Rattle.mg_rules.specs.RowsRead.{state_in}
 use Rattle.mg_check.specs.Summaries.{TellsOf, summary_of}
 use Rattle.mg_check.specs.declared.examining.Summary.{Summary}
 use Rattle.mg_rules.specs.declared.volume_rows.VolumeRows.{VolumeRows}
-use Rattle.mg_disk.specs.Disk.{Image}
+use Rattle.mg_disk.specs.Disk.{Image, only_place}
 use Rattle.mg_disk.specs.PlaceLemmas.{same_as}
-use Rattle.mg_disk.specs.Stops.{Leaves, NothingPending}
+use Rattle.mg_disk.specs.Runs.{from_yet}
+use Rattle.mg_disk.specs.Stops.{FromLeft, Leaves}
 use Rattle.mg_disk.specs.declared.disk.Disk.{Ghosts}
 use Rattle.mg_layout.specs.MayFormat.{IsNoState, opened}
 use Rattle.mg_layout.specs.GateLemmas.{gate_alone}
@@ -24,7 +25,7 @@ use Rattle.mg_migrate.specs.Migrated.{HasLifted, IsLiftOf, IsMigrated, IsState1,
 use Rattle.mg_migrate.specs.MigratedLemmas.{reads-wider}
 use Rattle.mg_migrate.specs.OldRead.{IsOldRead}
 use Rattle.mg_migrate.specs.Version1.{Volume1Read, as_volume1, lift, lift_volume, replayed1_volume, volume1}
-use Rattle.mg_model.specs.Layout.{total_blocks}
+use Rattle.mg_model.specs.Layout.{gate_block, total_blocks}
 use Rattle.mg_model.specs.Replay.{replay}
 use Rattle.mg_model.specs.State.{State}
 use Rattle.mg_model.specs.Volume.{Damaged, Is, NotVolume, OldVolume, VolumeRead, volume}
@@ -99,7 +100,6 @@ left-lifts P (Some before) (Some image) c is told = subst P (cc) is
 gate-may : (v : Volume1Read) (image c : Image) → (volume c ≡ NotVolume) ⊎ (volume c ≡ volume (opened image)) → MayMigrate image v c
 gate-may v image c may = ⊎_elim (λ none. inl (no_state c none)) (λ before. inr (inl before)) may
 
--- when no call was made, nothing but the image itself may be left
-pub untouched_may : {D : Type 0} (facts : Ghosts D) (v : Volume1Read) (image : Image) (disk : D) → facts.has_been disk (facts.moment disk) → facts.seen disk ≡ Some image → NothingPending facts disk
-    → Leaves facts disk disk (MayMigrate image v)
-untouched_may facts v image disk been told settled = grind (arith, gate-may, gate_alone, same_as)
+-- when no call was made, nothing but what might have been left may be left
+pub untouched_may : {D : Type 0} (facts : Ghosts D) (v : Volume1Read) (disk : D) → facts.has_been disk (facts.moment disk) → Leaves facts disk disk (FromLeft facts disk (λ image. MayMigrate image v))
+untouched_may facts v disk been = from_yet facts disk (λ image. MayMigrate image v) been (λ c. gate-may v c c (gate_alone c c (same_as (only_place gate_block) c c refl)))

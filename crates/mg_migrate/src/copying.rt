@@ -1,10 +1,10 @@
-// The contents of a volume copied to another disk, so that a stop at any moment leaves no volume, what the blocks after the gate of
-// that disk spelled, or the copy.
+// The contents of a volume copied to another disk, so that a stop at any moment leaves there no volume, the copy, or what the blocks
+// after the gate spelled in an image that a stop might have left before.
 ghost use Rattle.std.specs.Prelude.{◌≡◌, ◌≢◌, ◌+◌, ◌^◌, ◌≤◌, ◌<◌, OnOk, length};
 ghost use Rattle.std.specs.Option.{ForSome};
 ghost use Rattle.mg_check.specs.Reads.{CanRead, contents};
-ghost use Rattle.mg_disk.specs.Disk.{InRange, SameBut, SeenBut, TornAt, only_place};
-ghost use Rattle.mg_disk.specs.Stops.{DiskCallsBy, Leaves, NothingPending, OnlyReadsBy, TimeGoes};
+ghost use Rattle.mg_disk.specs.Disk.{InRange, SeenBut, TornAt, only_place};
+ghost use Rattle.mg_disk.specs.Stops.{DiskCallsBy, FromLeft, Leaves, MightHaveLeft, NothingPending, OnlyReadsBy, TimeGoes};
 ghost use Rattle.mg_migrate.specs.Copied.{AreCopied, AreSame, MayCopy, StandsClosed, StandsCopied};
 ghost use Rattle.mg_model.specs.Layout.{gate_block};
 ghost use Rattle.mg_model.specs.Volume.{gate_byte};
@@ -38,7 +38,7 @@ pub(crate) fn copy<C: Contents, D: Disk, E: Disk>(
     requires at_least_2_blocks { 2 ≤ C.total view.now }
     requires within_disk { C.total view.now ≤ D.block_count new.old }
     requires can { CanRead E.Disk (C.need view.now) (C.Fits view.now) old.old }
-    ensures any_moment { NothingPending D.Disk new.old → ForSome (D.seen new.old) (λ image. ForSome (contents E.Disk (C.of view.now) old.old) (λ r. Leaves D.Disk new.old new.new (MayCopy (C.total view.now) image r))) }
+    ensures any_moment { ForSome (contents E.Disk (C.of view.now) old.old) (λ r. Leaves D.Disk new.old new.new (FromLeft D.Disk new.old (λ image. MayCopy (C.total view.now) image r))) }
     ensures copied { OnOk result (StandsCopied D.Disk (C.total view.now) (contents E.Disk (C.of view.now) old.old) new.old new.new) }
     ensures closed { result ≡ Err CopyFault.From → StandsClosed D.Disk new.new }
     ensures reads { OnlyReadsBy E.Disk old.old old.new (result ≡ Err CopyFault.From) }
@@ -52,7 +52,7 @@ pub(crate) fn copy<C: Contents, D: Disk, E: Disk>(
 // Writes a gate with this byte in front, and zeros after it, and syncs it.
 fn write_gate<D: Disk>(new: &mut D, first: u8) -> Result<(), CopyFault>
     requires at_least_1_blocks { 1 ≤ D.block_count new.old }
-    ensures any_moment { NothingPending D.Disk new.old → ForSome (D.seen new.old) (λ image. Leaves D.Disk new.old new.new (SameBut (only_place gate_block) image)) }
+    ensures any_moment { Leaves D.Disk new.old new.new (TornAt (only_place gate_block) (MightHaveLeft D.Disk new.old)) }
     ensures byte { OnOk result (ForSome (D.seen new.new) (λ c. gate_byte c ≡ first)) }
     ensures seen { OnOk result (SeenBut (only_place gate_block) (D.seen new.old) (D.seen new.new)) }
     ensures settled { OnOk result (NothingPending D.Disk new.new) }
@@ -77,7 +77,7 @@ fn copy_behind<C: Contents, D: Disk, E: Disk>(
     requires total { total ≡ C.total view.now }
     requires within_disk { C.total view.now ≤ D.block_count new.old }
     requires can { CanRead E.Disk (C.need view.now) (C.Fits view.now) old.old }
-    ensures any_moment { NothingPending D.Disk new.old → ForSome (D.seen new.old) (λ image. Leaves D.Disk new.old new.new (SameBut (λ k. 1 ≤ k) image)) }
+    ensures any_moment { Leaves D.Disk new.old new.new (TornAt (λ k. 1 ≤ k) (MightHaveLeft D.Disk new.old)) }
     ensures seen { SeenBut (λ k. 1 ≤ k) (D.seen new.old) (D.seen new.new) }
     ensures copied { OnOk result (ForSome (contents E.Disk (C.of view.now) old.old) (λ r. ForSome (D.seen new.new) (AreCopied (C.total view.now) r))) }
     ensures settled { OnOk result (NothingPending D.Disk new.new) }

@@ -1,7 +1,7 @@
 // A volume of version 1 copied to another disk as one of this version.
 ghost use Rattle.std.specs.Prelude.{◌≡◌, ◌⊎◌, OnOk};
 ghost use Rattle.std.specs.Option.{ForSome};
-ghost use Rattle.mg_disk.specs.Stops.{DiskCallsBy, Leaves, NothingPending, OnlyReadsBy};
+ghost use Rattle.mg_disk.specs.Stops.{DiskCallsBy, FromLeft, Leaves, NothingPending, OnlyReadsBy};
 ghost use Rattle.mg_migrate.specs.Copied.{HoldsNow, StandsClosed};
 ghost use Rattle.mg_migrate.specs.Migrated.{Fits1, IsMigrated, IsUntouched, MayMigrate, StandsBack, Tells1};
 ghost use Rattle.mg_migrate.specs.Version1.{volume1};
@@ -49,7 +49,8 @@ pub enum MigrateFault {
 /// read. Memory does not grow with the frames: 32 blocks are copied at a time.
 ///
 /// The gate of the new disk is closed first, then everything after it is written, and then the gate is opened, with a sync after
-/// each: so a stop at any moment leaves there no volume, what the blocks after its gate spelled before, or the new one.
+/// each. So a stop at any moment leaves there no volume, the new one, or what the blocks after the gate spelled in an image that a
+/// stop might have left before, whatever was pending then.
 ///
 /// The answer says of the new volume what `check` does. [`MigrateFault::Not`], [`MigrateFault::Old`], [`MigrateFault::New`] and
 /// [`MigrateFault::Damaged`] come exactly if the old image is none, and [`MigrateFault::TooSmall`] exactly if it is a volume
@@ -62,7 +63,7 @@ pub fn migrate<D: Disk, E: Disk>(
     old: &mut E,
 ) -> Result<Summary, MigrateFault>
     ensures told { ForSome (E.seen old.old) (λ before. Tells1 result (D.block_count new.old) (volume1 before)) }
-    ensures any_moment { NothingPending D.Disk new.old → ForSome (D.seen new.old) (λ image. ForSome (E.seen old.old) (λ before. Leaves D.Disk new.old new.new (MayMigrate image (volume1 before)))) }
+    ensures any_moment { ForSome (E.seen old.old) (λ before. Leaves D.Disk new.old new.new (FromLeft D.Disk new.old (λ image. MayMigrate image (volume1 before)))) }
     ensures made { OnOk result (ForSome (E.seen old.old) (λ before. HoldsNow D.Disk (IsMigrated before) new.old new.new)) }
     ensures settled { OnOk result (NothingPending D.Disk new.new) }
     ensures untouched { IsUntouched new.old new.new result }

@@ -1,8 +1,9 @@
 -- Replies as text.
 use Rattle.mg_model.specs.Refused.{refusal_row}
-use Rattle.mg_model.specs.declared.threads.ThrState.{ThrState}
-use Rattle.std.specs.Option.{option_map_or}
-use Rattle.std.specs.Prelude.{ℕ, zero, suc, ◌+◌, ◌/◌, ◌%◌, nat_lt, List, [], ◌∷◌, ◌++◌, if◌then◌else◌, codes, count_by, map, take, flat_map, Option}
+use Rattle.mg_model.specs.declared.threads.After.{After}
+use Rattle.mg_model.specs.declared.threads.After.TheVariants as after_turn
+use Rattle.mg_model.specs.declared.threads.ThrState.TheVariants.{Ready, Stopped, Faulted}
+use Rattle.std.specs.Prelude.{ℕ, zero, suc, ◌+◌, ◌/◌, ◌%◌, nat_lt, List, [], ◌∷◌, ◌++◌, if◌then◌else◌, codes, count_by, map, take, flat_map}
 use Rattle.std.specs.Fmt.{decimal}
 use Rattle.mg_model.specs.declared.calls.Line.{Line}
 use Rattle.mg_model.specs.declared.replies.Reply.{Reply}
@@ -24,9 +25,12 @@ hex_digits (suc n) w = hex_digits n (w / 16) ++ hex_digit (w % 16) ∷ []
 unfoldable pub hex_text : ℕ → List ℕ
 hex_text w = codes "0x" ++ hex_digits 16 w
 
--- what a thread is after its turn; none is left if it ended
-abbrev pub after_text : Option ThrState → List ℕ
-after_text left = option_map_or (λ state. (state_row state).1) left (codes "Ended")
+-- what a thread is after its turn; a state has one text
+abbrev pub after_text : After → List ℕ
+after_text after_turn.Ready = (state_row Ready).1
+after_text after_turn.Stopped = (state_row Stopped).1
+after_text (after_turn.Faulted kind) = (state_row (Faulted kind)).1
+after_text after_turn.Ended = codes "Ended"
 
 -- each text after one space
 abbrev pub spaced : List (List ℕ) → List ℕ

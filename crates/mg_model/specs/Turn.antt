@@ -1,5 +1,5 @@
 -- Turns: a thread runs one word of its script.
-use Rattle.std.specs.Prelude.{ℕ, ◌+◌, ◌-◌, ◌*◌, ◌%◌, ◌^◌, ◌==◌, ◌&&◌, nat_le, nat_lt, Bool, true, false, not, List, [], ◌∷◌, if◌then◌else◌, find, Option, Some, None, option_map}
+use Rattle.std.specs.Prelude.{ℕ, ◌+◌, ◌-◌, ◌*◌, ◌%◌, ◌^◌, ◌==◌, ◌&&◌, nat_le, nat_lt, Bool, true, false, not, List, [], ◌∷◌, if◌then◌else◌, find, Option, Some, None}
 use Rattle.std.specs.Option.{option_map_or, option_or}
 use Rattle.mg_model.specs.declared.calls.Call.{Call}
 use Rattle.mg_model.specs.declared.calls.Call.TheVariants as call
@@ -9,6 +9,8 @@ use Rattle.mg_model.specs.declared.replies.Refusal.TheVariants as refusal
 use Rattle.mg_model.specs.declared.replies.Reply.{Reply}
 use Rattle.mg_model.specs.declared.replies.Reply.TheVariants as reply
 use Rattle.mg_model.specs.declared.rights.Right.TheVariants.{R, W, X}
+use Rattle.mg_model.specs.declared.threads.After.{After}
+use Rattle.mg_model.specs.declared.threads.After.TheVariants as after_turn
 use Rattle.mg_model.specs.declared.threads.Fault.{Fault}
 use Rattle.mg_model.specs.declared.threads.Fault.TheVariants as fault
 use Rattle.mg_model.specs.declared.threads.ThrState.{ThrState}
@@ -154,9 +156,15 @@ abbrev pub run_word : State → ℕ → ThreadRow → Option Instr → State
 run_word state t thread None = faulted state t fault.Opcode
 run_word state t thread (Some instr) = run state t thread.pc (record thread { pc = (thread.pc + 8) % word_end }) instr
 
--- what the thread is after its turn; none is left if it ended
-abbrev pub after_of : State → ℕ → Option ThrState
-after_of state t = option_map (λ (thread : ThreadRow). thread.state) (row_of state t)
+-- a thread that is left in this state by its turn
+abbrev pub as_after : ThrState → After
+as_after Ready = after_turn.Ready
+as_after Stopped = after_turn.Stopped
+as_after (Faulted kind) = after_turn.Faulted kind
+
+-- what the thread is after its turn
+abbrev pub after_of : State → ℕ → After
+after_of state t = option_map_or (λ (thread : ThreadRow). as_after thread.state) (row_of state t) after_turn.Ended
 
 -- the state after the turn of a thread with this row
 abbrev pub turned : State → ℕ → ThreadRow → State

@@ -1,33 +1,33 @@
 // The system calls, one in each line.
 use crate::rights::Rights;
 
-/// A system call with its arguments, which are named as in the table of calls. Addresses, passwords and words are 64 bits.
+/// A system call with its arguments, in the order of the table of calls. Addresses, passwords and words are 64 bits.
 #[derive(Clone, Copy, PartialEq, Eq)]
+#[rattlefmt::skip]
 pub enum Call {
     Load { a: u64 },
-    Store { a: u64, v: u64 },
-    Create { n: u64, acc: u64, pw: u64 },
-    Delete { b: u64 },
-    Info { b: u64 },
-    /// The base, the rights, and the until.
-    Pwadd(u64, Rights, Option<u64>),
-    Pwdel { b: u64, pw: u64 },
-    Entry { b: u64, off: u64 },
-    Ext { b: u64, cb: u64, cpw: u64 },
-    Recharge { b: u64, acc: u64, pw: u64 },
-    Apdadd { cb: u64, cpw: u64 },
-    Apddel { i: u64 },
+    Store { a: u64, value: u64 },
+    Create { pages: u64, account: u64, password: u64 },
+    Delete { base: u64 },
+    Info { base: u64 },
+    Pwadd { base: u64, rights: Rights, until: Option<u64> },
+    Pwdel { base: u64, password: u64 },
+    Entry { base: u64, off: u64 },
+    Ext { base: u64, clist: u64, password: u64 },
+    Recharge { base: u64, account: u64, password: u64 },
+    Apdadd { clist: u64, password: u64 },
+    Apddel { index: u64 },
     Apdlist,
     Pdx { a: u64, mask: u8 },
     Ret,
     Thread { pc: u64 },
-    End { i: u64 },
-    Resume { i: u64 },
+    End { thread: u64 },
+    Resume { thread: u64 },
     Turn,
     Next,
-    Account { acc: u64, pw: u64, n: u64 },
-    Pay { acc: u64, pw: u64, to: u64, n: u64 },
-    Balance { acc: u64, pw: u64 },
+    Account { account: u64, password: u64, amount: u64 },
+    Pay { account: u64, password: u64, to: u64, amount: u64 },
+    Balance { account: u64, password: u64 },
     Rent,
     /// A line that is no known call.
     Bad,

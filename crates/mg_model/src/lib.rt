@@ -56,4 +56,4 @@ pub use slots::{Pw, Slot};
 pub use steps::Steps;
 pub use tariffs::Tariff;
 pub use thread_rows::ThrRow;
-pub use threads::{Fault, ThrState};
+pub use threads::{After, Fault, ThrState};

@@ -2,7 +2,7 @@
 ghost use Rattle.std.specs.Prelude.{◌≡◌, ◌<◌};
 ghost use Rattle.mg_model.specs.Abbreviations.{refusal_number};
 
-use crate::threads::ThrState;
+use crate::threads::After;
 
 /// Why a call is refused. A refused call changes nothing.
 #[derive(Clone, Copy, Debug, Drop, PartialEq, Eq)]
@@ -66,13 +66,15 @@ impl Refusal {
 
 /// The answer to a line.
 #[derive(Clone, Copy, PartialEq, Eq)]
+#[rattlefmt::skip]
 pub enum Reply {
     No(Refusal),
     /// Ok, with no value.
     Done,
     /// A word or an address.
     Value(u64),
-    /// A number of slots, frames or threads.
+    /// Of `apdadd` the place of the new slot, from 0 on; of `pdx` and `ret` how many frames the thread then has; of `thread` the
+    /// number of the new thread.
     Count(u64),
     /// A new object: its base address and its password.
     Made(u64, u64),
@@ -80,13 +82,13 @@ pub enum Reply {
     Opened(u64, u64),
     /// An object: its base address, its pages, the account that pays for it, how many password rows and entries it has,
     /// and 1 with an extension, else 0.
-    About(u64, u64, u64, u64, u64, u64),
+    About { base: u64, pages: u64, account: u64, passwords: u64, entries: u64, ext: u64 },
     /// How many slots the present frame has, and their bases in order; 0 past the count, which is at most 8.
-    Slots(u64, [u64; 8]),
-    /// What the thread is after its turn; None if it ended itself.
-    Turned(Option<ThrState>),
+    Slots { count: u64, bases: [u64; 8] },
+    /// What the thread is after its turn.
+    Turned(After),
     /// Which thread had the turn, and what it is after it.
-    Ran(u64, Option<ThrState>),
+    Ran(u64, After),
     /// An account: its balance, what it owes, and the pages that it pays for.
     Funds(u64, u64, u64),
     /// A collection of rent: the new period, the rate, and the sum of all that was paid.

@@ -18,3 +18,13 @@ pub enum ThrState {
     Stopped,
     Faulted(Fault),
 }
+
+/// What a thread is after its turn: as its state says, or no more there.
+#[derive(Clone, Copy, PartialEq, Eq)]
+pub enum After {
+    Ready,
+    Stopped,
+    Faulted(Fault),
+    /// The thread ended itself.
+    Ended,
+}

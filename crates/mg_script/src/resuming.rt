@@ -38,7 +38,10 @@ pub fn call(row: &ThrRow, effect: &Effect) -> Call
     match effect {
         Effect::Next(_) => Call::Bad,
         Effect::Load { a, .. } => Call::Load { a: *a },
-        Effect::Store { a, value } => Call::Store { a: *a, v: *value },
+        Effect::Store { a, value } => Call::Store {
+            a: *a,
+            value: *value,
+        },
         Effect::Pdx { a, mask } => enter(*a, *mask),
         Effect::Ret => Call::Ret,
         Effect::Sys => spell(row),

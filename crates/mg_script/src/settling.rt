@@ -21,15 +21,19 @@ pub fn settle(row: &mut ThrRow, reply: &Reply)
 {
     match *reply {
         Reply::No(word) => refuse(row, word),
-        Reply::Done | Reply::Slots(..) | Reply::Turned(_) | Reply::Ran(..) => put(row, &[0]),
+        Reply::Done | Reply::Slots { .. } | Reply::Turned(_) | Reply::Ran(..) => put(row, &[0]),
         Reply::Value(word) => put(row, &[0, word]),
         Reply::Count(count) => put(row, &[0, count]),
         Reply::Made(base, password) => put(row, &[0, base, password]),
         Reply::Opened(account, password) => put(row, &[0, account, password]),
-        Reply::About(base, pages, account, passwords, entries, ext) => put(
-            row,
-            &[0, base, pages, account, passwords, entries, ext],
-        ),
+        Reply::About {
+            base,
+            pages,
+            account,
+            passwords,
+            entries,
+            ext,
+        } => put(row, &[0, base, pages, account, passwords, entries, ext]),
         Reply::Funds(balance, owed, pages) => put(row, &[0, balance, owed, pages]),
         Reply::Collected(period, rate, paid) => put(row, &[0, period, rate, paid]),
     }

@@ -1,5 +1,5 @@
 -- How replies add up, and that each is one line.
-use Rattle.std.specs.Prelude.{ℕ, zero, suc, ◌+◌, ◌≡◌, ◌==◌, ◌/◌, ◌%◌, Bool, true, false, List, [], ◌∷◌, ◌++◌, if◌then◌else◌, cond, map, take, Option, Some, None}
+use Rattle.std.specs.Prelude.{ℕ, zero, suc, ◌+◌, ◌≡◌, ◌==◌, ◌/◌, ◌%◌, Bool, true, false, List, [], ◌∷◌, ◌++◌, if◌then◌else◌, cond, map, take}
 use Rattle.std.specs.Fmt.{decimal, digit_glyph, digits, digits_onto}
 use Rattle.std.proofs.Common.{refl, ap, ◌∙◌, arith}
 use Rattle.std.proofs.lemmas.Grind.{common_steps}
@@ -8,9 +8,9 @@ use Rattle.mg_model.specs.declared.replies.Refusal.{Refusal}
 use Rattle.mg_model.specs.declared.replies.Refusal.TheVariants as refusal
 use Rattle.mg_model.specs.declared.replies.Reply.{Reply}
 use Rattle.mg_model.specs.declared.replies.Reply.TheVariants as reply
+use Rattle.mg_model.specs.declared.threads.After.{After}
+use Rattle.mg_model.specs.declared.threads.After.TheVariants.{Ended, Faulted, Ready, Stopped}
 use Rattle.mg_model.specs.declared.threads.Fault.TheVariants as fault
-use Rattle.mg_model.specs.declared.threads.ThrState.{ThrState}
-use Rattle.mg_model.specs.declared.threads.ThrState.TheVariants.{Faulted, Ready, Stopped}
 use Rattle.mg_model.specs.Words.{is_newline}
 use Rattle.mg_model.specs.Print.{after_text, answered, hex_digit, hex_digits, hex_text, ok_text, reply_line, reply_text, spaced}
 
@@ -63,13 +63,13 @@ hexes_quiet : (ws : List ℕ) → Quiet (map hex_text ws)
 hexes_quiet [] = tt
 hexes_quiet (w ∷ ws) = (hex_text_no_newline w, hexes_quiet ws)
 
-after_quiet : (left : Option ThrState) → answered (after_text left) ≡ 0
-after_quiet None = refl
-after_quiet (Some Ready) = refl
-after_quiet (Some Stopped) = refl
-after_quiet (Some (Faulted fault.Align)) = refl
-after_quiet (Some (Faulted fault.Denied)) = refl
-after_quiet (Some (Faulted fault.Opcode)) = refl
+after_quiet : (left : After) → answered (after_text left) ≡ 0
+after_quiet Ready = refl
+after_quiet Stopped = refl
+after_quiet (Faulted fault.Align) = refl
+after_quiet (Faulted fault.Denied) = refl
+after_quiet (Faulted fault.Opcode) = refl
+after_quiet Ended = refl
 
 refusal_quiet : (word : Refusal) → answered (reply_text (reply.No word)) ≡ 0
 refusal_quiet refusal.Syntax = refl

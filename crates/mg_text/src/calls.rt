@@ -17,7 +17,7 @@ pub fn read_call(word: &[u8], args: &[u8]) -> Option<Call>
     if is_word(word, b"load") {
         Some(one(args).map_or(Call::Bad, |a| Call::Load { a }))
     } else if is_word(word, b"store") {
-        Some(two(args).map_or(Call::Bad, |(a, v)| Call::Store { a, v }))
+        Some(two(args).map_or(Call::Bad, |(a, value)| Call::Store { a, value }))
     } else {
         object_call(word, args)
     }
@@ -30,21 +30,42 @@ fn object_call(word: &[u8], args: &[u8]) -> Option<Call>
     ensures { result ≡ call_by (drop 2 call_table) word.now (words args.now) }
 {
     if is_word(word, b"create") {
-        Some(three(args).map_or(Call::Bad, |(n, acc, pw)| Call::Create { n, acc, pw }))
+        Some(three(args).map_or(
+            Call::Bad,
+            |(pages, account, password)| Call::Create {
+                pages,
+                account,
+                password,
+            },
+        ))
     } else if is_word(word, b"delete") {
-        Some(one(args).map_or(Call::Bad, |b| Call::Delete { b }))
+        Some(one(args).map_or(Call::Bad, |base| Call::Delete { base }))
     } else if is_word(word, b"info") {
-        Some(one(args).map_or(Call::Bad, |b| Call::Info { b }))
+        Some(one(args).map_or(Call::Bad, |base| Call::Info { base }))
     } else if is_word(word, b"pwadd") {
         Some(read_pwadd(args))
     } else if is_word(word, b"pwdel") {
-        Some(two(args).map_or(Call::Bad, |(b, pw)| Call::Pwdel { b, pw }))
+        Some(two(args).map_or(Call::Bad, |(base, password)| Call::Pwdel { base, password }))
     } else if is_word(word, b"entry") {
-        Some(two(args).map_or(Call::Bad, |(b, off)| Call::Entry { b, off }))
+        Some(two(args).map_or(Call::Bad, |(base, off)| Call::Entry { base, off }))
     } else if is_word(word, b"ext") {
-        Some(three(args).map_or(Call::Bad, |(b, cb, cpw)| Call::Ext { b, cb, cpw }))
+        Some(three(args).map_or(
+            Call::Bad,
+            |(base, clist, password)| Call::Ext {
+                base,
+                clist,
+                password,
+            },
+        ))
     } else if is_word(word, b"recharge") {
-        Some(three(args).map_or(Call::Bad, |(b, acc, pw)| Call::Recharge { b, acc, pw }))
+        Some(three(args).map_or(
+            Call::Bad,
+            |(base, account, password)| Call::Recharge {
+                base,
+                account,
+                password,
+            },
+        ))
     } else {
         domain_call(word, args)
     }
@@ -56,9 +77,12 @@ fn domain_call(word: &[u8], args: &[u8]) -> Option<Call>
     ensures { result ≡ call_by (drop 10 call_table) word.now (words args.now) }
 {
     if is_word(word, b"apdadd") {
-        Some(two(args).map_or(Call::Bad, |(cb, cpw)| Call::Apdadd { cb, cpw }))
+        Some(two(args).map_or(
+            Call::Bad,
+            |(clist, password)| Call::Apdadd { clist, password },
+        ))
     } else if is_word(word, b"apddel") {
-        Some(one(args).map_or(Call::Bad, |i| Call::Apddel { i }))
+        Some(one(args).map_or(Call::Bad, |index| Call::Apddel { index }))
     } else if is_word(word, b"apdlist") {
         Some(alone(Call::Apdlist, args))
     } else if is_word(word, b"pdx") {
@@ -68,9 +92,9 @@ fn domain_call(word: &[u8], args: &[u8]) -> Option<Call>
     } else if is_word(word, b"thread") {
         Some(one(args).map_or(Call::Bad, |pc| Call::Thread { pc }))
     } else if is_word(word, b"end") {
-        Some(one(args).map_or(Call::Bad, |i| Call::End { i }))
+        Some(one(args).map_or(Call::Bad, |thread| Call::End { thread }))
     } else if is_word(word, b"resume") {
-        Some(one(args).map_or(Call::Bad, |i| Call::Resume { i }))
+        Some(one(args).map_or(Call::Bad, |thread| Call::Resume { thread }))
     } else if is_word(word, b"turn") {
         Some(alone(Call::Turn, args))
     } else if is_word(word, b"next") {
@@ -85,11 +109,29 @@ fn bank_call(word: &[u8], args: &[u8]) -> Option<Call>
     ensures { result ≡ call_by (drop 20 call_table) word.now (words args.now) }
 {
     if is_word(word, b"account") {
-        Some(three(args).map_or(Call::Bad, |(acc, pw, n)| Call::Account { acc, pw, n }))
+        Some(three(args).map_or(
+            Call::Bad,
+            |(account, password, amount)| Call::Account {
+                account,
+                password,
+                amount,
+            },
+        ))
     } else if is_word(word, b"pay") {
-        Some(four(args).map_or(Call::Bad, |(acc, pw, to, n)| Call::Pay { acc, pw, to, n }))
+        Some(four(args).map_or(
+            Call::Bad,
+            |(account, password, to, amount)| Call::Pay {
+                account,
+                password,
+                to,
+                amount,
+            },
+        ))
     } else if is_word(word, b"balance") {
-        Some(two(args).map_or(Call::Bad, |(acc, pw)| Call::Balance { acc, pw }))
+        Some(two(args).map_or(
+            Call::Bad,
+            |(account, password)| Call::Balance { account, password },
+        ))
     } else if is_word(word, b"rent") {
         Some(alone(Call::Rent, args))
     } else {
@@ -149,7 +191,11 @@ fn pwadd(base: Option<u64>, rights: Option<Rights>, until: Option<Option<u64>>) 
     ensures { result ≡ pwadd_of base rights until }
 {
     match (base, rights, until) {
-        (Some(base), Some(rights), Some(until)) => Call::Pwadd(base, rights, until),
+        (Some(base), Some(rights), Some(until)) => Call::Pwadd {
+            base,
+            rights,
+            until,
+        },
         _ => Call::Bad,
     }
 }

@@ -9,7 +9,7 @@ ghost use Rattle.mg_model.specs.Abbreviations.{refusal_text};
 ghost use Rattle.mg_model.specs.FewSlots.{HasFewSlots};
 
 use arrayvec::ArrayVec;
-use mg_model::{Fault, Refusal, Reply, ThrState};
+use mg_model::{After, Fault, Refusal, Reply, ThrState};
 
 /// The two hexadecimal digits of each byte, one after the other.
 static PAIRS: [u8; 512] = *b"\
@@ -79,7 +79,14 @@ fn push_reply(answer: &Reply, out: &mut Buffer)
             push_number(out, *number);
             push_word(out, *password);
         }
-        Reply::About(base, pages, account, passwords, entries, ext) => {
+        Reply::About {
+            base,
+            pages,
+            account,
+            passwords,
+            entries,
+            ext,
+        } => {
             push_word(out, *base);
             push_number(out, *pages);
             push_number(out, *account);
@@ -87,7 +94,7 @@ fn push_reply(answer: &Reply, out: &mut Buffer)
             push_number(out, *entries);
             push_number(out, *ext);
         }
-        Reply::Slots(count, bases) => {
+        Reply::Slots { count, bases } => {
             push_number(out, *count);
             push_words(out, &bases[..*count as usize]);
         }
@@ -136,13 +143,15 @@ pub fn refusal_word(refusal: Refusal) -> &'static [u8]
 }
 
 /// The text of what a thread is after its turn.
-fn after_words(left: Option<ThrState>) -> &'static [u8]
+fn after_words(left: After) -> &'static [u8]
     ensures text { result.now ≡ after_text left }
     ensures short { length result.now ≤ 14 }
 {
     match left {
-        Some(state) => state_words(state),
-        None => b"Ended",
+        After::Ready => state_words(ThrState::Ready),
+        After::Stopped => state_words(ThrState::Stopped),
+        After::Faulted(kind) => state_words(ThrState::Faulted(kind)),
+        After::Ended => b"Ended",
     }
 }
 
@@ -169,7 +178,7 @@ pub fn push_text(out: &mut ArrayVec<u8, 256>, text: &[u8])
     let _ = out.try_extend_from_slice(text);
 }
 
-fn push_after(out: &mut Buffer, left: Option<ThrState>)
+fn push_after(out: &mut Buffer, left: After)
     requires { array_vec_len out.old ≤ 200 }
     ensures text { out.new.items ≡ out.old.items ++ spaced (after_text left ∷ []) }
     ensures short { array_vec_len out.new ≤ array_vec_len out.old + 15 }

@@ -1,9 +1,10 @@
 -- What follows of how the lines ended, and of the lines of the devices after the replies.
 use Rattle.std.specs.Prelude.{ℕ, ◌≡◌, List, [], Option, Some, None, IfSome}
 use Rattle.mg_check.specs.declared.examining.OpenFault.TheVariants as fault
-use Rattle.std.proofs.Common.{ap, refl}
+use Rattle.std.proofs.Common.{ap, inl, refl}
 use Rattle.mg_disk.specs.Disk.{Image}
-use Rattle.mg_disk.specs.Runs.{leaves_yet, nothing_none, only_image}
+use Rattle.mg_disk.specs.Runs.{leaves_yet, nothing_none}
+use Rattle.mg_disk.specs.Stops.{LeftOr}
 use Rattle.mg_disk.specs.declared.disk.Disk as disks
 use Rattle.mg_faults.specs.Faults.{CountGoesOn, count_none, rose_then}
 use Rattle.mg_io.specs.Known.{AppendsPrefix-none}
@@ -68,7 +69,7 @@ not_begun facts from to windows d source sink steps been = dev_keeps facts from 
     record {
       lines = lines_unopened facts from to (λ s. device_text (equipped windows s)) (λ s. device_state (equipped windows s)) 1 fault.Memory status.Memory d d source sink sink steps tt refl
           (λ loud. absurd (loud tt)) (λ image told no_state. nothing_none facts d been) (λ q. refl) (λ h. absurd (cc)) (AppendsPrefix-none (to.taken sink) []) (λ h. absurd (cc)) (λ h. absurd (cc))
-          (λ only image told. leaves_yet facts d (λ c. volume c ≡ volume image) been (λ c left. ap volume (only_image facts d image c (record { told = told; settled = only }) left))) (λ s. refl) (λ s. refl);
+          (λ image told. leaves_yet facts d (LeftOr facts d (λ c. volume c ≡ volume image)) been (λ c left. inl left)) (λ s. refl) (λ s. refl);
       devices = unopened fault.Memory (facts.seen d) (λ s. LeavesDevices (equipped windows s) status.Memory windows (from.left source) (to.taken sink) (to.taken sink)) tt
           (λ quiet image seen s spelled. fault_devices (equipped windows s) fault.Memory status.Memory (from.left source) (to.taken sink) (to.taken sink) quiet refl refl);
       none_devices = λ h. refl;

@@ -2,5 +2,6 @@
 pub mod Commands
 pub mod Machine
 pub mod Headline
+pub mod History
 pub mod DeviceKernels
 pub mod Stepping

@@ -4,17 +4,18 @@
 //! object with a device reaches the device, and says at the end which devices are left. What the layer above learns is in its contract,
 //! for every disk, source and sink.
 //!
-//! The definitions are in `specs/`: `Commands` (what the words spell), `Machine` (the machine with devices) and `Headline` (what
-//! is kept, in one record); for the layers below it `Sessions` (lines kept and answered, and the devices after them), `Stepping`
-//! (one line) and `Running` (lines on a volume that was opened).
+//! The definitions are in `specs/`: `Commands` (what the words spell), `Machine` (the machine with devices), `Headline` (what is kept,
+//! in one record) and `History` (runs one after another); `DeviceKernels` and `Stepping` are for the proofs.
 #![tactic(auto)]
 
 mod device_kernel;
 mod device_lines;
+mod history;
 mod running;
 mod stepping;
 mod top_call;
 mod words;
 
+pub use history::runs_with_devices_follow;
 pub use top_call::{top_dev, top_dev_of};
 pub use words::{Asked, read_device, read_words};

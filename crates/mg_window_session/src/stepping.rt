@@ -38,7 +38,7 @@ pub(crate) fn answer<T: Device, D: Disk, L: Ledger>(
 {
     match line.call {
         Call::Load { a } => load(kernel, windows, disk, line, a, steps),
-        Call::Store { a, v: value } => store(kernel, windows, disk, line, a, value, steps),
+        Call::Store { a, value } => store(kernel, windows, disk, line, a, value, steps),
         _ => step(kernel, windows, disk, line, steps),
     }
 }

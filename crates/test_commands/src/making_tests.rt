@@ -4,7 +4,9 @@ use mg_layout::{Geometry, fresh_block};
 use mg_model::{Params, Tariff};
 use std::alloc::Global;
 use std::test::Fail;
-use test_helpers::{BLOCKS, MAKING, ROOM, Streams, answers, outputs, outputs_for, volume};
+use test_helpers::{
+    BLOCKS, MAKING, ROOM, Streams, answers, output_for, outputs, outputs_for, volume,
+};
 
 // The disk calls that make a volume of 64 frames.
 const CALLS: u64 = 1313;
@@ -104,33 +106,39 @@ fn leaves(alloc: Global, disk: &MemDisk, left: Left, params: &Params, wanted: Co
     }
 }
 
-// What a stop leaves after `calls` calls, if the blocks that were written since the last sync are as before, as written, or destroyed.
-// Block 0 is closed and synced first, and opened and synced last. A destroyed block 0 is an open gate.
-fn wanted(calls: u64) -> [Content; 3] {
+// What a stop leaves after `calls` calls of a disk that held `before`, if the blocks that were written since the last sync are as before,
+// as written, or destroyed. Block 0 is closed and synced first, and opened and synced last. A destroyed block 0 is an open gate.
+fn wanted(calls: u64, before: Content) -> [Content; 3] {
     match calls {
-        0 => [Content::Older; 3],
-        1 => [Content::Older, Content::Nothing, Content::Older],
+        0 => [before; 3],
+        1 => [before, Content::Nothing, before],
         2..=1311 => [Content::Nothing; 3],
         1312 => [Content::Nothing, Content::Fresh, Content::Fresh],
         _ => [Content::Fresh; 3],
     }
 }
 
-// Whether making a volume over an older one, on a disk that stops after `calls` calls, prints its reply or fails, and leaves what it
-// must.
-fn is_made_in(alloc: Global, older: &MemDisk, calls: u64, params: &Params) -> bool {
-    match older.stopped(alloc, Left::New) {
-        Ok(disk) => is_made_by(alloc, Fuse::new(disk, calls), calls, params),
+// Whether making a volume on what a stop leaves of a disk, which then stops after `calls` calls, prints its reply or fails, and leaves
+// what it must.
+fn is_made_in(alloc: Global, disk: &MemDisk, before: Content, calls: u64, params: &Params) -> bool {
+    match disk.stopped(alloc, Left::New) {
+        Ok(disk) => is_made_by(alloc, Fuse::new(disk, calls), before, calls, params),
         Err(_) => false,
     }
 }
 
-fn is_made_by(alloc: Global, fuse: Fuse<MemDisk>, calls: u64, params: &Params) -> bool {
+fn is_made_by(
+    alloc: Global,
+    fuse: Fuse<MemDisk>,
+    before: Content,
+    calls: u64,
+    params: &Params,
+) -> bool {
     let mut fuse = fuse;
     let reply = if calls == CALLS { MADE } else { "4 " };
     let is_printed = outputs_for(alloc, MAKING, &mut fuse, "x", reply);
     let disk = fuse.into_inner();
-    let [old, new, gates] = wanted(calls);
+    let [old, new, gates] = wanted(calls, before);
     is_printed
         && leaves(alloc, &disk, Left::Old, params, old)
         && leaves(alloc, &disk, Left::New, params, new)
@@ -143,41 +151,150 @@ fn is_tried(calls: u64) -> bool {
 }
 
 // The first number of calls after which the outcome is wrong.
-fn wrong(alloc: Global, older: &MemDisk, params: &Params) -> Option<u64> {
+fn wrong(alloc: Global, disk: &MemDisk, before: Content, params: &Params) -> Option<u64> {
     for calls in 0..CALLS + 1 {
-        if is_tried(calls) && !is_made_in(alloc, older, calls, params) {
+        if is_tried(calls) && !is_made_in(alloc, disk, before, calls, params) {
             return Some(calls);
         }
     }
     None
 }
 
-fn wrong_over(alloc: Global, older: &MemDisk) -> Option<u64> {
-    match Params::new(64, [0; 32], 1000, Tariff::usual(64)) {
-        Some(params) => wrong(alloc, older, &params),
+fn usual() -> Option<Params> {
+    Params::new(64, [0; 32], 1000, Tariff::usual(64))
+}
+
+fn wrong_over(alloc: Global, disk: &MemDisk, before: Content) -> Option<u64> {
+    match usual() {
+        Some(params) => wrong(alloc, disk, before, &params),
         None => Some(0),
     }
 }
 
-// The same over an older volume, which is made here.
-fn wrong_calls(alloc: Global) -> Option<u64> {
+// The older volume after its two runs.
+fn older(alloc: Global) -> Option<MemDisk> {
     match volume(alloc, OLDER) {
         Ok(mut older) => {
             if answers(alloc, "vol run", &mut older, FIRST_RUN)
                 && answers(alloc, "vol run", &mut older, SECOND_RUN)
             {
-                wrong_over(alloc, &older)
+                Some(older)
             } else {
-                Some(0)
+                None
             }
         }
+        Err(_) => None,
+    }
+}
+
+fn wrong_calls(alloc: Global) -> Option<u64> {
+    match older(alloc) {
+        Some(older) => wrong_over(alloc, &older, Content::Older),
+        None => Some(0),
+    }
+}
+
+fn wrong_calls_on_zeros(alloc: Global) -> Option<u64> {
+    match MemDisk::new(alloc, BLOCKS, ROOM, Vec::new(alloc)) {
+        Ok(zeros) => wrong_over(alloc, &zeros, Content::Nothing),
         Err(_) => Some(0),
     }
 }
 
 #[test]
 fn a_stop_while_a_volume_is_made(rt: HostRuntime) -> Result<(), Fail> {
-    assert_eq!(rt; wrong_calls(rt.alloc()), None);
+    let alloc = rt.alloc();
+    assert_eq!(rt;
+        (wrong_calls(alloc), wrong_calls_on_zeros(alloc)),
+        (None, None)
+    );
+    Ok(())
+}
+
+// A line that a run is killed at. If it is held, `check` prints the same.
+const KILLED: &str = "1 store 0x100000018 7\n";
+
+// How many calls the run of that line makes on a copy of this volume.
+fn calls_of_run(alloc: Global, older: &MemDisk) -> Option<u64> {
+    match run_killed(alloc, older, u64::MAX) {
+        Some(disk) => {
+            let counts = disk.counts();
+            Some(
+                counts
+                    .reads
+                    .saturating_add(counts.writes)
+                    .saturating_add(counts.syncs),
+            )
+        }
+        None => None,
+    }
+}
+
+// The disk of that run if it is killed after `calls` calls, with what is pending.
+fn run_killed(alloc: Global, older: &MemDisk, calls: u64) -> Option<MemDisk> {
+    match older.stopped(alloc, Left::New) {
+        Ok(disk) => Some(killed(alloc, Fuse::new(disk, calls))),
+        Err(_) => None,
+    }
+}
+
+fn killed(alloc: Global, fuse: Fuse<MemDisk>) -> MemDisk {
+    let mut fuse = fuse;
+    let _ = output_for(alloc, "vol run", &mut fuse, KILLED);
+    fuse.into_inner()
+}
+
+// How many calls before its end that run is killed, and after how many calls the making of a volume on its disk stops. The last call is
+// the sync of a gate; the third last is that of what the gate opens.
+const PENDING: &[(u64, u64)] = &[
+    (1, 0),
+    (1, 1),
+    (1, 2),
+    (1, 3),
+    (1, 1311),
+    (1, 1312),
+    (1, 1313),
+    (3, 0),
+    (3, 1),
+    (3, 2),
+    (3, 1313),
+];
+
+fn is_made_after(alloc: Global, older: &MemDisk, kill: u64, calls: u64, params: &Params) -> bool {
+    match run_killed(alloc, older, kill) {
+        Some(disk) => is_made_by(alloc, Fuse::new(disk, calls), Content::Older, calls, params),
+        None => false,
+    }
+}
+
+// The first of these rows that is wrong.
+fn wrong_pending(alloc: Global, older: &MemDisk, made: u64, params: &Params) -> Option<(u64, u64)> {
+    for (back, calls) in PENDING {
+        if !is_made_after(alloc, older, made.saturating_sub(*back), *calls, params) {
+            return Some((*back, *calls));
+        }
+    }
+    None
+}
+
+fn wrong_pending_over(alloc: Global, older: &MemDisk) -> Option<(u64, u64)> {
+    match (calls_of_run(alloc, older), usual()) {
+        (Some(made), Some(params)) => wrong_pending(alloc, older, made, &params),
+        _ => Some((0, 0)),
+    }
+}
+
+fn wrong_after_kills(alloc: Global) -> Option<(u64, u64)> {
+    match older(alloc) {
+        Some(older) => wrong_pending_over(alloc, &older),
+        None => Some((0, 0)),
+    }
+}
+
+// What a run left that was killed is pending as a volume is made over it.
+#[test]
+fn a_stop_while_a_volume_is_made_after_a_kill(rt: HostRuntime) -> Result<(), Fail> {
+    assert_eq!(rt; wrong_after_kills(rt.alloc()), None);
     Ok(())
 }
 

@@ -26,17 +26,17 @@ fn call_root(volume: &mut Volume, cache: &mut VCache, call: &Call) -> Option<Rep
     match *call {
         Call::Info { .. } => Some(info(volume, ROOT)),
         Call::Delete { .. } => Some(delete(volume, cache, ROOT)),
-        Call::Pwadd(_, rights, until) => Some(pwadd(volume, ROOT, rights, until)),
-        Call::Pwdel { pw: password, .. } => Some(pwdel(volume, cache, ROOT, password)),
+        Call::Pwadd { rights, until, .. } => Some(pwadd(volume, ROOT, rights, until)),
+        Call::Pwdel { password, .. } => Some(pwdel(volume, cache, ROOT, password)),
         Call::Entry { off, .. } => Some(entry(volume, ROOT, off)),
         Call::Ext {
-            cb: clist,
-            cpw: password,
+            clist,
+            password,
             ..
         } => Some(ext(volume, ROOT, clist, password)),
         Call::Recharge {
-            acc: account,
-            pw: password,
+            account,
+            password,
             ..
         } => { Some(recharge(volume, ROOT, account, password)) }
         _ => None,
@@ -55,52 +55,56 @@ fn answered(volume: &mut Volume, cache: &mut VCache, call: &Call) -> Option<Repl
 }
 
 fn is_about(volume: &mut Volume, cache: &mut VCache, entries: u64, ext: u64) -> bool {
-    let about = Reply::About(ROOT, 1, 1, 1, entries, ext);
-    answered(volume, cache, &Call::Info { b: ROOT }) == Some(about)
+    let about = Reply::About {
+        base: ROOT,
+        pages: 1,
+        account: 1,
+        passwords: 1,
+        entries,
+        ext,
+    };
+    answered(volume, cache, &Call::Info { base: ROOT }) == Some(about)
 }
 
 fn is_added(volume: &mut Volume, cache: &mut VCache, until: Option<u64>, reply: Reply) -> bool {
-    let call = Call::Pwadd(ROOT, Rights::all(), until);
+    let call = Call::Pwadd {
+        base: ROOT,
+        rights: Rights::all(),
+        until,
+    };
     answered(volume, cache, &call) == Some(reply)
 }
 
 fn is_taken(volume: &mut Volume, cache: &mut VCache, password: u64, reply: Reply) -> bool {
     let base = ROOT;
-    answered(
-        volume,
-        cache,
-        &Call::Pwdel {
-            b: base,
-            pw: password,
-        },
-    ) == Some(reply)
+    answered(volume, cache, &Call::Pwdel { base, password }) == Some(reply)
 }
 
 fn is_entered(volume: &mut Volume, cache: &mut VCache, off: u64, reply: Reply) -> bool {
     let base = ROOT;
-    answered(volume, cache, &Call::Entry { b: base, off }) == Some(reply)
+    answered(volume, cache, &Call::Entry { base, off }) == Some(reply)
 }
 
 fn is_paid(volume: &mut Volume, cache: &mut VCache, account: u64, reply: Reply) -> bool {
     let call = Call::Recharge {
-        b: ROOT,
-        acc: account,
-        pw: TREASURY,
+        base: ROOT,
+        account,
+        password: TREASURY,
     };
     answered(volume, cache, &call) == Some(reply)
 }
 
 fn is_extended(volume: &mut Volume, cache: &mut VCache) -> bool {
     let call = Call::Ext {
-        b: ROOT,
-        cb: ROOT,
-        cpw: 5,
+        base: ROOT,
+        clist: ROOT,
+        password: 5,
     };
     answered(volume, cache, &call) == Some(Reply::Done)
 }
 
 fn is_gone(volume: &mut Volume, cache: &mut VCache) -> bool {
-    answered(volume, cache, &Call::Delete { b: ROOT }) == Some(Reply::Done)
+    answered(volume, cache, &Call::Delete { base: ROOT }) == Some(Reply::Done)
         && volume.object(ROOT).is_none()
 }
 

@@ -26,9 +26,9 @@ type Row = (Call, Reply);
 const MAKING: [Row; 8] = [
     (
         Call::Create {
-            n: 2,
-            acc: 1,
-            pw: TREASURY,
+            pages: 2,
+            account: 1,
+            password: TREASURY,
         },
         Reply::Made(OTHER, GIVEN),
     ),
@@ -36,20 +36,26 @@ const MAKING: [Row; 8] = [
     (
         Call::Store {
             a: ROOT + 32,
-            v: OTHER,
+            value: OTHER,
         },
         Reply::Done,
     ),
     (
         Call::Store {
             a: ROOT + 40,
-            v: GIVEN,
+            value: GIVEN,
         },
         Reply::Done,
     ),
-    (Call::Store { a: ROOT, v: 2 }, Reply::Done),
+    (Call::Store { a: ROOT, value: 2 }, Reply::Done),
     (Call::Load { a: OTHER + 8 }, Reply::Value(0)),
-    (Call::Store { a: OTHER + 8, v: 5 }, Reply::Done),
+    (
+        Call::Store {
+            a: OTHER + 8,
+            value: 5,
+        },
+        Reply::Done,
+    ),
     (Call::Load { a: OTHER + 8 }, Reply::Value(5)),
 ];
 
@@ -59,7 +65,7 @@ const REACHING: [Row; 2] = [
     (
         Call::Store {
             a: OTHER + 16,
-            v: 6,
+            value: 6,
         },
         Reply::Done,
     ),

@@ -78,10 +78,7 @@ fn is_stored<D: Disk, L: Ledger>(
     requires { StandsOn D.Disk kernel.old disk.old }
     ensures { StandsOn D.Disk kernel.new disk.new }
 {
-    let call = Call::Store {
-        a: address,
-        v: value,
-    };
+    let call = Call::Store { a: address, value };
     answered(kernel, disk, &Line { thread: 1, call }, steps) == Some(Reply::Done)
 }
 

@@ -8,6 +8,8 @@ mod disks;
 #[cfg(test)]
 mod judged;
 #[cfg(test)]
+mod pending;
+#[cfg(test)]
 mod runs;
 #[cfg(test)]
 mod sessions;

@@ -2,9 +2,11 @@
 use mg_model::{Call, Line};
 use mg_text::read_line;
 
-const STORE: Call = Call::Store { a: 8, v: 15 };
+const STORE: Call = Call::Store { a: 8, value: 15 };
 
-const INFO: Call = Call::Info { b: 4_294_967_296 };
+const INFO: Call = Call::Info {
+    base: 4_294_967_296,
+};
 
 /// Lines that spell a call of a thread, or none.
 const LINES: [(&[u8], u64, Call); 6] = [

@@ -2,12 +2,22 @@
 ghost use Rattle.mg_model.specs.FewSlots.{HasFewSlots};
 
 use arrayvec::ArrayVec;
-use mg_model::{Fault, Refusal, Reply, ThrState};
+use mg_model::{After, Fault, Refusal, Reply};
 use mg_text::print_reply;
 
-const ABOUT: Reply = Reply::About(1 << 32, 2, 3, 4, 5, 1);
+const ABOUT: Reply = Reply::About {
+    base: 1 << 32,
+    pages: 2,
+    account: 3,
+    passwords: 4,
+    entries: 5,
+    ext: 1,
+};
 
-const SLOTS: Reply = Reply::Slots(2, [1 << 32, 0, 0, 0, 0, 0, 0, 0]);
+const SLOTS: Reply = Reply::Slots {
+    count: 2,
+    bases: [1 << 32, 0, 0, 0, 0, 0, 0, 0],
+};
 
 fn is_printed(reply: Reply, line: &[u8]) -> bool
     requires { HasFewSlots reply }
@@ -30,7 +40,7 @@ fn replies(rt: HostRuntime) {
         is_printed(ABOUT, b"ok 0x0000000100000000 2 3 4 5 1\n"),
         is_printed(SLOTS, b"ok 2 0x0000000100000000 0x0000000000000000\n"),
         is_printed(
-            Reply::Ran(255, Some(ThrState::Faulted(Fault::Opcode))),
+            Reply::Ran(255, After::Faulted(Fault::Opcode)),
             b"ok 255 Faulted Opcode\n",
         ),
         is_printed(

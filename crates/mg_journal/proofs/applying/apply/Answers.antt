@@ -1,22 +1,19 @@
-use Rattle.std.proofs.Common.{rules, refl, ◌≡◌, ◌∙◌, ℕ, List, ap, arith, option_map, true}
-use Rattle.std.proofs.lemmas.List.{take_all}
-use Rattle.std.proofs.lemmas.Result.{on_ok_weaker}
-use Rattle.mg_model.specs.Replay.{written}
-use Rattle.mg_disk.specs.Disk.{Image, InRange, SameBut}
+use Rattle.std.proofs.Common.{refl, ◌≡◌, ℕ, arith, true}
+use Rattle.mg_disk.specs.BecomesLemmas.{becomes-same}
+use Rattle.mg_disk.specs.Disk.{SameBut}
 use Rattle.mg_disk.specs.PlaceLemmas.{same_as}
-use Rattle.mg_disk.specs.Runs.{leaves_yet, only_image, quiet, torn_at}
-use Rattle.mg_disk.specs.BecomesLemmas.{becomes-kept, becomes-same}
-use Rattle.mg_journal.specs.Applied.{filled, nth_home}
+use Rattle.mg_disk.specs.Runs.{leaves_yet, only_image}
+use Rattle.mg_journal.specs.Applied.{filled}
 use Rattle.mg_journal.specs.Contents.{names}
-use Rattle.mg_journal.proofs.ApplyRuns.{named_row, none_written, row_applied, row_fits, torn_more}
+use Rattle.mg_journal.proofs.ApplyRuns.{none_written}
 use Rattle.mg_journal.proofs.applying.apply.Goals as goal
 
 pub returns-then-places-eq0-clause-any_moment : goal.returns-then-places-eq0-clause-any_moment
-returns-then-places-eq0-clause-any_moment g c image told =
+returns-then-places-eq0-clause-any_moment g c pending image told =
     let disk = c.args.disk.now in
     let P : ℕ → Type 0 = λ i. names (filled image c.args.places.now) i ≡ true in
     leaves_yet g.D.Disk disk (SameBut P image) (g.met.D.Disk.now_has_been disk)
-    (λ x left. same_as P image x (only_image g.D.Disk disk image x (record { told = told; settled = c.requires.settled }) left))
+    (λ x left. same_as P image x (only_image g.D.Disk disk image x (record { told = told; settled = pending }) left))
 
 pub returns-then-places-eq0-clause-written : goal.returns-then-places-eq0-clause-written
 returns-then-places-eq0-clause-written g c = none_written c.args.places.now (g.D.Disk.seen c.args.disk.now) (omega (arith, c.if-places-eq0.true))
@@ -25,68 +22,5 @@ pub returns-then-places-eq0-clause-torn : goal.returns-then-places-eq0-clause-to
 returns-then-places-eq0-clause-torn g c =
     becomes-same (λ image. SameBut (λ k. names (filled image c.args.places.now) k ≡ true) image) _ _ refl (λ a told. same_as (λ k. names (filled a c.args.places.now) k ≡ true) a a refl)
 
-pub returns-in_err-write_blocks-clause-any_moment : goal.returns-in_err-write_blocks-clause-any_moment
-returns-in_err-write_blocks-clause-any_moment g c image told =
-    let places = c.args.places.now in
-    let row = c.count_row-count.ensures in
-    let first = c.loop-first.first in
-    let P : ℕ → Type 0 = λ i. names (filled image places) i ≡ true in
-    (torn_at g.D.Disk P image c.args.disk.now c.loop-first.disk c.write_blocks.new.self (InRange (nth_home places first) _) (SameBut P image) (c.loop-first.invariant.tracks image told)
-    c.write_blocks.ensures.stops (named_row image places first c.count_row-count.result c.row_among-row.result.now row.there row.row c.row_among-row.ensures.long) (λ x same. same)).leaves
-
-pub returns-in_err-write_blocks-clause-torn : goal.returns-in_err-write_blocks-clause-torn
-returns-in_err-write_blocks-clause-torn g c =
-    let places = c.args.places.now in
-    let row = c.count_row-count.ensures in
-    let first = c.loop-first.first in
-    torn_more (λ image i. names (filled image places) i ≡ true) (InRange (nth_home places first) _) (g.D.Disk.seen c.args.disk.now) (g.D.Disk.seen c.loop-first.disk) (g.D.Disk.seen c.write_blocks.new.self)
-    (λ image. named_row image places first c.count_row-count.result c.row_among-row.result.now row.there row.row c.row_among-row.ensures.long) c.loop-first.invariant.torn c.write_blocks.ensures.unknown
-
-pub loop-first-preserved : goal.loop-first-preserved
-loop-first-preserved g c =
-    let places = c.args.places.now in
-    let counted = c.count_row-count.ensures in
-    let first = c.loop-first.first in
-    let n = c.count_row-count.result in
-    let row = c.row_among-row.result.now in
-    let made = c.row_among-row.ensures in
-    let inv = c.loop-first.invariant in
-    record {
-      within = counted.there;
-      room = c.gather.ensures.room ∙ inv.room;
-      blocks = c.write_blocks.ensures.blocks ∙ inv.blocks;
-      count = search rules;
-      written = row_applied (g.D.Disk.block_count c.args.disk.now) places first n c.args.journal.now row (g.D.Disk.seen c.args.disk.now) (g.D.Disk.seen c.loop-first.disk) (g.D.Disk.seen c.write_blocks.new.self)
-          c.requires.all_on_disk counted.there counted.row made.row made.long c.requires.read inv.written c.write_blocks.ensures.unknown c.in_ok-write_blocks.ensures.written;
-      torn = torn_more (λ image i. names (filled image places) i ≡ true) (InRange (nth_home places first) _) (g.D.Disk.seen c.args.disk.now) (g.D.Disk.seen c.loop-first.disk) (g.D.Disk.seen c.write_blocks.new.self)
-          (λ image. named_row image places first n row counted.there counted.row made.long) inv.torn c.write_blocks.ensures.unknown;
-      tracks = λ image told.
-          let P : ℕ → Type 0 = λ i. names (filled image places) i ≡ true in
-          torn_at g.D.Disk P image c.args.disk.now c.loop-first.disk c.write_blocks.new.self (InRange (nth_home places first) _) (SameBut P image) (inv.tracks image told)
-          c.write_blocks.ensures.stops (named_row image places first n row counted.there counted.row made.long) (λ x same. same);
-    }
-
-pub write_blocks-requires : goal.write_blocks-requires
-write_blocks-requires g c =
-    let counted = c.count_row-count.ensures in
-    let made = c.row_among-row.ensures in
-    let fits = row_fits (g.D.Disk.block_count c.args.disk.now) c.args.places.now c.loop-first.first c.count_row-count.result c.row_among-row.result.now c.requires.all_on_disk counted.some counted.there counted.row made.long in
-    record { in_range = omega (arith, fits, c.loop-first.invariant.blocks) }
-
-pub returns-clause-any_moment : goal.returns-clause-any_moment
-returns-clause-any_moment g c image told =
-    let Q : Image → Type 0 = SameBut (λ i. names (filled image c.args.places.now) i ≡ true) image in
-    (quiet g.D.Disk c.args.disk.now c.loop-first.disk c.sync.new.self Q Q (c.loop-first.invariant.tracks image told) c.sync.ensures.stops).leaves
-
-pub returns-clause-torn : goal.returns-clause-torn
-returns-clause-torn g c =
-    becomes-kept (λ image. SameBut (λ i. names (filled image c.args.places.now) i ≡ true) image) (g.D.Disk.seen c.args.disk.now) (g.D.Disk.seen c.loop-first.disk) (g.D.Disk.seen c.sync.new.self) c.sync.ensures.seen c.loop-first.invariant.torn
-
-pub returns-clause-written : goal.returns-clause-written
-returns-clause-written g c =
-    let told = g.D.Disk.seen c.args.disk.now in
-    let all = take_all c.loop-first.first c.args.places.now c.loop-first-test.false in
-    on_ok_weaker c.sync.result (λ durable. c.sync.ensures.seen ∙ c.loop-first.invariant.written ∙ ap (λ (p : List (ℕ × ℕ)). option_map (λ image. written image (filled image p)) told) all) c.sync.ensures.durable
-
-pub returns-clause-settled : goal.returns-clause-settled
-returns-clause-settled g c = c.sync.ensures.durable
+pub returns-in_err-put_homes-clause-any_moment : goal.returns-in_err-put_homes-clause-any_moment
+returns-in_err-put_homes-clause-any_moment g c pending image told = (c.put_homes.ensures.tracks pending image told).leaves

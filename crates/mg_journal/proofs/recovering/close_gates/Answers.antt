@@ -10,19 +10,19 @@ pub loop-segment-init : goal.loop-segment-init
 loop-segment-init g c = record {
   blocks = refl;
   count = search rules;
-  settled = c.requires.settled;
+  settled = λ pending. pending;
   gates = becomes-same (λ a. AreOpen 0 c.args.opened) _ _ refl c.requires.gates;
   shows = none_closed _ _ refl;
-  run = λ image told total own. begin_run g.D.Disk total image c.args.disk.now told own (g.met.D.Disk.now_has_been c.args.disk.now) c.requires.settled;
+  run = λ pending image told total own. begin_run g.D.Disk total image c.args.disk.now told own (g.met.D.Disk.now_has_been c.args.disk.now) pending;
 }
 
 pub close_gate-requires-clause-known : goal.close_gate-requires-clause-known
 close_gate-requires-clause-known g c = search (rules, open_now)
 
 pub returns-in_err-close_gate-clause-any_moment : goal.returns-in_err-close_gate-clause-any_moment
-returns-in_err-close_gate-clause-any_moment g c image told total own =
+returns-in_err-close_gate-clause-any_moment g c pending image told total own =
     let inv = c.loop-segment.invariant in
-    close_run g.D.Disk total image c.args.disk.now told own c.loop-segment.segment c.loop-segment.disk c.close_gate.new.disk c.loop-segment-test.true inv.shows (inv.run image told total own) c.close_gate.ensures.any_moment
+    close_run g.D.Disk total image c.args.disk.now told own c.loop-segment.segment c.loop-segment.disk c.close_gate.new.disk c.loop-segment-test.true inv.shows (inv.run pending image told total own) (c.close_gate.ensures.any_moment (inv.settled pending))
 
 pub loop-segment-preserved : goal.loop-segment-preserved
 loop-segment-preserved g c =
@@ -31,11 +31,11 @@ loop-segment-preserved g c =
     record {
       blocks = gate.calls.blocks ∙ inv.blocks;
       count = search rules;
-      settled = c.in_ok-close_gate.ensures.settled;
+      settled = λ pending. c.in_ok-close_gate.ensures.settled (inv.settled pending);
       gates = open_yet c.loop-segment.segment c.args.opened _ _ _ inv.gates gate.may;
       shows = close_more c.loop-segment.segment c.loop-segment-test.true _ _ _ inv.shows c.in_ok-close_gate.ensures.closed;
-      run = λ image told total own.
-          close_run g.D.Disk total image c.args.disk.now told own c.loop-segment.segment c.loop-segment.disk c.close_gate.new.disk c.loop-segment-test.true inv.shows (inv.run image told total own) gate.any_moment;
+      run = λ pending image told total own.
+          close_run g.D.Disk total image c.args.disk.now told own c.loop-segment.segment c.loop-segment.disk c.close_gate.new.disk c.loop-segment-test.true inv.shows (inv.run pending image told total own) (gate.any_moment (inv.settled pending));
     }
 
 pub returns-clause-any_moment : goal.returns-clause-any_moment

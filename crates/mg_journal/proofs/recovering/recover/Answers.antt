@@ -11,9 +11,9 @@ use Rattle.mg_journal.proofs.RecoverSteps.{contents_stay, homed, of_changed, ope
 use Rattle.mg_journal.proofs.recovering.recover.Goals as goal
 
 pub returns-in_err-write_homes-clause-any_moment : goal.returns-in_err-write_homes-clause-any_moment
-returns-in_err-write_homes-clause-any_moment g c image told =
+returns-in_err-write_homes-clause-any_moment g c pending image told =
     let settles = table_settles c.args.view.now image (c.requires.looks.fits image told) c.write_homes.ensures.ascends in
-    leaves_wider g.D.Disk _ _ _ _ (c.write_homes.ensures.any_moment image told) (while_applied _ _ image settles)
+    leaves_wider g.D.Disk _ _ _ _ (c.write_homes.ensures.any_moment pending image told) (while_applied _ _ image settles)
 
 pub close_gates-requires-clause-gates : goal.close_gates-requires-clause-gates
 close_gates-requires-clause-gates g c =
@@ -22,11 +22,11 @@ close_gates-requires-clause-gates g c =
     open_behind _ _ image (table_settles c.args.view.now image (c.requires.looks.fits image told) c.write_homes.ensures.ascends) c.args.opened c.requires.at_most_8_open (c.requires.gates image told))
 
 pub returns-clause-any_moment : goal.returns-clause-any_moment
-returns-clause-any_moment g c image told =
+returns-clause-any_moment g c pending image told =
     let settles = table_settles c.args.view.now image (c.requires.looks.fits image told) c.write_homes.ensures.ascends in
     let is = c.in_ok-write_homes.ensures.written ∙ ap (option_map (λ i. written i (filled i c.args.view.now.table))) told in
-    leaves_then g.D.Disk _ _ _ _ _ (leaves_wider g.D.Disk _ _ _ _ (c.write_homes.ensures.any_moment image told) (while_applied _ _ image settles))
-    (c.close_gates.ensures.any_moment (homed c.args.view.now.total c.args.view.now.table image settles) is c.args.view.now.total (own _ _ image settles)) (while_closed _ _ image settles)
+    leaves_then g.D.Disk _ _ _ _ _ (leaves_wider g.D.Disk _ _ _ _ (c.write_homes.ensures.any_moment pending image told) (while_applied _ _ image settles))
+    (c.close_gates.ensures.any_moment (c.in_ok-write_homes.ensures.settled pending) (homed c.args.view.now.total c.args.view.now.table image settles) is c.args.view.now.total (own _ _ image settles)) (while_closed _ _ image settles)
 
 pub returns-clause-recovered : goal.returns-clause-recovered
 returns-clause-recovered g c =

@@ -1,5 +1,5 @@
-use Rattle.std.specs.Prelude.{◌==◌, Some, find}
-use Rattle.std.proofs.Common.{refl, sym}
+use Rattle.std.specs.Prelude.{◌==◌, find}
+use Rattle.std.proofs.Common.{sym}
 use Rattle.mg_kernel.proofs.Turned.{after-change, after-none, changes-alike, no-change, row-lives, row-told, unmapped}
 use Rattle.mg_model.specs.State.{Thread, ThreadRow}
 use Rattle.mg_script.specs.Effects.{resumed, stood}
@@ -16,8 +16,8 @@ returns-in-Some-standing_after-clause-left c image =
     let row = c.in-Some.row.now in
     let held = find (λ (thread : Thread). thread.number == c.args.thread) (threads_in c.args.volume.now) in
     let same = c.in-Some-standing_after.ensures.value in
-    after-change c.args.thread change (now_of c.args.volume.now image) (now_of c.move_thread.new.self image) row (stands row) (Some (stands row).state) (row-told c.args.volume.now c.args.thread row c.in-Some.ensures.found image)
-    (c.move_thread.ensures.now change (changes-alike change stands held row c.in-Some.ensures.found same) image) (sym same) refl
+    after-change c.args.thread change (now_of c.args.volume.now image) (now_of c.move_thread.new.self image) row (stands row) c.after.result (row-told c.args.volume.now c.args.thread row c.in-Some.ensures.found image)
+    (c.move_thread.ensures.now change (changes-alike change stands held row c.in-Some.ensures.found same) image) (sym same) c.after.ensures
 
 pub returns-in-None-clause-now : goal.returns-in-None-clause-now
 returns-in-None-clause-now c image =

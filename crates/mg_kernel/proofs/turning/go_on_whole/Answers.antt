@@ -1,8 +1,8 @@
-use Rattle.std.specs.Prelude.{◌==◌, find, Some}
+use Rattle.std.specs.Prelude.{◌==◌, find}
 use Rattle.std.proofs.Common.{ap, ◌∙◌}
 use Rattle.mg_kernel.proofs.Turned.{after-change, after-none, changes-row, no-change, row-lives, row-told, unmapped}
-use Rattle.mg_model.specs.declared.threads.ThrState.{ThrState}
 use Rattle.mg_model.specs.State.{Thread, ThreadRow}
+use Rattle.mg_model.specs.Turn.{as_after}
 use Rattle.mg_script.specs.Effects.{resumed}
 use Rattle.mg_volume.specs.Meaning.{now_of, threads_in}
 use Rattle.mg_kernel.proofs.turning.go_on_whole.Goals as goal
@@ -14,8 +14,8 @@ pub returns-in-Some-clause-left : goal.returns-in-Some-clause-left
 returns-in-Some-clause-left c image =
     let change = λ (row : ThreadRow). resumed c.args.effect.now c.args.reply.now row in
     let held = find (λ (thread : Thread). thread.number == c.args.thread) (threads_in c.args.volume.now) in
-    after-change c.args.thread change (now_of c.args.volume.now image) (now_of c.change_thread.new.self image) c.in-Some.row c.resume-row.result (Some c.state.result) (row-told c.args.volume.now c.args.thread c.in-Some.row c.in-Some.ensures.found image)
-    (c.change_thread.ensures.now change (changes-row c.args.thread change held c.in-Some.row c.resume-row.result c.in-Some.ensures.found c.resume-row.ensures) image) c.resume-row.ensures (ap (λ (s : ThrState). Some s) c.state.ensures)
+    after-change c.args.thread change (now_of c.args.volume.now image) (now_of c.change_thread.new.self image) c.in-Some.row c.resume-row.result c.after.result (row-told c.args.volume.now c.args.thread c.in-Some.row c.in-Some.ensures.found image)
+    (c.change_thread.ensures.now change (changes-row c.args.thread change held c.in-Some.row c.resume-row.result c.in-Some.ensures.found c.resume-row.ensures) image) c.resume-row.ensures (c.after.ensures ∙ ap as_after c.state.ensures)
 
 pub returns-in-None-clause-now : goal.returns-in-None-clause-now
 returns-in-None-clause-now c image =

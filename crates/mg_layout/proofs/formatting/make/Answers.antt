@@ -1,38 +1,34 @@
-use Rattle.std.proofs.Common.{◌≡◌, ◌≤◌, ◌∙◌, Some, ap, arith, length, option_map}
+use Rattle.std.proofs.Common.{◌∙◌, arith}
 use Rattle.std.proofs.lemmas.Result.{on_ok_weaker}
 use Rattle.mg_model.specs.Fresh.{fresh}
-use Rattle.mg_model.specs.Layout.{first_frame, total_blocks}
-use Rattle.mg_layout.specs.FreshBelow.{fresh_until}
 use Rattle.mg_layout.proofs.FreshBlocks.{at_gate}
-use Rattle.mg_layout.proofs.FormatSteps.{all_made, first_phase, second_phase, third_phase, with_closed, with_rest}
+use Rattle.mg_layout.proofs.FormatSteps.{all_made, first_phase, rest_of, second_phase, third_phase}
 use Rattle.mg_layout.proofs.formatting.make.Goals as goal
 
 pub returns-in_err-write_firmly-clause-any_moment : goal.returns-in_err-write_firmly-clause-any_moment
-returns-in_err-write_firmly-clause-any_moment g c pending image told =
-    first_phase g.D.Disk c.args.params.now image c.args.disk.now c.write_firmly.new.disk (c.write_firmly.ensures.any_moment pending image told)
+returns-in_err-write_firmly-clause-any_moment g c = first_phase g.D.Disk c.args.params.now c.args.disk.now c.write_firmly.new.disk c.write_firmly.ensures.from_any
 
 pub returns-in_err-write_behind-clause-any_moment : goal.returns-in_err-write_behind-clause-any_moment
-returns-in_err-write_behind-clause-any_moment g c pending image told =
+returns-in_err-write_behind-clause-any_moment g c =
     let p = c.args.params.now in
-    let count = g.met.D.Disk.seen_count c.args.disk.now image told in
-    let room = c.requires.within_disk in
-    let closed : g.D.Disk.seen c.write_firmly.new.disk ≡ Some (with_closed image) = c.in_ok-write_firmly.ensures.written ∙ ap (option_map with_closed) told in
-    second_phase g.D.Disk p image c.args.disk.now c.write_firmly.new.disk c.write_behind.new.disk (omega arith)
-    (first_phase g.D.Disk p image c.args.disk.now c.write_firmly.new.disk (c.write_firmly.ensures.any_moment pending image told))
-    (c.write_behind.ensures.any_moment c.in_ok-write_firmly.ensures.settled (with_closed image) closed)
+    let old = c.args.disk.now in
+    second_phase g.D.Disk p old c.requires.within_disk (g.met.D.Disk.seen_count old) c.write_firmly.new.disk c.write_behind.new.disk c.in_ok-write_firmly.ensures.settled c.in_ok-write_firmly.ensures.written
+    (first_phase g.D.Disk p old c.write_firmly.new.disk c.write_firmly.ensures.from_any)
+    c.write_behind.ensures.any_moment
 
 pub returns-clause-any_moment : goal.returns-clause-any_moment
-returns-clause-any_moment g c pending image told =
+returns-clause-any_moment g c =
     let p = c.args.params.now in
-    let count = g.met.D.Disk.seen_count c.args.disk.now image told in
-    let room : total_blocks p.frames ≤ length image = let r = c.requires.within_disk in omega arith in
-    let closed : g.D.Disk.seen c.write_firmly.new.disk ≡ Some (with_closed image) = c.in_ok-write_firmly.ensures.written ∙ ap (option_map with_closed) told in
-    let behind : g.D.Disk.seen c.write_behind.new.disk ≡ Some (with_rest p image) = c.in_ok-write_behind.ensures.written ∙ ap (option_map (fresh_until p (first_frame p.frames))) closed in
-    third_phase g.D.Disk p image c.keep_rules.ensures.rules c.args.disk.now c.write_behind.new.disk c.write_firmly-2.new.disk room
-    (second_phase g.D.Disk p image c.args.disk.now c.write_firmly.new.disk c.write_behind.new.disk (omega arith)
-    (first_phase g.D.Disk p image c.args.disk.now c.write_firmly.new.disk (c.write_firmly.ensures.any_moment pending image told))
-    (c.write_behind.ensures.any_moment c.in_ok-write_firmly.ensures.settled (with_closed image) closed))
-    (c.write_firmly-2.ensures.any_moment c.in_ok-write_behind.ensures.settled (with_rest p image) behind)
+    let old = c.args.disk.now in
+    let room = c.requires.within_disk in
+    let count = g.met.D.Disk.seen_count old in
+    let closed = c.in_ok-write_firmly.ensures.written in
+    third_phase g.D.Disk p old room count c.keep_rules.ensures.rules c.write_behind.new.disk c.write_firmly-2.new.disk c.in_ok-write_behind.ensures.settled
+    (rest_of p (g.D.Disk.seen old) (g.D.Disk.seen c.write_firmly.new.disk) (g.D.Disk.seen c.write_behind.new.disk) closed c.in_ok-write_behind.ensures.written)
+    (second_phase g.D.Disk p old room count c.write_firmly.new.disk c.write_behind.new.disk c.in_ok-write_firmly.ensures.settled closed
+    (first_phase g.D.Disk p old c.write_firmly.new.disk c.write_firmly.ensures.from_any)
+    c.write_behind.ensures.any_moment)
+    c.write_firmly-2.ensures.from_any
 
 pub returns-clause-made : goal.returns-clause-made
 returns-clause-made g c =

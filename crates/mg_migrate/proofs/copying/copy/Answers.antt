@@ -4,40 +4,36 @@ use Rattle.std.proofs.lemmas.Result.{on_ok_weaker}
 use Rattle.mg_disk.specs.Disk.{Image, SeenBut, only_place}
 use Rattle.mg_disk.specs.Stops.{NothingPending}
 use Rattle.mg_journal.specs.ResultLemmas.{on_ok_both}
-use Rattle.mg_migrate.proofs.CopySteps.{all_made, first_phase, second_phase, seen_then, stands_closed, third_phase}
+use Rattle.mg_migrate.proofs.CopySteps.{all_made, first_phase, second_phase, stands_closed, third_phase}
 use Rattle.mg_model.specs.Layout.{gate_block, gate_open}
 use Rattle.mg_model.specs.Volume.{gate_byte}
 use Rattle.mg_migrate.proofs.copying.copy.Goals as goal
 
 pub returns-in_err-write_gate-clause-any_moment : goal.returns-in_err-write_gate-clause-any_moment
-returns-in_err-write_gate-clause-any_moment g c pending image told r read =
-    first_phase g.D.Disk (g.C.Contents.total c.args.view.now) image r c.args.new.now c.write_gate.new.new (c.write_gate.ensures.any_moment pending image told)
+returns-in_err-write_gate-clause-any_moment g c r read = first_phase g.D.Disk (g.C.Contents.total c.args.view.now) r c.args.new.now c.write_gate.new.new c.write_gate.ensures.any_moment
 
 pub returns-in_err-copy_behind-clause-any_moment : goal.returns-in_err-copy_behind-clause-any_moment
-returns-in_err-copy_behind-clause-any_moment g c pending image told r read =
+returns-in_err-copy_behind-clause-any_moment g c r read =
     let n = g.C.Contents.total c.args.view.now in
-    let closed = seen_then (only_place 0) (g.D.Disk.seen c.args.new.now) (g.D.Disk.seen c.write_gate.new.new) image c.in_ok-write_gate.ensures.seen told in
-    second_phase g.D.Disk n image r c.args.new.now c.write_gate.new.new c.copy_behind.new.new closed.c (c.in_ok-write_gate.ensures.byte closed.c closed.is)
-    (first_phase g.D.Disk n image r c.args.new.now c.write_gate.new.new (c.write_gate.ensures.any_moment pending image told))
-    (c.copy_behind.ensures.any_moment c.in_ok-write_gate.ensures.settled closed.c closed.is)
+    let first = c.args.new.now in
+    second_phase g.D.Disk n r first c.write_gate.new.new c.copy_behind.new.new c.in_ok-write_gate.ensures.settled c.in_ok-write_gate.ensures.byte
+    (first_phase g.D.Disk n r first c.write_gate.new.new c.write_gate.ensures.any_moment)
+    c.copy_behind.ensures.any_moment
 
 pub returns-in_err-copy_behind-clause-closed : goal.returns-in_err-copy_behind-clause-closed
 returns-in_err-copy_behind-clause-closed g c is =
-    stands_closed g.D.Disk c.write_gate.new.new c.copy_behind.new.new (g.met.D.Disk.only_told c.copy_behind.new.new) (g.met.D.Disk.seen_may_stay c.copy_behind.new.new) c.copy_behind.ensures.seen
-    c.in_ok-write_gate.ensures.byte c.in_ok-write_gate.ensures.settled (c.copy_behind.ensures.any_moment c.in_ok-write_gate.ensures.settled)
+    stands_closed g.D.Disk c.write_gate.new.new c.copy_behind.new.new c.copy_behind.ensures.seen c.in_ok-write_gate.ensures.byte c.in_ok-write_gate.ensures.settled c.copy_behind.ensures.any_moment
 
 pub returns-clause-any_moment : goal.returns-clause-any_moment
-returns-clause-any_moment g c pending image told r read =
+returns-clause-any_moment g c r read =
     let n = g.C.Contents.total c.args.view.now in
-    let closed = seen_then (only_place 0) (g.D.Disk.seen c.args.new.now) (g.D.Disk.seen c.write_gate.new.new) image c.in_ok-write_gate.ensures.seen told in
-    let behind = seen_then (λ k. 1 ≤ k) (g.D.Disk.seen c.write_gate.new.new) (g.D.Disk.seen c.copy_behind.new.new) closed.c c.copy_behind.ensures.seen closed.is in
-    let count = g.met.D.Disk.seen_count c.args.new.now image told in
-    let long : n ≤ length behind.c = let room = c.requires.within_disk in let one = closed.same.count in let two = behind.same.count in omega arith in
-    third_phase g.D.Disk n image r c.args.new.now c.copy_behind.new.new c.write_gate-2.new.new behind.c long (c.in_ok-copy_behind.ensures.copied r read behind.c behind.is)
-    (second_phase g.D.Disk n image r c.args.new.now c.write_gate.new.new c.copy_behind.new.new closed.c (c.in_ok-write_gate.ensures.byte closed.c closed.is)
-    (first_phase g.D.Disk n image r c.args.new.now c.write_gate.new.new (c.write_gate.ensures.any_moment pending image told))
-    (c.copy_behind.ensures.any_moment c.in_ok-write_gate.ensures.settled closed.c closed.is))
-    (c.write_gate-2.ensures.any_moment c.in_ok-copy_behind.ensures.settled behind.c behind.is)
+    let first = c.args.new.now in
+    let long = λ (s : Image) (is : g.D.Disk.seen c.copy_behind.new.new ≡ Some s). let count = g.met.D.Disk.seen_count c.copy_behind.new.new s is in let room = c.requires.within_disk in let one = c.write_gate.ensures.calls.blocks in let two = c.copy_behind.ensures.calls.blocks in let fits : n ≤ length s = omega arith in fits in
+    third_phase g.D.Disk n r first c.copy_behind.new.new c.write_gate-2.new.new c.in_ok-copy_behind.ensures.settled long (c.in_ok-copy_behind.ensures.copied r read)
+    (second_phase g.D.Disk n r first c.write_gate.new.new c.copy_behind.new.new c.in_ok-write_gate.ensures.settled c.in_ok-write_gate.ensures.byte
+    (first_phase g.D.Disk n r first c.write_gate.new.new c.write_gate.ensures.any_moment)
+    c.copy_behind.ensures.any_moment)
+    c.write_gate-2.ensures.any_moment
 
 pub returns-clause-copied : goal.returns-clause-copied
 returns-clause-copied g c =

@@ -1,9 +1,8 @@
 use Rattle.std.proofs.Common.{◌≡◌, ◌≤◌, ◌-◌}
 use Rattle.std.specs.Option.{ForSome}
 use Rattle.mg_check.specs.Reads.{contents}
-use Rattle.mg_disk.specs.Disk.{SameBut, SeenBut}
-use Rattle.mg_disk.specs.Runs.{Tracks}
-use Rattle.mg_disk.specs.Stops.{CountGoes, NothingPending, OnlyRead}
+use Rattle.mg_disk.specs.Disk.{SeenBut, TornAt}
+use Rattle.mg_disk.specs.Stops.{CountGoes, Leaves, MightHaveLeft, OnlyRead}
 use Rattle.mg_migrate.proofs.CopySteps.{AreBefore}
 use Rattle.mg_migrate.proofs.copying.copy_behind.Given as goal
 
@@ -13,7 +12,7 @@ invariant-loop-first g l = record {
   behind : 1 ≤ l.first;
   blocks : g.D.Disk.block_count l.new ≡ g.D.Disk.block_count l.initial.new;
   count : CountGoes g.D.Disk l.initial.new l.new;
-  tracks : NothingPending g.D.Disk l.initial.new → ForSome (g.D.Disk.seen l.initial.new) (λ image. Tracks g.D.Disk l.initial.new l.new (SameBut (λ k. 1 ≤ k) image) (SameBut (λ k. 1 ≤ k) image));
+  torn : Leaves g.D.Disk l.initial.new l.new (TornAt (λ k. 1 ≤ k) (MightHaveLeft g.D.Disk l.initial.new));
   seen : SeenBut (λ k. 1 ≤ k) (g.D.Disk.seen l.initial.new) (g.D.Disk.seen l.new);
   copied : ForSome (contents g.E.Disk (g.C.Contents.of l.view) l.initial.old) (λ r. ForSome (g.D.Disk.seen l.new) (AreBefore l.total l.first r));
   reads : OnlyRead g.E.Disk l.initial.old l.old;

@@ -1,6 +1,7 @@
 use Rattle.std.proofs.Common.{rules, sym, ap, subst, ◌∙◌, ◌≡◌, arith, inr}
-use Rattle.mg_disk.specs.Runs.{leaves_wider}
+use Rattle.mg_disk.specs.Runs.{from_wider}
 use Rattle.mg_migrate.proofs.LiftedCopy.{contents-are, copy-may, left-lifts, reads-migrated, tells-done, tells-enough, tells-small, untouched_may}
+use Rattle.mg_migrate.specs.Copied.{MayCopy}
 use Rattle.mg_migrate.specs.Layout1.{total1_blocks}
 use Rattle.mg_migrate.specs.Lifted.{lifted}
 use Rattle.mg_migrate.specs.LiftedView.{LiftedView}
@@ -23,15 +24,13 @@ returns-clause-told g c image told =
     tells-enough c.in_ok-lifting.lifting c.in_ok-lifting.rows image (c.in_ok-lifting.ensures.told image told) (g.D.Disk.block_count c.args.new.now) (search rules)
 
 pub returns-in_err-lifting-clause-any_moment : goal.returns-in_err-lifting-clause-any_moment
-returns-in_err-lifting-clause-any_moment g c pending image told before read =
-    untouched_may g.D.Disk (volume1 before) image c.args.new.now (g.met.D.Disk.now_has_been c.args.new.now) told pending
+returns-in_err-lifting-clause-any_moment g c before read = untouched_may g.D.Disk (volume1 before) c.args.new.now (g.met.D.Disk.now_has_been c.args.new.now)
 
 pub returns-in_err-lifting-clause-new_calls : goal.returns-in_err-lifting-clause-new_calls
 returns-in_err-lifting-clause-new_calls g c = search rules
 
 pub returns-then-have-need-clause-any_moment : goal.returns-then-have-need-clause-any_moment
-returns-then-have-need-clause-any_moment g c pending image told before read =
-    untouched_may g.D.Disk (volume1 before) image c.args.new.now (g.met.D.Disk.now_has_been c.args.new.now) told pending
+returns-then-have-need-clause-any_moment g c before read = untouched_may g.D.Disk (volume1 before) c.args.new.now (g.met.D.Disk.now_has_been c.args.new.now)
 
 pub copy-requires-clause-can : goal.copy-requires-clause-can
 copy-requires-clause-can g c =
@@ -42,31 +41,31 @@ copy-requires-clause-can g c =
     }
 
 pub returns-in-Ok-clause-any_moment : goal.returns-in-Ok-clause-any_moment
-returns-in-Ok-clause-any_moment g c pending image told before read =
+returns-in-Ok-clause-any_moment g c before read =
     let seen = c.in_ok-lifting.lifting in
     let old = c.in_ok-lifting.ensures.told before read in
-    leaves_wider g.D.Disk c.args.new.now c.copy.new.new _ (MayMigrate image (volume1 before))
-    (c.copy.ensures.any_moment pending image told (lifted seen.settings old.replayed)
+    from_wider g.D.Disk c.args.new.now c.copy.new.new (λ image. MayCopy (total_blocks seen.settings.frames) image (lifted seen.settings old.replayed)) (λ image. MayMigrate image (volume1 before))
+    (c.copy.ensures.any_moment (lifted seen.settings old.replayed)
     (contents-are seen c.in_ok-lifting.rows before old g.E.Disk c.read_old.new.old (subst (λ (v : LiftedView). v.placed.total ≡ total1_blocks v.settings.frames) c.lifting.view_is c.lifting.invariant) (c.in_ok-lifting.ensures.reads.writes.same ∙ read)))
-    (λ i may. copy-may seen c.in_ok-lifting.rows before old image i may)
+    (copy-may seen c.in_ok-lifting.rows before old)
 
 pub returns-in-Err-From-clause-any_moment : goal.returns-in-Err-From-clause-any_moment
-returns-in-Err-From-clause-any_moment g c pending image told before read =
+returns-in-Err-From-clause-any_moment g c before read =
     let seen = c.in_ok-lifting.lifting in
     let old = c.in_ok-lifting.ensures.told before read in
-    leaves_wider g.D.Disk c.args.new.now c.copy.new.new _ (MayMigrate image (volume1 before))
-    (c.copy.ensures.any_moment pending image told (lifted seen.settings old.replayed)
+    from_wider g.D.Disk c.args.new.now c.copy.new.new (λ image. MayCopy (total_blocks seen.settings.frames) image (lifted seen.settings old.replayed)) (λ image. MayMigrate image (volume1 before))
+    (c.copy.ensures.any_moment (lifted seen.settings old.replayed)
     (contents-are seen c.in_ok-lifting.rows before old g.E.Disk c.read_old.new.old (subst (λ (v : LiftedView). v.placed.total ≡ total1_blocks v.settings.frames) c.lifting.view_is c.lifting.invariant) (c.in_ok-lifting.ensures.reads.writes.same ∙ read)))
-    (λ i may. copy-may seen c.in_ok-lifting.rows before old image i may)
+    (copy-may seen c.in_ok-lifting.rows before old)
 
 pub returns-clause-any_moment : goal.returns-clause-any_moment
-returns-clause-any_moment g c pending image told before read =
+returns-clause-any_moment g c before read =
     let seen = c.in_ok-lifting.lifting in
     let old = c.in_ok-lifting.ensures.told before read in
-    leaves_wider g.D.Disk c.args.new.now c.copy.new.new _ (MayMigrate image (volume1 before))
-    (c.copy.ensures.any_moment pending image told (lifted seen.settings old.replayed)
+    from_wider g.D.Disk c.args.new.now c.copy.new.new (λ image. MayCopy (total_blocks seen.settings.frames) image (lifted seen.settings old.replayed)) (λ image. MayMigrate image (volume1 before))
+    (c.copy.ensures.any_moment (lifted seen.settings old.replayed)
     (contents-are seen c.in_ok-lifting.rows before old g.E.Disk c.read_old.new.old (subst (λ (v : LiftedView). v.placed.total ≡ total1_blocks v.settings.frames) c.lifting.view_is c.lifting.invariant) (c.in_ok-lifting.ensures.reads.writes.same ∙ read)))
-    (λ i may. copy-may seen c.in_ok-lifting.rows before old image i may)
+    (copy-may seen c.in_ok-lifting.rows before old)
 
 pub returns-in-Ok-clause-made : goal.returns-in-Ok-clause-made
 returns-in-Ok-clause-made g c before read =

@@ -11,12 +11,12 @@ use Rattle.mg_model.specs.Layout.{globals_block}
 use Rattle.mg_journal.proofs.applying.HomeBuffers.write.Goals as goal
 
 pub returns-clause-any_moment : goal.returns-clause-any_moment
-returns-clause-any_moment g c =
+returns-clause-any_moment g c pending =
     let old = c.args.disk.now in
     let mid = c.read_bodies.new.disk in
     let reads = c.in_ok-read_bodies.ensures.reads.writes in
     let homes : Image → ℕ → Type 0 = λ a k. names (filled a c.args.places.now) k ≡ true in
-    after_reads g.D.Disk old mid (λ a. SameBut (homes a) a) (λ a. same_as (homes a) a a refl) reads c.requires.settled c.apply.new.disk c.apply.ensures.any_moment
+    after_reads g.D.Disk old mid (λ a. SameBut (homes a) a) (λ a. same_as (homes a) a a refl) reads pending c.apply.new.disk (c.apply.ensures.any_moment (still_seen g.D.Disk old mid pending reads.same reads.stops))
 
 pub apply-requires : goal.apply-requires
 apply-requires g c =
@@ -32,7 +32,6 @@ apply-requires g c =
     record {
       all_on_disk = subst (λ (n : ℕ). All (IsPlace n) places) (sym reads.calls.blocks) c.requires.all_on_disk;
       bodies = bodies;
-      settled = still_seen g.D.Disk c.args.disk.now c.read_bodies.new.disk c.requires.settled reads.writes.same reads.writes.stops;
       read = λ image told k below low. ap (λ (b : Image). block_at b (nth_body places k)) is ∙ c.in_ok-read_bodies.ensures.read image (sym reads.writes.same ∙ told) k below low;
       room = omega (arith, c.grow-2.ensures.long, c.min.ensures, ap length c.deref_mut-2.ensures.value);
     }

@@ -45,7 +45,7 @@ returns-clause-stands g c =
     record {
       journal = omega arith;
       room = omega (arith, c.recover.ensures.calls.blocks);
-      settled = c.in_ok-recover.ensures.settled;
+      settled = c.in_ok-recover.ensures.settled c.requires.stands.settled;
       fits = λ now told.
           fits_held (record { total = total; live = c.self.inside.live; opened = 0; table = c.clear.new.self.table }) now
           (subst (λ t. HoldsOpen total 0 t now) (sym c.clear.ensures.none) (closed_holds total now (returns-clause-closed g c now told)));

@@ -2,11 +2,11 @@ use Rattle.std.proofs.Common.{◌≡◌, ◌≤◌, ◌-◌, length, option_map,
 use Rattle.std.specs.Option.{ForSome}
 use Rattle.mg_disk.specs.Disk.{SameBut}
 use Rattle.mg_disk.specs.Runs.{Tracks}
-use Rattle.mg_disk.specs.Stops.{Becomes, CountGoes}
+use Rattle.mg_disk.specs.Stops.{Becomes, CountGoes, NothingPending}
 use Rattle.mg_model.specs.Replay.{written}
 use Rattle.mg_journal.specs.Applied.{filled}
 use Rattle.mg_journal.specs.Contents.{names}
-use Rattle.mg_journal.proofs.applying.apply.Given as goal
+use Rattle.mg_journal.proofs.applying.put_homes.Given as goal
 
 -- the bodies up to this one are at their homes, and only homes differ, both in what reads give and in what a stop leaves
 abbrev pub invariant-loop-first : goal.invariant-loop-first
@@ -17,7 +17,7 @@ invariant-loop-first g l = record {
   count : CountGoes g.D.Disk l.initial.disk l.disk;
   written : g.D.Disk.seen l.disk ≡ option_map (λ image. written image (filled image (take l.first l.places))) (g.D.Disk.seen l.initial.disk);
   torn : Becomes (λ image. SameBut (λ k. names (filled image l.places) k ≡ true) image) (g.D.Disk.seen l.initial.disk) (g.D.Disk.seen l.disk);
-  tracks : ForSome (g.D.Disk.seen l.initial.disk) (λ image. Tracks g.D.Disk l.initial.disk l.disk (SameBut (λ k. names (filled image l.places) k ≡ true) image) (SameBut (λ k. names (filled image l.places) k ≡ true) image));
+  tracks : NothingPending g.D.Disk l.initial.disk → ForSome (g.D.Disk.seen l.initial.disk) (λ image. Tracks g.D.Disk l.initial.disk l.disk (SameBut (λ k. names (filled image l.places) k ≡ true) image) (SameBut (λ k. names (filled image l.places) k ≡ true) image));
 }
 
 -- the places that are left
