@@ -1,4 +1,3 @@
 mod Seed
 mod Spelled
 mod Summed
-mod HistorySteps

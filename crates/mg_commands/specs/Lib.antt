@@ -11,3 +11,4 @@ pub mod LastLemmas
 pub mod DryLemmas
 pub mod GeneratedLemmas
 pub mod RunLemmas
+pub mod HistoryLemmas

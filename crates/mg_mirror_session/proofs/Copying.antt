@@ -1,14 +1,14 @@
 -- What a stop within the copy leaves of the other disk, as the promise speaks of it.
 use Rattle.std.specs.Prelude.{ℕ, ◌≡◌, ◌⊎◌, ◌≤◌, List, [], length, slice_index, take, Option, Some, None}
 use Rattle.std.specs.Option.{ForSome}
-use Rattle.std.proofs.Common.{sym, ap, ◌∙◌, inl, inr, ⊎_elim, arith}
+use Rattle.std.proofs.Common.{refl, sym, ap, ◌∙◌, inl, inr, ⊎_elim, arith}
 use Rattle.std.proofs.lemmas.Bool.{cases_eq, cases_lt}
 use Rattle.std.proofs.lemmas.List.{get_or-take, length-take}
 use Rattle.std.proofs.Math.Nat.{min-le_left}
 use Rattle.mg_disk.specs.Disk.{Image, SameBut, only_place}
 use Rattle.mg_disk.specs.PlaceLemmas.{same_as}
-use Rattle.mg_disk.specs.Runs.{leaves_quiet, leaves_then, leaves_wider, leaves_yet, still_seen}
-use Rattle.mg_disk.specs.Stops.{Leaves, NothingPending, WritesNothing}
+use Rattle.mg_disk.specs.Runs.{leaves_quiet, leaves_then, leaves_wider, leaves_yet}
+use Rattle.mg_disk.specs.Stops.{FromLeft, WritesNothing}
 use Rattle.mg_disk.specs.declared.disk.Disk as disks
 use Rattle.mg_layout.specs.GateLemmas.{gate_alone}
 use Rattle.mg_mirror.specs.Copy.{LeavesCopy, MayCopy, first_byte}
@@ -57,27 +57,22 @@ holds : (n : ℕ) (image x c : Image) → IsOpened (take n x) → MayCopy n imag
 holds n image x c opened may =
     ⊎_elim (holds_before n image x c) (λ more. ⊎_elim (λ zero. inl (cut_closed n c zero)) (λ same. ⊎_elim (λ none. inl none) (λ copied. inr (inr copied)) (as_copied (take n x) (take n c) opened same)) more) may
 
-some_inj : (s c : Image) → Some s ≡ Some c → c ≡ s
-some_inj s c is = cc
-
 module _ {E : Type 0} (e : disks.Ghosts E) (n : ℕ) where
   pub copy_holds : (from : Option Image) (to to' : E) → ForSome from (λ x. first_fault (take n x) ≡ None) → LeavesCopy e n from to to' → CopyHolds e n from to to'
-  copy_holds from to to' none leaves pending image told x read =
-      leaves_wider e to to' (MayCopy n image x) (MayHold n image x) (leaves pending image told x read) (λ c may. holds n image x c (is_opened (take n x) (none x read)) may)
+  copy_holds from to to' none leaves x read =
+      leaves_wider e to to' (FromLeft e to (λ image. MayCopy n image x)) (FromLeft e to (λ image. MayHold n image x)) (leaves x read) (λ c may. (may.0, may.1, holds n may.0 x c (is_opened (take n x) (none x read)) may.2))
 
-  -- nothing was written yet
-  yet : (image x : Image) (to : E) → e.has_been to (e.moment to) → NothingPending e to → e.seen to ≡ Some image → Leaves e to to (MayHold n image x)
-  yet image x to been pending told =
-      leaves_yet e to (MayHold n image x) been (λ c left. let is : c ≡ image = some_inj image c (sym told ∙ pending c left) in holds_before n image x c (same_as (only_place 0) (take n image) (take n c) (ap (take n) is)))
-
+  -- nothing was written
   pub copy_none : (from : Option Image) (to to' : E) → e.has_been to (e.moment to) → WritesNothing e to to' → CopyHolds e n from to to'
-  copy_none from to to' been none pending image told x read = leaves_quiet e to to to' (MayHold n image x) (yet image x to been pending told) none.stops
+  copy_none from to to' been none x read =
+      leaves_quiet e to to to' (FromLeft e to (λ image. MayHold n image x))
+      (leaves_yet e to (FromLeft e to (λ image. MayHold n image x)) been (λ c left. (c, left, holds_before n c x c (same_as (only_place 0) (take n c) (take n c) refl)))) none.stops
 
   -- both disks were read before, or left alone
   pub copy_since : (was from : Option Image) (to mid to' : E) → from ≡ was → e.has_been to (e.moment to) → WritesNothing e to mid → CopyHolds e n from mid to' → CopyHolds e n was to to'
-  copy_since was from to mid to' same been none leaves pending image told x read =
-      leaves_then e to mid to' (MayHold n image x) (MayHold n image x) (copy_none was to mid been none pending image told x read)
-      (leaves (still_seen e to mid pending none.same none.stops) image (none.same ∙ told) x (same ∙ read)) (λ c may. may)
+  copy_since was from to mid to' same been none leaves x read =
+      leaves_then e to mid to' (FromLeft e mid (λ image. MayHold n image x)) (FromLeft e to (λ image. MayHold n image x)) (copy_none was to mid been none x read) (leaves x (same ∙ read))
+      (λ c may. (may.0, ⊎_elim (λ before. before) (λ none. absurd none) (none.stops.now may.0 may.1), may.2))
 
 none_some : {A : Type 0} (x : A) → None ≡ Some x → ⊥
 none_some x is = cc

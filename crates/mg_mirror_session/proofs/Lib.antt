@@ -4,3 +4,4 @@ pub mod FirstFault
 pub mod Copying
 pub mod Refusing
 pub mod RunsOnMirror
+pub mod HistorySteps

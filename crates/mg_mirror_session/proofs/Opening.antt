@@ -1,12 +1,12 @@
 -- A mirror that was opened, as the promise speaks of it.
 use Rattle.std.specs.Prelude.{ℕ, ◌≡◌, ◌≢◌, ◌&&◌, Bool, true, false, IsTrue, min, take, option_map, Option, Some, None, IsSomeAnd}
-use Rattle.std.proofs.Common.{refl, sym, subst, ◌∙◌, ap}
+use Rattle.std.proofs.Common.{refl, sym, subst, ◌∙◌, ap, ⊎_elim}
 use Rattle.mg_disk.specs.Disk.{Image}
 use Rattle.mg_disk.specs.Runs.{nothing_none, nothing_then, still_seen}
-use Rattle.mg_disk.specs.Stops.{CountGoes, NothingPending, WritesNothing}
+use Rattle.mg_disk.specs.Stops.{CountGoes, MightHaveLeft, NothingPending, WritesNothing}
 use Rattle.mg_disk.specs.declared.disk.Disk as disks
 use Rattle.mg_faults.specs.Faults.{count_none}
-use Rattle.mg_mirror.specs.Mirror.{told_cut}
+use Rattle.mg_mirror.specs.Mirror.{CutOf, told_cut}
 use Rattle.mg_mirror.specs.declared.mirror.Side.{Side}
 use Rattle.mg_mirror.specs.declared.mirror.Side.TheVariants.{Left, Right}
 use Rattle.mg_mirror_session.proofs.Copying.{copy_since}
@@ -40,10 +40,11 @@ module _ {D E : Type 0} (d : disks.Ghosts D) (e : disks.Ghosts E) (left_stays : 
   pub opened_from : (from : Side) (left : D) (right : E) (opened : Two D E)
       → (from ≡ Left → (mirror d e).seen opened ≡ told_cut opened.blocks (d.seen left) (e.seen right)) → (from ≡ Right → (mirror d e).seen opened ≡ told_cut opened.blocks (e.seen right) (d.seen left))
       → (from ≡ Left → NothingPending d left → NothingPending (mirror d e) opened) → (from ≡ Right → NothingPending e right → NothingPending (mirror d e) opened)
+      → (from ≡ Left → (c : Image) → MightHaveLeft (mirror d e) opened c → CutOf opened.blocks (MightHaveLeft d left) c) → (from ≡ Right → (c : Image) → MightHaveLeft (mirror d e) opened c → CutOf opened.blocks (MightHaveLeft e right) c)
       → opened.blocks ≡ min (d.block_count left) (e.block_count right) → (from ≡ Left → opened.alone ≢ Some Right) → (from ≡ Right → opened.alone ≢ Some Left)
       → (from ≡ Left → WritesNothing d left opened.left) → (from ≡ Right → WritesNothing e right opened.right)
       → (from ≡ Left → CopyHolds e opened.blocks (d.seen left) right opened.right) → (from ≡ Right → CopyHolds d opened.blocks (e.seen right) left opened.left) → IsOpenedFrom d e from left right opened
-  opened_from from left right opened left_reads right_reads left_settled right_settled blocks left_serves right_serves left_kept right_kept right_copied left_copied = record {
+  opened_from from left right opened left_reads right_reads left_settled right_settled left_found right_found blocks left_serves right_serves left_kept right_kept right_copied left_copied = record {
     blocks = blocks;
     told = of_side from _ _ left_reads right_reads;
     reads = reads from left_reads right_reads;
@@ -51,6 +52,7 @@ module _ {D E : Type 0} (d : disks.Ghosts D) (e : disks.Ghosts E) (left_stays : 
     kept = of_side from _ _ left_kept right_kept;
     copied = of_side from _ _ right_copied left_copied;
     settled = from_side from _ _ _ left_settled right_settled;
+    found = of_side from _ _ left_found right_found;
   }
     where
       reads : (from : Side) → (from ≡ Left → (mirror d e).seen opened ≡ told_cut opened.blocks (d.seen left) (e.seen right)) → (from ≡ Right → (mirror d e).seen opened ≡ told_cut opened.blocks (e.seen right) (d.seen left))
@@ -87,6 +89,7 @@ module _ {D E : Type 0} (d : disks.Ghosts D) (e : disks.Ghosts E) (left left' : 
     kept = kept from opens.kept;
     copied = copied from opens.copied;
     settled = settled from opens.settled;
+    found = found from opens.found;
   }
     where
       copied : (from : Side) → OfSide from (CopyHolds e opened.blocks (d.seen left') right' opened.right) (CopyHolds d opened.blocks (e.seen right') left' opened.left)
@@ -106,3 +109,12 @@ module _ {D E : Type 0} (d : disks.Ghosts D) (e : disks.Ghosts E) (left left' : 
       settled : (from : Side) → (OfSide from (NothingPending d left') (NothingPending e right') → NothingPending (mirror d e) opened) → OfSide from (NothingPending d left) (NothingPending e right) → NothingPending (mirror d e) opened
       settled Left h pending = h (still_seen d left left' pending on_left.writes.same on_left.writes.stops)
       settled Right h pending = h (still_seen e right right' pending on_right.writes.same on_right.writes.stops)
+
+      -- what a disk that was read may leave it might have left before
+      before : {X : Type 0} (x : disks.Ghosts X) (old new : X) → WritesNothing x old new → (c : Image) → CutOf opened.blocks (MightHaveLeft x new) c → CutOf opened.blocks (MightHaveLeft x old) c
+      before x old new writes c is = record { whole = is.whole; is_one = ⊎_elim (λ was. was) (λ none. absurd none) (writes.stops.now is.whole is.is_one); cut = is.cut }
+
+      found : (from : Side) → OfSide from ((c : Image) → MightHaveLeft (mirror d e) opened c → CutOf opened.blocks (MightHaveLeft d left') c) ((c : Image) → MightHaveLeft (mirror d e) opened c → CutOf opened.blocks (MightHaveLeft e right') c)
+          → OfSide from ((c : Image) → MightHaveLeft (mirror d e) opened c → CutOf opened.blocks (MightHaveLeft d left) c) ((c : Image) → MightHaveLeft (mirror d e) opened c → CutOf opened.blocks (MightHaveLeft e right) c)
+      found Left h = λ c may. before d left left' on_left.writes c (h c may)
+      found Right h = λ c may. before e right right' on_right.writes c (h c may)

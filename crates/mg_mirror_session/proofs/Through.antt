@@ -6,8 +6,8 @@ use Rattle.mg_disk.specs.declared.disk.Disk as disks
 use Rattle.mg_io.specs.declared.traits.Sink as sinks
 use Rattle.mg_model.specs.State.{State}
 use Rattle.mg_model.specs.Step.{after}
-use Rattle.mg_serve.specs.Sessions.{Holds, HoldsExactly, SinkUse, SourceUse, use_of}
-use Rattle.mg_commands.specs.Headline.{OnVolume, RunKeeps, TellsOfNone, session_of}
+use Rattle.mg_serve.specs.Sessions.{HoldsExactly, SinkUse, SourceUse, use_of}
+use Rattle.mg_commands.specs.Headline.{HoldsSince, OnVolume, RunKeeps, TellsOfNone, session_of}
 use Rattle.mg_serve.specs.declared.status.Status.{Status}
 
 pub if_some_then : {T : Type 0} (o : Option T) (P Q : T → Type 0) → ((x : T) → P x → Q x) → IfSome o P → IfSome o Q
@@ -38,7 +38,7 @@ module _ {M N : Type 0} (facts : disks.Ghosts N) (view : M → N) where
   pub writes_nothing : (m m' : M) → WritesNothing seen_through m m' → WritesNothing facts (view m) (view m')
   writes_nothing m m' h = record { same = h.same; stops = h.stops }
 
-  holds : {S K : Type 0} (s : State) (m m' : M) (i : SourceUse S) (o : SinkUse K) → Holds (after s) (use_of seen_through m m') i o → Holds (after s) (use_of facts (view m) (view m')) i o
+  holds : {S K : Type 0} (s : State) (m m' : M) (i : SourceUse S) (o : SinkUse K) → HoldsSince (after s) (use_of seen_through m m') i o → HoldsSince (after s) (use_of facts (view m) (view m')) i o
   holds s m m' i o h = record {
     moments = if_some_then (i.facts.left i.old) _ _ (λ input l. leaves m m' _ l) h.moments;
     held = h.held;
@@ -59,8 +59,9 @@ module _ {M N : Type 0} (facts : disks.Ghosts N) (view : M → N) where
     lines = record {
       answers = h.lines.answers;
       kept = h.lines.kept;
-      holds = λ settled. on_volume_then (facts.seen (view m)) _ _ (λ s k. holds s m m' i o k) (h.lines.holds settled);
+      holds = on_volume_then (facts.seen (view m)) _ _ (λ s k. holds s m m' i o k) h.lines.holds;
       holds_exactly = on_volume_then (facts.seen (view m)) _ _ (λ s k. exactly s result m m' i o k) h.lines.holds_exactly;
+      settled = h.lines.settled;
       ends = h.lines.ends;
       which = h.lines.which;
       disk_failed = h.lines.disk_failed;

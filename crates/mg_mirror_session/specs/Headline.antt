@@ -2,7 +2,7 @@
 use Rattle.std.specs.Prelude.{ℕ, ◌≡◌, ◌≢◌, ◌⊎◌, IsTrue, List, [], ◌∷◌, ◌++◌, codes, min, take, option_map, Option, Some, None}
 use Rattle.std.specs.Option.{ForSome}
 use Rattle.mg_disk.specs.Disk.{Image}
-use Rattle.mg_disk.specs.Stops.{Leaves, NothingPending, WritesNothing}
+use Rattle.mg_disk.specs.Stops.{FromLeft, Leaves, MightHaveLeft, NothingPending, WritesNothing}
 use Rattle.mg_disk.specs.declared.disk.Disk as disks
 use Rattle.mg_io.specs.declared.traits.Sink as sinks
 use Rattle.mg_layout.specs.MayFormat.{IsNoState, opened}
@@ -44,9 +44,10 @@ MayHold n image x c =
     (volume (take n c) ≡ NotVolume)
     ⊎ ((volume (take n c) ≡ volume (opened (take n image))) ⊎ (volume (take n c) ≡ volume (take n x)))
 
--- At each moment in which what a disk tells is copied to this one, which nothing was pending on, a stop leaves that.
+-- At each moment in which what a disk tells is copied to this one, whatever was pending on it, an image that a stop may leave of it comes
+-- so from one that a stop might have left before.
 abbrev pub CopyHolds : {E : Type 0} → disks.Ghosts E → ℕ → Option Image → E → E → Type 0
-CopyHolds e n from to to' = NothingPending e to → ForSome (e.seen to) (λ image. ForSome from (λ x. Leaves e to to' (MayHold n image x)))
+CopyHolds e n from to to' = ForSome from (λ x. Leaves e to to' (FromLeft e to (λ image. MayHold n image x)))
 
 -- The mirror
 
@@ -69,6 +70,9 @@ pub record IsOpenedFrom {D E : Type 0} (d : disks.Ghosts D) (e : disks.Ghosts E)
       (CopyHolds d opened.blocks (e.seen right) left opened.left)
   -- Where nothing was pending on it, nothing is on the mirror: a stop leaves what reads give.
   pub settled : OfSide from (NothingPending d left) (NothingPending e right) → NothingPending (mirror d e) opened
+  -- A stop now leaves of the mirror one of the images that it might have left of that disk, cut to its blocks.
+  pub found : OfSide from ((c : Image) → MightHaveLeft (mirror d e) opened c → CutOf opened.blocks (MightHaveLeft d left) c)
+      ((c : Image) → MightHaveLeft (mirror d e) opened c → CutOf opened.blocks (MightHaveLeft e right) c)
 
 -- The last line
 

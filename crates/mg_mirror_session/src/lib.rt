@@ -6,12 +6,14 @@
 //! every two disks, source and sink.
 //!
 //! The definitions stand in `specs/`: `Commands` (what the words spell), `Mirrored` (what a mirror of two disks shows), `Judged` (what
-//! the first two blocks tell) and `Headline` (what is kept, in one record).
+//! the first two blocks tell), `Headline` (what is kept, in one record) and `History` (runs over mirrors, one after another).
 #![tactic(auto)]
 
+mod history;
 mod judging;
 mod putting;
 mod top_call;
 mod words;
 
+pub use history::runs_over_mirrors_follow;
 pub use top_call::top_mirror;

@@ -1,4 +1,4 @@
-use Rattle.mg_commands.proofs.HistorySteps.{runs_hold}
+use Rattle.mg_commands.specs.HistoryLemmas.{runs_hold}
 use Rattle.mg_commands.proofs.history.runs_hold_what_was_answered.Goals as goal
 
 pub returns : goal.returns
