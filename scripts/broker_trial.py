@@ -455,6 +455,7 @@ def power(folder, options, made):
             device.stop()
         if running.stop() != 0:
             fail(running.log_text())
+        device.stop()
         print(f"power: {options.kills} kills of the program, {lost} losses of power in the next opening or soon after, {replies} replies; none lost", flush=True)
     finally:
         if running is not None and running.process.poll() is None:
