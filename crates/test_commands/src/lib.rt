@@ -1,8 +1,13 @@
-//! Tests of whole commands that no file of lines can say: calls that fail, limits, words, and the making of volumes.
+//! Tests of whole commands that no file of lines can say: calls that fail, runs that are killed, stops, limits,
+//! words, and the making of volumes.
 #![tactic(auto)]
 
 #[cfg(test)]
+mod batch_tests;
+#[cfg(test)]
 mod fault_tests;
+#[cfg(test)]
+mod kill_tests;
 #[cfg(test)]
 mod limit_tests;
 #[cfg(test)]

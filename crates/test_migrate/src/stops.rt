@@ -2,7 +2,7 @@
 use crate::after::Content::{self, Before, Moved, Nothing};
 use crate::after::{formatted, leaves};
 use crate::images::{BLOCKS, IN_JOURNAL, MOVED, old_volume, stopped, zeros};
-use crate::outcomes::{Expected, migrates};
+use crate::outcomes::{Expected, migrates, outcome};
 use mg_disk::{Fuse, Left, MemDisk};
 use std::alloc::Global;
 use std::process::Abort;
@@ -128,4 +128,57 @@ fn the_first_calls_on_a_volume(rt: HostRuntime) {
 #[test]
 fn the_last_calls_on_a_volume(rt: HostRuntime) {
     stop(&rt, rt.alloc(), Before, CALLS - 20, CALLS + 1);
+}
+
+/// A new disk with the volume that was there before, whose run of a line is killed after `calls` calls. What it wrote since its last sync is
+/// pending. A check prints the same whether the line is held or not.
+fn killed(rt: &impl Abort, alloc: Global, made: &MemDisk, calls: u64) -> MemDisk {
+    let mut fuse = Fuse::new(stopped(rt, alloc, made, Left::New), calls);
+    let _ = outcome(rt, alloc, "new run", &mut fuse, "1 store 0x100000020 5\n");
+    fuse.into_inner()
+}
+
+/// The number of calls that this run makes if it is not killed.
+fn calls_of_run(rt: &impl Abort, alloc: Global, made: &MemDisk) -> u64 {
+    let counts = killed(rt, alloc, made, u64::MAX).counts();
+    counts
+        .reads
+        .saturating_add(counts.writes)
+        .saturating_add(counts.syncs)
+}
+
+/// How many calls before its end that run is killed, and before which call of the migration its disk dies. The last call is the sync of a
+/// gate, and the third last that of what it opens.
+const PENDING: &[(u64, u64)] = &[
+    (1, 0),
+    (1, 1),
+    (1, 2),
+    (1, 3),
+    (1, CALLS - 2),
+    (1, CALLS - 1),
+    (1, CALLS),
+    (3, 0),
+    (3, 1),
+    (3, CALLS),
+];
+
+fn stop_after_kills(rt: &impl Abort, alloc: Global, made: &MemDisk, old: &MemDisk) {
+    let all = calls_of_run(rt, alloc, made);
+    for (back, call) in PENDING {
+        let new = killed(rt, alloc, made, all.saturating_sub(*back));
+        let (stops, _) = contents_at(*call, Before);
+        let mut from = stopped(rt, alloc, old, Left::New);
+        dies(rt, alloc, new, &mut from, *call, stops);
+    }
+}
+
+#[test]
+fn the_calls_on_a_volume_of_a_run_that_was_killed(rt: HostRuntime) {
+    let alloc = rt.alloc();
+    stop_after_kills(
+        &rt,
+        alloc,
+        &formatted(&rt, alloc, u64::MAX),
+        &old_volume(&rt, alloc, IN_JOURNAL, &[]),
+    );
 }
