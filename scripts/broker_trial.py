@@ -411,6 +411,30 @@ def talk(storers, until):
     return replies
 
 
+def is_gone(process):
+    """Whether a process has ended; nobody may have asked for its status yet."""
+    try:
+        return Path(f"/proc/{process}/stat").read_text().rpartition(")")[2].split()[0] == "Z"
+    except OSError:
+        return True
+
+
+def stop_all(running):
+    """The machine stops: the broker and the program that it runs are killed."""
+    try:
+        children = Path(f"/proc/{running.process.pid}/task/{running.process.pid}/children").read_text().split()
+    except OSError:
+        children = []
+    running.process.kill()
+    running.process.wait()
+    for child in children:
+        with contextlib.suppress(ProcessLookupError):
+            os.kill(int(child), signal.SIGKILL)
+        # The process keeps the file until it is gone.
+        while not is_gone(child):
+            time.sleep(0.001)
+
+
 def power(folder, options, made):
     """The third part."""
     if any(shutil.which(command) is None for command in ("nbdkit", "nbdfuse", "fusermount3")):
@@ -449,8 +473,7 @@ def power(folder, options, made):
                 time.sleep(0.001)
             lost += device.server.poll() is not None
             device.cut()
-            running.process.kill()
-            running.process.wait()
+            stop_all(running)
             replies += sum(storer.read() or 0 for storer in storers)
             device.stop()
         if running.stop() != 0:
@@ -458,9 +481,8 @@ def power(folder, options, made):
         device.stop()
         print(f"power: {options.kills} kills of the program, {lost} losses of power in the next opening or soon after, {replies} replies; none lost", flush=True)
     finally:
-        if running is not None and running.process.poll() is None:
-            running.process.kill()
-            running.process.wait()
+        if running is not None:
+            stop_all(running)
         device.cut()
         device.stop()
 
