@@ -6,7 +6,7 @@ use Rattle.std.specs.Io.KnownBytes.{Appends}
 use Rattle.std.specs.List.{range_with_len}
 use Rattle.std.specs.Option.{ForSome}
 use Rattle.mg_disk.specs.Disk.{Image}
-use Rattle.mg_disk.specs.Stops.{LeftOr, MightHaveLeft, NothingPending, WritesNothing}
+use Rattle.mg_disk.specs.Stops.{FromLeft, LeftOr, MightHaveLeft, NothingPending, WritesNothing}
 use Rattle.mg_disk.specs.declared.disk.Disk as disks
 use Rattle.mg_faults.specs.Faults.{Rose}
 use Rattle.mg_gen.specs.Generated.{line_text, run_settings}
@@ -244,9 +244,9 @@ blocks_of d = d.facts.block_count d.old
 
 -- What `format` keeps. It never runs out of memory.
 pub record FormatKeeps {D K : Type 0} (settings : Settings) (result : Status) (d : DiskUse D) (o : SinkUse K) : Type 0 where
-  -- At each moment a stop leaves no volume, what the blocks after the gate spelled before, or the fresh one.
-  pub moments : NothingPending d.facts d.old →
-      ForSome (d.facts.seen d.old) (λ image. AlwaysLeft d (MayFormat image settings))
+  -- At each moment a stop leaves no volume, the fresh one, or, whatever was pending, what the blocks after the gate spelled in an
+  -- image that a stop might have left before.
+  pub moments : AlwaysLeft d (FromLeft d.facts d.old (λ image. MayFormat image settings))
   -- At the end the fresh volume stands, and the line gives its passwords.
   pub made : result ≡ status.Done → IsMade d.facts d.old d.new settings × Puts o (made_line settings)
   -- If the disk has enough blocks, that volume stands also if its line could not be printed, and at each status what was printed is a

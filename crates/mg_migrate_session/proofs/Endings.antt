@@ -7,7 +7,7 @@ use Rattle.std.proofs.lemmas.Bool.{le-ltb, lt-ltb}
 use Rattle.mg_check.specs.declared.examining.Summary.{Summary}
 use Rattle.mg_check.specs.Summaries.{summary_of}
 use Rattle.mg_disk.specs.Disk.{Image}
-use Rattle.mg_disk.specs.Stops.{CountRose, Leaves, NothingPending, WritesNothing}
+use Rattle.mg_disk.specs.Stops.{CountRose, FromLeft, Leaves, NothingPending, WritesNothing}
 use Rattle.mg_disk.specs.declared.disk.Disk as disks
 use Rattle.mg_faults.specs.Faults.{Rose}
 use Rattle.mg_io.specs.Known.{AppendsPrefix, AppendsPrefix-none}
@@ -114,7 +114,7 @@ small_state1 d need have new Damaged1 P told = tt
 small_state1 d need have new (Is1 state) P (needs, has, few) = λ room. absurd (omega arith)
 
 module _ {D E K : Type 0} (d : disks.Ghosts D) (e : disks.Ghosts E) (to : sinks.Ghosts K) (result : Status) (new new' : D) (old old' : E) (sink sink' : K)
-    (moments : NothingPending d new → ForSome (d.seen new) (λ image. ForSome (e.seen old) (λ before. Leaves d new new' (MayMigrate image (volume1 before)))))
+    (moments : ForSome (e.seen old) (λ before. Leaves d new new' (FromLeft d new (λ image. MayMigrate image (volume1 before)))))
     (back : ForSome (e.seen old) (λ before. StandsBack (d.block_count new) (volume1 before) new new')) (kept : WritesNothing e old old') where
   -- A line says what the old image is, or the sink failed.
   pub told_keeps : (end : Status) (line : List ℕ) → HasPut end → GoesWith end line → ForSome (e.seen old) (λ before. IsTold d end line new new' (volume1 before))

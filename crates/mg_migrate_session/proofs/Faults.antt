@@ -4,7 +4,7 @@ use Rattle.std.specs.Io.KnownBytes.{Appends}
 use Rattle.std.specs.Option.{ForSome}
 use Rattle.std.proofs.Common.{refl, sym, subst, inl, inr}
 use Rattle.mg_check.specs.declared.examining.Summary.{Summary}
-use Rattle.mg_disk.specs.Stops.{CountRose, Leaves, NothingPending, WritesNothing}
+use Rattle.mg_disk.specs.Stops.{CountRose, FromLeft, Leaves, WritesNothing}
 use Rattle.mg_disk.specs.declared.disk.Disk as disks
 use Rattle.mg_faults.specs.Faults.{Rose}
 use Rattle.mg_io.specs.Known.{AppendsPrefix}
@@ -33,7 +33,7 @@ no_state1 v kind P none is = subst (λ w. IfState1 w P) (sym is) none
 -- what a fault does
 pub fault_keeps : {D E K : Type 0} (d : disks.Ghosts D) (e : disks.Ghosts E) (to : sinks.Ghosts K) (f : MigrateFault) (result : Status) (new new' : D) (old old' : E) (sink sink' : K)
     → ForSome (e.seen old) (λ before. Tells1 (Err f) (d.block_count new) (volume1 before))
-    → (NothingPending d new → ForSome (d.seen new) (λ image. ForSome (e.seen old) (λ before. Leaves d new new' (MayMigrate image (volume1 before)))))
+    → ForSome (e.seen old) (λ before. Leaves d new new' (FromLeft d new (λ image. MayMigrate image (volume1 before))))
     → IsUntouched new new' (Err f) → ForSome (e.seen old) (λ before. StandsBack (d.block_count new) (volume1 before) new new')
     → (◌≡◌ {A = Result Summary MigrateFault} (Err f) (Err fault.OldDisk) → (new' ≡ new) ⊎ (StandsClosed d new' × ForSome (e.seen old) (λ before. Fits1 (d.block_count new) (volume1 before))))
     → WritesNothing e old old'

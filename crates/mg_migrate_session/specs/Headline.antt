@@ -4,7 +4,7 @@ use Rattle.std.specs.Io.KnownBytes.{Appends}
 use Rattle.std.specs.Option.{ForSome}
 use Rattle.mg_check.specs.declared.examining.Summary.{Summary}
 use Rattle.mg_disk.specs.Disk.{Image}
-use Rattle.mg_disk.specs.Stops.{NothingPending, WritesNothing}
+use Rattle.mg_disk.specs.Stops.{FromLeft, NothingPending, WritesNothing}
 use Rattle.mg_disk.specs.declared.disk.Disk as disks
 use Rattle.mg_faults.specs.Faults.{Rose}
 use Rattle.mg_io.specs.Known.{AppendsPrefix}
@@ -93,9 +93,9 @@ pub record MigrateKeeps {D E K : Type 0} (result : Status) (to : DiskUse D) (fro
   pub prefix : OfBefore from (λ before. PutsPrefix o (migrate_line (blocks_of to) (volume1 before)))
   -- Of an old disk that does not tell its reads too, what was printed at 0, 2 and 8 is a line of that status.
   pub some_line : HasPut result → (line : List ℕ) × GoesWith result line × Puts o line
-  -- At each moment a stop leaves on the new disk no state, what the blocks after its gate spelled, or the migrated one.
-  pub moments : NothingPending to.facts to.old → ForSome (to.facts.seen to.old) (λ image.
-      OfBefore from (λ before. AlwaysLeft to (MayMigrate image (volume1 before))))
+  -- At each moment a stop leaves on the new disk no state, the migrated one, or, whatever was pending there, what the blocks after
+  -- the gate spelled in an image that a stop might have left before.
+  pub moments : OfBefore from (λ before. AlwaysLeft to (FromLeft to.facts to.old (λ image. MayMigrate image (volume1 before))))
   -- At the end the migrated state stands, also if its line could not be printed; no call was made on the new disk if none was told.
   pub stands : HasPut result ⊎ (result ≡ status.Sink) →
       OfBefore from (λ before. StandsAfter to.facts (volume1 before) to.old to.new)
