@@ -6,7 +6,7 @@ use Rattle.std.proofs.lemmas.Bool.{cases_lt}
 use Rattle.std.proofs.lemmas.List.{ext_get_or, get_or-set_other, get_or-set_same, get_or-take, get_or_past, length-set, length-take-le}
 use Rattle.mg_disk.specs.Disk.{HasBlocks, Image, InRange, SameBut, SeenBut, TornAt, block_at, only_place}
 use Rattle.mg_disk.specs.PlaceLemmas.{same_after}
-use Rattle.mg_disk.specs.Runs.{leaves_then, leaves_wider, nothing_none, nothing_then, time_then, time_wider, torn_once}
+use Rattle.mg_disk.specs.Runs.{from_then, from_wider, nothing_none, nothing_then, time_then, time_wider, torn_once}
 use Rattle.mg_disk.specs.Stops.{CountGoes, CountRose, FromLeft, Leaves, MightHaveLeft, NothingPending, TimeGoes}
 use Rattle.mg_disk.specs.declared.disk.Disk.{Ghosts}
 use Rattle.mg_faults.specs.Faults.{count_none, count_then, then_rose}
@@ -191,24 +191,18 @@ module _ {E : Type 0} (e : Ghosts E) (n : ℕ) (x : Image) (to : E) where
   IsCopying = FromLeft e to (λ image. MayCopy n image x)
 
   pub first_phase : (new : E) → Leaves e to new (TornAt (only_place 0) (MightHaveLeft e to)) → Leaves e to new IsCopying
-  first_phase new leaves = leaves_wider e to new (TornAt (only_place 0) (MightHaveLeft e to)) IsCopying leaves (λ c torn. (torn.0, torn.1, inl (same_cut n (only_place 0) torn.0 c torn.2)))
-
-  -- writes after it: what a stop may leave of their images comes from the same one as these
-  next_phase : (mid new : E) (places : ℕ → Type 0) → ((a d c : Image) → MightHaveLeft e mid d → SameBut places d c → MayCopy n a x c)
-      → Leaves e to mid IsCopying → Leaves e mid new (TornAt places (MightHaveLeft e mid)) → Leaves e to new IsCopying
-  next_phase mid new places may so_far run = leaves_then e to mid new (TornAt places (MightHaveLeft e mid)) IsCopying so_far run sub
-    where
-      sub : (c : Image) → TornAt places (MightHaveLeft e mid) c → IsCopying c
-      sub c torn =
-          ⊎_elim {C = IsCopying c} (λ before. (torn.0, before, may torn.0 torn.0 c torn.1 torn.2)) (λ from. (from.0, from.1, may from.0 torn.0 c torn.1 torn.2)) (so_far.time.now torn.0 torn.1)
+  first_phase new run = from_wider e to new (SameBut (only_place 0)) (λ image. MayCopy n image x) run (λ a c same. inl (same_cut n (only_place 0) a c same))
 
   pub second_phase : (mid new : E) → NothingPending e mid → ForSome (e.seen mid) (λ s. first_byte s ≡ 0)
       → Leaves e to mid IsCopying → Leaves e mid new (TornAt (λ k. 1 ≤ k) (MightHaveLeft e mid)) → Leaves e to new IsCopying
-  second_phase mid new settled closed = next_phase mid new (λ k. 1 ≤ k) (λ a d c left same. inr (inl (still_closed d c (closed d (settled d left)) same)))
+  second_phase mid new settled closed so_far run =
+      from_then e to mid new (SameBut (λ k. 1 ≤ k)) (λ image. MayCopy n image x) so_far run (λ d left a c same. inr (inl (still_closed d c (closed d (settled d left)) same)))
 
   pub third_phase : (mid new : E) → NothingPending e mid → n ≤ length x → ForSome (e.seen mid) (λ s. n ≤ length s) → ForSome (e.seen mid) (AreFrom 1 n x)
       → Leaves e to mid IsCopying → Leaves e mid new (TornAt (only_place 0) (MightHaveLeft e mid)) → Leaves e to new IsCopying
-  third_phase mid new settled long long' copied = next_phase mid new (only_place 0) (λ a d c left same. inr (inr (but_first n x d c long (long' d (settled d left)) (copied d (settled d left)) same)))
+  third_phase mid new settled long long' copied so_far run =
+      from_then e to mid new (SameBut (only_place 0)) (λ image. MayCopy n image x) so_far run
+      (λ d left a c same. inr (inr (but_first n x d c long (long' d (settled d left)) (copied d (settled d left)) same)))
 
 -- a copy of a disk that was read before
 module _ {D E F : Type 0} (d : Ghosts D) (e : Ghosts E) (n : ℕ) (from mid from' : D) (to to' : E) where
