@@ -1,7 +1,7 @@
 -- What opening a mirror from the disk on one side gives.
 use Rattle.std.specs.Prelude.{◌≡◌, ◌≢◌, ◌&&◌, min, Some, Result, IfOk, IfErr}
 use Rattle.mg_disk.specs.Disk.{Image}
-use Rattle.mg_disk.specs.Stops.{NothingPending, WritesNothing, CountRose}
+use Rattle.mg_disk.specs.Stops.{WritesNothing, CountRose}
 use Rattle.mg_disk.specs.declared.disk.Disk.{Ghosts}
 use Rattle.mg_mirror.specs.Copy.{LeavesCopy}
 use Rattle.mg_mirror.specs.Mirror.{CutOf, told_cut}
@@ -17,9 +17,6 @@ pub record Opens {D E K : Type 0} (d : Ghosts D) (e : Ghosts E) (k : counts.Ghos
   -- Its reads are told exactly if those of both disks are, whether or not stops are: they give the first blocks of that disk.
   pub left_reads : from ≡ Left → IfOk result (λ m. facts.seen m ≡ told_cut (facts.block_count m) (d.seen left) (e.seen right))
   pub right_reads : from ≡ Right → IfOk result (λ m. facts.seen m ≡ told_cut (facts.block_count m) (e.seen right) (d.seen left))
-  -- If nothing was pending on that disk, nothing is on the mirror.
-  pub left_settled : from ≡ Left → IfOk result (λ m. NothingPending d left → NothingPending facts m)
-  pub right_settled : from ≡ Right → IfOk result (λ m. NothingPending e right → NothingPending facts m)
   -- A stop now leaves of the mirror one of the images that it might have left of that disk, cut to the mirror's blocks.
   pub left_found : from ≡ Left → IfOk result (λ m. (c : Image) → facts.left_since m (facts.moment m) c → CutOf (facts.block_count m) (d.left_since left (d.moment left)) c)
   pub right_found : from ≡ Right → IfOk result (λ m. (c : Image) → facts.left_since m (facts.moment m) c → CutOf (facts.block_count m) (e.left_since right (e.moment right)) c)

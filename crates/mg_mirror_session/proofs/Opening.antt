@@ -2,8 +2,8 @@
 use Rattle.std.specs.Prelude.{ℕ, ◌≡◌, ◌≢◌, ◌&&◌, Bool, true, false, IsTrue, min, take, option_map, Option, Some, None, IsSomeAnd}
 use Rattle.std.proofs.Common.{refl, sym, subst, ◌∙◌, ap, ⊎_elim}
 use Rattle.mg_disk.specs.Disk.{Image}
-use Rattle.mg_disk.specs.Runs.{nothing_none, nothing_then, still_seen}
-use Rattle.mg_disk.specs.Stops.{CountGoes, MightHaveLeft, NothingPending, WritesNothing}
+use Rattle.mg_disk.specs.Runs.{nothing_none, nothing_then}
+use Rattle.mg_disk.specs.Stops.{CountGoes, MightHaveLeft, WritesNothing}
 use Rattle.mg_disk.specs.declared.disk.Disk as disks
 use Rattle.mg_faults.specs.Faults.{count_none}
 use Rattle.mg_mirror.specs.Mirror.{CutOf, told_cut}
@@ -25,10 +25,6 @@ pub of_side : (from : Side) (P Q : Type 0) → (from ≡ Left → P) → (from �
 of_side Left P Q p q = p refl
 of_side Right P Q p q = q refl
 
-from_side : (from : Side) (P Q R : Type 0) → (from ≡ Left → P → R) → (from ≡ Right → Q → R) → OfSide from P Q → R
-from_side Left P Q R p q h = p refl h
-from_side Right P Q R p q h = q refl h
-
 -- where both are told, the first blocks of the one are
 both_told : (n : ℕ) (o p : Option Image) (P Q : Image → Type 0) → IsSomeAnd o P → IsSomeAnd p Q → told_cut n o p ≡ option_map (take n) o
 both_told n (Some x) (Some y) P Q o p = refl
@@ -39,19 +35,17 @@ module _ {D E : Type 0} (d : disks.Ghosts D) (e : disks.Ghosts E) (left_stays : 
     (right_stays : (disk : E) → IsTrue (e.tells_stops disk) → IsSomeAnd (e.seen disk) (e.left_since disk (e.moment disk))) where
   pub opened_from : (from : Side) (left : D) (right : E) (opened : Two D E)
       → (from ≡ Left → (mirror d e).seen opened ≡ told_cut opened.blocks (d.seen left) (e.seen right)) → (from ≡ Right → (mirror d e).seen opened ≡ told_cut opened.blocks (e.seen right) (d.seen left))
-      → (from ≡ Left → NothingPending d left → NothingPending (mirror d e) opened) → (from ≡ Right → NothingPending e right → NothingPending (mirror d e) opened)
       → (from ≡ Left → (c : Image) → MightHaveLeft (mirror d e) opened c → CutOf opened.blocks (MightHaveLeft d left) c) → (from ≡ Right → (c : Image) → MightHaveLeft (mirror d e) opened c → CutOf opened.blocks (MightHaveLeft e right) c)
       → opened.blocks ≡ min (d.block_count left) (e.block_count right) → (from ≡ Left → opened.alone ≢ Some Right) → (from ≡ Right → opened.alone ≢ Some Left)
       → (from ≡ Left → WritesNothing d left opened.left) → (from ≡ Right → WritesNothing e right opened.right)
       → (from ≡ Left → CopyHolds e opened.blocks (d.seen left) right opened.right) → (from ≡ Right → CopyHolds d opened.blocks (e.seen right) left opened.left) → IsOpenedFrom d e from left right opened
-  opened_from from left right opened left_reads right_reads left_settled right_settled left_found right_found blocks left_serves right_serves left_kept right_kept right_copied left_copied = record {
+  opened_from from left right opened left_reads right_reads left_found right_found blocks left_serves right_serves left_kept right_kept right_copied left_copied = record {
     blocks = blocks;
     told = of_side from _ _ left_reads right_reads;
     reads = reads from left_reads right_reads;
     serves = of_side from _ _ left_serves right_serves;
     kept = of_side from _ _ left_kept right_kept;
     copied = of_side from _ _ right_copied left_copied;
-    settled = from_side from _ _ _ left_settled right_settled;
     found = of_side from _ _ left_found right_found;
   }
     where
@@ -88,7 +82,6 @@ module _ {D E : Type 0} (d : disks.Ghosts D) (e : disks.Ghosts E) (left left' : 
     serves = opens.serves;
     kept = kept from opens.kept;
     copied = copied from opens.copied;
-    settled = settled from opens.settled;
     found = found from opens.found;
   }
     where
@@ -105,10 +98,6 @@ module _ {D E : Type 0} (d : disks.Ghosts D) (e : disks.Ghosts E) (left left' : 
       kept : (from : Side) → OfSide from (WritesNothing d left' opened.left) (WritesNothing e right' opened.right) → OfSide from (WritesNothing d left opened.left) (WritesNothing e right opened.right)
       kept Left h = nothing_then d left left' opened.left on_left.writes h
       kept Right h = nothing_then e right right' opened.right on_right.writes h
-
-      settled : (from : Side) → (OfSide from (NothingPending d left') (NothingPending e right') → NothingPending (mirror d e) opened) → OfSide from (NothingPending d left) (NothingPending e right) → NothingPending (mirror d e) opened
-      settled Left h pending = h (still_seen d left left' pending on_left.writes.same on_left.writes.stops)
-      settled Right h pending = h (still_seen e right right' pending on_right.writes.same on_right.writes.stops)
 
       -- what a disk that was read may leave it might have left before
       before : {X : Type 0} (x : disks.Ghosts X) (old new : X) → WritesNothing x old new → (c : Image) → CutOf opened.blocks (MightHaveLeft x new) c → CutOf opened.blocks (MightHaveLeft x old) c

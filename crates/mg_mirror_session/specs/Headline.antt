@@ -2,7 +2,7 @@
 use Rattle.std.specs.Prelude.{ℕ, ◌≡◌, ◌≢◌, ◌⊎◌, IsTrue, List, [], ◌∷◌, ◌++◌, codes, min, take, option_map, Option, Some, None}
 use Rattle.std.specs.Option.{ForSome}
 use Rattle.mg_disk.specs.Disk.{Image}
-use Rattle.mg_disk.specs.Stops.{FromLeft, Leaves, MightHaveLeft, NothingPending, WritesNothing}
+use Rattle.mg_disk.specs.Stops.{FromLeft, Leaves, MightHaveLeft, WritesNothing}
 use Rattle.mg_disk.specs.declared.disk.Disk as disks
 use Rattle.mg_io.specs.declared.traits.Sink as sinks
 use Rattle.mg_layout.specs.MayFormat.{IsNoState, opened}
@@ -68,8 +68,6 @@ pub record IsOpenedFrom {D E : Type 0} (d : disks.Ghosts D) (e : disks.Ghosts E)
   -- To the other one it was copied.
   pub copied : OfSide from (CopyHolds e opened.blocks (d.seen left) right opened.right)
       (CopyHolds d opened.blocks (e.seen right) left opened.left)
-  -- Where nothing was pending on it, nothing is on the mirror: a stop leaves what reads give.
-  pub settled : OfSide from (NothingPending d left) (NothingPending e right) → NothingPending (mirror d e) opened
   -- A stop now leaves of the mirror one of the images that it might have left of that disk, cut to its blocks.
   pub found : OfSide from ((c : Image) → MightHaveLeft (mirror d e) opened c → CutOf opened.blocks (MightHaveLeft d left) c)
       ((c : Image) → MightHaveLeft (mirror d e) opened c → CutOf opened.blocks (MightHaveLeft e right) c)

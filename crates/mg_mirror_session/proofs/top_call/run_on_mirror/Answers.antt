@@ -57,7 +57,7 @@ returns g c =
     (opened_since d e c.args.left read.left c.args.right read.right
     (read_left d e c.args.left read.left c.args.right read.right read.first (Ok None) left_been right_been c.args.from judged) (read_right d e c.args.left read.left c.args.right read.right read.first (Ok None) left_been right_been c.args.from judged)
     c.args.from opened left_been right_been
-    (opened_from d e g.met.D.Disk.seen_may_stay g.met.E.Disk.seen_may_stay c.args.from read.left read.right opened opens.left_reads opens.right_reads opens.left_settled opens.right_settled opens.left_found opens.right_found
+    (opened_from d e g.met.D.Disk.seen_may_stay g.met.E.Disk.seen_may_stay c.args.from read.left read.right opened opens.left_reads opens.right_reads opens.left_found opens.right_found
     opens.blocks opens.left_serves opens.right_serves opens.left_kept opens.right_kept
     (λ is. right_copied d e c.args.from c.args.left read.left c.args.right read.right read.first None left_count right_count room judged opened.blocks opened.right refl left_been right_been opens.blocks is (opens.right_copy is))
     (λ is. left_copied d e c.args.from c.args.left read.left c.args.right read.right read.first None left_count right_count room judged opened.blocks opened.left refl left_been right_been opens.blocks is (opens.left_copy is))))

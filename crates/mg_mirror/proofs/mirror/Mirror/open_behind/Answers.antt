@@ -14,8 +14,6 @@ returns-in-Err g c =
       opens = record {
         left_reads = search rules;
         right_reads = search rules;
-        left_settled = search rules;
-        right_settled = search rules;
         left_found = λ is. tt;
         right_found = λ is. tt;
         no_faults = search rules;
@@ -46,8 +44,6 @@ returns g c =
       opens = record {
         left_reads = λ is. let steps = (told.left is).calls.steps in search rules;
         right_reads = λ is. let steps = (told.right is).calls.steps in search rules;
-        left_settled = λ is. let steps = (told.left is).calls.steps in search rules;
-        right_settled = λ is. let steps = (told.right is).calls.steps in search rules;
         left_found = λ is.
             let steps = (told.left is).calls.steps in
             found_left _ _ _ _ _ _ _ (d.seen c.args.left) (e.seen c.copy_side.new.right)
