@@ -279,26 +279,43 @@ fn pair_after<'a>(alloc: Global, dropped: Dropped, line: &'a str, kill: u64) -> 
     }
 }
 
+// The number of changes of the opening of a pair that stops after `stop` calls, if what a stop then leaves holds what it must.
+fn changes_at(
+    alloc: Global,
+    bench: &mut Bench,
+    volume: &MemDisk,
+    pair: &Pair<'_>,
+    stop: u64,
+    tried: u64,
+) -> Option<u64> {
+    match opened_after(alloc, volume, pair.line, pair.kill, stop) {
+        Some(dropped) => changes_if_held(alloc, bench, &dropped, changes_of(&pair.first), tried),
+        None => None,
+    }
+}
+
 // The first number of calls of the opening, from all of them down, after which a stop leaves something else. Those that only read
 // before its first change leave what the kill left, which is tried once.
 fn wrong_stop(alloc: Global, bench: &mut Bench, volume: &MemDisk, pair: &Pair<'_>) -> Option<u64> {
-    let changes_before = changes_of(&pair.first);
     let all = calls_of(&pair.both).saturating_sub(calls_of(&pair.first));
     let mut tried = u64::MAX;
     for back in 0..=all {
         let stop = all.saturating_sub(back);
-        match opened_after(alloc, volume, pair.line, pair.kill, stop) {
-            Some(dropped) => {
-                match changes_if_held(alloc, bench, &dropped, changes_before, tried) {
-                    Some(0) => return None,
-                    Some(changes) => tried = changes,
-                    None => return Some(stop),
-                }
-            }
+        match changes_at(alloc, bench, volume, pair, stop, tried) {
+            Some(0) => return None,
+            Some(changes) => tried = changes,
             None => return Some(stop),
         }
     }
     None
+}
+
+// The number of calls of a run that is not killed.
+fn calls_of_run(alloc: Global, volume: &MemDisk, line: &str) -> Option<u64> {
+    match killed(alloc, volume, line, u64::MAX) {
+        Some(dropped) => Some(calls_of(&dropped.disk.counts())),
+        None => None,
+    }
 }
 
 // The numbers of calls of a run and of the opening after it for which that is so, from all calls of the run down to those of its own
@@ -309,28 +326,23 @@ fn wrong_kill(
     volume: &MemDisk,
     line: &str,
 ) -> Option<(u64, u64)> {
-    let all = match killed(alloc, volume, line, u64::MAX) {
-        Some(dropped) => calls_of(&dropped.disk.counts()),
-        None => return Some((u64::MAX, 0)),
-    };
+    let all = calls_of_run(alloc, volume, line).unwrap_or(0);
     let mut tried = u64::MAX;
     for back in 0..=all {
         let kill = all.saturating_sub(back);
-        match pair_of(alloc, volume, line, kill) {
-            Some(pair) => {
-                let changes = changes_of(&pair.first);
-                if changes != tried {
-                    if let Some(stop) = wrong_stop(alloc, bench, volume, &pair) {
-                        return Some((kill, stop));
-                    }
-                }
-                if changes == 0 {
-                    return None;
-                }
-                tried = changes;
+        let Some(pair) = pair_of(alloc, volume, line, kill) else {
+            return Some((kill, 0));
+        };
+        let changes = changes_of(&pair.first);
+        if changes != tried {
+            if let Some(stop) = wrong_stop(alloc, bench, volume, &pair) {
+                return Some((kill, stop));
             }
-            None => return Some((kill, 0)),
         }
+        if changes == 0 {
+            return None;
+        }
+        tried = changes;
     }
     None
 }

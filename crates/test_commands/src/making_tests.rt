@@ -278,9 +278,16 @@ fn wrong_pending(alloc: Global, older: &MemDisk, made: u64, params: &Params) -> 
 }
 
 fn wrong_pending_over(alloc: Global, older: &MemDisk) -> Option<(u64, u64)> {
-    match (calls_of_run(alloc, older), usual()) {
-        (Some(made), Some(params)) => wrong_pending(alloc, older, made, &params),
-        _ => Some((0, 0)),
+    match calls_of_run(alloc, older) {
+        Some(made) => wrong_pending_of(alloc, older, made),
+        None => Some((0, 0)),
+    }
+}
+
+fn wrong_pending_of(alloc: Global, older: &MemDisk, made: u64) -> Option<(u64, u64)> {
+    match usual() {
+        Some(params) => wrong_pending(alloc, older, made, &params),
+        None => Some((0, 0)),
     }
 }
 

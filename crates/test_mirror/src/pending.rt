@@ -1,5 +1,5 @@
 // Mirrors of two disks whose runs were killed: what these wrote since their last sync is pending as the mirror copies one to the other.
-use crate::disks::{BLOCKS, Disks, Setup, VOLUME, ZEROS};
+use crate::disks::{BLOCKS, Disks, Setup, VOLUME, ZEROS, calls_to_make};
 use crate::runs::{Case, Expected, Run, ran, run_over};
 use mg_disk::{Fuse, Left, MemDisk};
 use mg_mirror::Side;
@@ -41,9 +41,16 @@ fn left_of(disks: Disks) -> MemDisk {
 
 /// The number of calls that this run makes after its volume was made.
 fn calls_of_run(alloc: Global, input: &'static str) -> Option<u64> {
-    match (stored(alloc, input, u64::MAX), stored(alloc, input, 0)) {
-        (Some(ran), Some(made)) => Some(calls_of(&ran).saturating_sub(calls_of(&made))),
-        _ => None,
+    match stored(alloc, input, u64::MAX) {
+        Some(disk) => calls_after_making(alloc, calls_of(&disk)),
+        None => None,
+    }
+}
+
+fn calls_after_making(alloc: Global, all: u64) -> Option<u64> {
+    match calls_to_make(alloc) {
+        Some(made) => Some(all.saturating_sub(made)),
+        None => None,
     }
 }
 
@@ -165,19 +172,23 @@ const ROWS: &[(u64, u64, Stops)] = &[
 
 /// Whether a row is right, on disks whose runs were killed before their last call, the sync of a gate.
 fn is_right(alloc: Global, calls: u64, row: &(u64, u64, Stops)) -> bool {
-    match (
-        stored(alloc, "1 store 0x100000020 5\n", calls),
-        stored(alloc, "1 store 0x100000020 6\n", calls),
-    ) {
-        (Some(left), Some(right)) => is_right_over(
+    match stored(alloc, "1 store 0x100000020 5\n", calls) {
+        Some(left) => is_right_from(alloc, calls, row, Fuse::new(left, row.0)),
+        None => false,
+    }
+}
+
+fn is_right_from(alloc: Global, calls: u64, row: &(u64, u64, Stops), left: Fuse<MemDisk>) -> bool {
+    match stored(alloc, "1 store 0x100000020 6\n", calls) {
+        Some(right) => is_right_over(
             alloc,
             Disks {
-                left: Fuse::new(left, row.0),
+                left,
                 right: Fuse::new(right, row.1),
             },
             row.2,
         ),
-        _ => false,
+        None => false,
     }
 }
 
