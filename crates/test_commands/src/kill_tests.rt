@@ -318,6 +318,22 @@ fn calls_of_run(alloc: Global, volume: &MemDisk, line: &str) -> Option<u64> {
     }
 }
 
+// Which kills are tried: all, or those with an odd or an even number of changes, so that a long test can be made two.
+#[derive(Clone, Copy)]
+enum Kills {
+    All,
+    Odd,
+    Even,
+}
+
+fn is_tried(kills: Kills, changes: u64) -> bool {
+    match kills {
+        Kills::All => true,
+        Kills::Odd => changes % 2 == 1,
+        Kills::Even => changes % 2 == 0,
+    }
+}
+
 // The numbers of calls of a run and of the opening after it for which that is so, from all calls of the run down to those of its own
 // opening, which only reads a volume with nothing pending.
 fn wrong_kill(
@@ -325,6 +341,7 @@ fn wrong_kill(
     bench: &mut Bench,
     volume: &MemDisk,
     line: &str,
+    kills: Kills,
 ) -> Option<(u64, u64)> {
     let all = calls_of_run(alloc, volume, line).unwrap_or(0);
     let mut tried = u64::MAX;
@@ -334,7 +351,7 @@ fn wrong_kill(
             return Some((kill, 0));
         };
         let changes = changes_of(&pair.first);
-        if changes != tried {
+        if changes != tried && is_tried(kills, changes) {
             if let Some(stop) = wrong_stop(alloc, bench, volume, &pair) {
                 return Some((kill, stop));
             }
@@ -350,38 +367,61 @@ fn wrong_kill(
 // How many images were opened, and where one was wrong.
 type Found = (u64, Option<(u64, u64)>);
 
-fn found_on(alloc: Global, volume: &MemDisk, line: &str) -> Option<Found> {
+fn found_on(alloc: Global, volume: &MemDisk, line: &str, kills: Kills) -> Option<Found> {
     match ScratchDisk::new(alloc, BLOCKS) {
         Ok(scratch) => {
             let mut bench = Bench { scratch, opened: 0 };
-            let wrong = wrong_kill(alloc, &mut bench, volume, line);
+            let wrong = wrong_kill(alloc, &mut bench, volume, line, kills);
             Some((bench.opened, wrong))
         }
         Err(_) => None,
     }
 }
 
-fn found(alloc: Global, line: &str) -> Option<Found> {
+fn found(alloc: Global, line: &str, kills: Kills) -> Option<Found> {
     match fresh(alloc) {
-        Ok(volume) => found_on(alloc, &volume, line),
+        Ok(volume) => found_on(alloc, &volume, line, kills),
         Err(_) => None,
     }
 }
 
 #[test]
-fn lines_alone_and_the_next_run(rt: HostRuntime) {
-    assert_eq!(rt; found(rt.alloc(), "vol run 1"), Some((469, None)));
+fn lines_alone_with_odd_kills(rt: HostRuntime) {
+    assert_eq!(rt;
+        found(rt.alloc(), "vol run 1", Kills::Odd),
+        Some((257, None))
+    );
 }
 
 #[test]
-fn lines_in_pairs_and_the_next_run(rt: HostRuntime) {
-    assert_eq!(rt; found(rt.alloc(), "vol run 2"), Some((318, None)));
+fn lines_alone_with_even_kills(rt: HostRuntime) {
+    assert_eq!(rt;
+        found(rt.alloc(), "vol run 1", Kills::Even),
+        Some((0, None))
+    );
 }
 
-// The three lines are one batch.
+#[test]
+fn lines_in_pairs_with_odd_kills(rt: HostRuntime) {
+    assert_eq!(rt;
+        found(rt.alloc(), "vol run 2", Kills::Odd),
+        Some((175, None))
+    );
+}
+
+#[test]
+fn lines_in_pairs_with_even_kills(rt: HostRuntime) {
+    assert_eq!(rt;
+        found(rt.alloc(), "vol run 2", Kills::Even),
+        Some((0, None))
+    );
+}
+
+// The three lines are one batch. With 64 a run makes the same calls as with 8, so half of its kills are tried.
 #[test]
 fn lines_in_one_batch_and_the_next_run(rt: HostRuntime) {
     let alloc = rt.alloc();
-    let both = (found(alloc, "vol run 8"), found(alloc, "vol run 64"));
-    assert_eq!(rt; both, (Some((123, None)), Some((123, None))));
+    let eight = found(alloc, "vol run 8", Kills::All);
+    let most = found(alloc, "vol run 64", Kills::Odd);
+    assert_eq!(rt; (eight, most), (Some((123, None)), Some((63, None))));
 }
