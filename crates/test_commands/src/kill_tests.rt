@@ -397,7 +397,7 @@ fn lines_alone_with_odd_kills(rt: HostRuntime) {
 fn lines_alone_with_even_kills(rt: HostRuntime) {
     assert_eq!(rt;
         found(rt.alloc(), "vol run 1", Kills::Even),
-        Some((0, None))
+        Some((212, None))
     );
 }
 
@@ -413,7 +413,7 @@ fn lines_in_pairs_with_odd_kills(rt: HostRuntime) {
 fn lines_in_pairs_with_even_kills(rt: HostRuntime) {
     assert_eq!(rt;
         found(rt.alloc(), "vol run 2", Kills::Even),
-        Some((0, None))
+        Some((143, None))
     );
 }
 
