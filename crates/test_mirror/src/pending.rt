@@ -145,29 +145,29 @@ fn is_run(alloc: Global, disks: Disks, run: &Run) -> bool {
 }
 
 /// What stops leave: as of the last sync, as written, and with all destroyed that was written since.
-type Stops = [Content; 3];
+type Stops = (Content, Content, Content);
 
 fn all_leave(alloc: Global, disk: &MemDisk, stops: Stops) -> bool {
-    leaves(alloc, disk, Left::Old, stops[0])
-        && leaves(alloc, disk, Left::New, stops[1])
-        && leaves(alloc, disk, Left::Gates, stops[2])
+    leaves(alloc, disk, Left::Old, stops.0)
+        && leaves(alloc, disk, Left::New, stops.1)
+        && leaves(alloc, disk, Left::Gates, stops.2)
 }
 
 /// The gate of the line was written and not synced.
-const PENDING: Stops = [Word(0), Word(5), Word(5)];
+const PENDING: Stops = (Word(0), Word(5), Word(5));
 
 /// The calls of both disks before they die, and what stops then leave of the right one. The left one dies among the reads of the opening,
 /// which come after the copy if that is made, or among those of the copy. So stops leave of it what they might have left before. Block 0
 /// of the right disk is closed and synced first, and written and synced last.
 const ROWS: &[(u64, u64, Stops)] = &[
-    (1000, 0, [Word(0), Word(6), Word(6)]),
-    (1000, 1, [Word(0), Nothing, Word(6)]),
-    (1000, 2, [Nothing; 3]),
-    (1000, 3, [Nothing; 3]),
-    (1000, u64::MAX, [Nothing; 3]),
-    (BLOCKS + 40, BLOCKS + 2, [Nothing; 3]),
-    (BLOCKS + 40, BLOCKS + 3, [Nothing, Word(5), Word(5)]),
-    (BLOCKS + 40, BLOCKS + 4, [Word(5); 3]),
+    (1000, 0, (Word(0), Word(6), Word(6))),
+    (1000, 1, (Word(0), Nothing, Word(6))),
+    (1000, 2, (Nothing, Nothing, Nothing)),
+    (1000, 3, (Nothing, Nothing, Nothing)),
+    (1000, u64::MAX, (Nothing, Nothing, Nothing)),
+    (BLOCKS + 40, BLOCKS + 2, (Nothing, Nothing, Nothing)),
+    (BLOCKS + 40, BLOCKS + 3, (Nothing, Word(5), Word(5))),
+    (BLOCKS + 40, BLOCKS + 4, (Word(5), Word(5), Word(5))),
 ];
 
 /// Whether a row is right, on disks whose runs were killed before their last call, the sync of a gate.
