@@ -165,13 +165,21 @@ fn is_run(alloc: Global, fuse: &mut Fuse<MemDisk>, line: &str) -> bool {
 
 fn is_run_of(alloc: Global, fuse: &mut Fuse<MemDisk>, source: &mut MemSource) -> bool {
     match MemSink::new(alloc, 65536, Vec::new(alloc)) {
-        Ok(mut sink) => {
-            let blank = Blank::new(1);
-            let _ = plain::<_, _, _, Brand>(alloc, fuse, source, &mut sink, blank);
-            true
-        }
+        Ok(mut sink) => has_run(alloc, fuse, source, &mut sink),
         Err(_) => false,
     }
+}
+
+/// Whether the run got to the disk: it ends well, or the disk fails.
+fn has_run(
+    alloc: Global,
+    fuse: &mut Fuse<MemDisk>,
+    source: &mut MemSource,
+    sink: &mut MemSink,
+) -> bool {
+    let blank = Blank::new(1);
+    let status = plain::<_, _, _, Brand>(alloc, fuse, source, sink, blank);
+    status == Status::Done || status == Status::Disk
 }
 
 fn count_on(alloc: Global, disk: &mut MemDisk, runs: &[Run]) -> usize {
