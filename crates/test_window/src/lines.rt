@@ -1,5 +1,5 @@
 // Lines that reach devices, and lines that do not.
-use crate::runs::{Alone, Left, Run, are_expected, count_expected, is_expected_after_kill};
+use crate::runs::{Alone, Left, Run, are_expected, count_expected};
 use mg_session::Status;
 use std::test::Fail;
 
@@ -50,30 +50,6 @@ const NO_STORE: Alone = Alone {
     input: "1 load 0x100001008\n",
     printed: "ok 0x0000000000000000\n",
 };
-
-/// The word that the killed run stored is there, in the run with a device and in what stops leave after it.
-const AFTER_KILL: Run = Run {
-    input: &["1 load 0x100000040\n", TWO_PAGES, "1 store 0x100001008 9\n"],
-    printed: &[
-        "ok 0x0000000000000005\n",
-        MADE,
-        "ok\n",
-        "dev 0x0000000100001000 1 1\n",
-    ],
-    tapes: LATCH_LEFT,
-    ..LATCHED
-};
-
-const KEPT: Alone = Alone {
-    input: "1 load 0x100000040\n1 load 0x100001008\n",
-    printed: "ok 0x0000000000000005\nok 0x0000000000000000\n",
-};
-
-#[test]
-fn a_run_with_a_device_after_a_kill(rt: HostRuntime) -> Result<(), Fail> {
-    assert!(rt; is_expected_after_kill(rt.alloc(), "1 store 0x100000040 5\n", &AFTER_KILL, &KEPT));
-    Ok(())
-}
 
 #[test]
 fn a_latch_takes_stores_in_place_of_words(rt: HostRuntime) -> Result<(), Fail> {

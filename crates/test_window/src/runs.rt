@@ -1,7 +1,7 @@
 // Runs with device windows on a disk in memory, from their words to their outcome.
 ghost use Rattle.std.specs.Prelude.{◌≡◌, ◌<◌};
 
-use mg_disk::{Disk, Fuse, Left as Stop, MemDisk};
+use mg_disk::{Disk, MemDisk};
 use mg_io::{MemSink, MemSource, Sink, Source};
 use mg_layout::format as make_volume;
 use mg_model::{Params, Steps, Tariff};
@@ -95,91 +95,6 @@ pub fn are_expected(alloc: Global, run: &Run, alone: &Alone) -> bool {
         }
         None => false,
     }
-}
-
-/// Whether this run has its outcome on the disk of a run of `first`, which was killed before its last call, the sync of a gate; and
-/// whether stops then leave what the run without devices prints.
-pub fn is_expected_after_kill(alloc: Global, first: &str, run: &Run, alone: &Alone) -> bool {
-    match killed(alloc, first) {
-        Some(mut disk) => is_expected(alloc, run, &mut disk)
-            && stops_are_alone(alloc, &disk, alone),
-        None => false,
-    }
-}
-
-fn stops_are_alone(alloc: Global, disk: &MemDisk, alone: &Alone) -> bool {
-    is_alone_after(alloc, disk, Stop::Old, alone)
-        && is_alone_after(alloc, disk, Stop::New, alone)
-        && is_alone_after(alloc, disk, Stop::Gates, alone)
-}
-
-fn is_alone_after(alloc: Global, disk: &MemDisk, left: Stop, alone: &Alone) -> bool {
-    match disk.stopped(alloc, left) {
-        Ok(mut image) => is_expected_alone(alloc, alone, &mut image),
-        Err(_) => false,
-    }
-}
-
-/// The disk of a run of this line without devices on a fresh volume, killed before its last call.
-fn killed(alloc: Global, line: &str) -> Option<MemDisk> {
-    match (fresh(alloc), cut(alloc, line, u64::MAX)) {
-        (Some(before), Some(after)) => {
-            let calls = calls_of(&after).saturating_sub(calls_of(&before));
-            cut(alloc, line, calls.saturating_sub(1))
-        }
-        _ => None,
-    }
-}
-
-fn calls_of(disk: &MemDisk) -> u64 {
-    let counts = disk.counts();
-    counts
-        .reads
-        .saturating_add(counts.writes)
-        .saturating_add(counts.syncs)
-}
-
-/// The disk of such a run that dies after so many calls.
-fn cut(alloc: Global, line: &str, calls: u64) -> Option<MemDisk> {
-    match fresh(alloc) {
-        Some(disk) => cut_on(alloc, Fuse::new(disk, calls), line),
-        None => None,
-    }
-}
-
-fn cut_on(alloc: Global, fuse: Fuse<MemDisk>, line: &str) -> Option<MemDisk> {
-    let mut fuse = fuse;
-    if is_run(alloc, &mut fuse, line) {
-        Some(fuse.into_inner())
-    } else {
-        None
-    }
-}
-
-fn is_run(alloc: Global, fuse: &mut Fuse<MemDisk>, line: &str) -> bool {
-    match source_of(alloc, &[line]) {
-        Some(mut source) => is_run_of(alloc, fuse, &mut source),
-        None => false,
-    }
-}
-
-fn is_run_of(alloc: Global, fuse: &mut Fuse<MemDisk>, source: &mut MemSource) -> bool {
-    match MemSink::new(alloc, 65536, Vec::new(alloc)) {
-        Ok(mut sink) => has_run(alloc, fuse, source, &mut sink),
-        Err(_) => false,
-    }
-}
-
-/// Whether the run got to the disk: it ends well, or the disk fails.
-fn has_run(
-    alloc: Global,
-    fuse: &mut Fuse<MemDisk>,
-    source: &mut MemSource,
-    sink: &mut MemSink,
-) -> bool {
-    let blank = Blank::new(1);
-    let status = plain::<_, _, _, Brand>(alloc, fuse, source, sink, blank);
-    status == Status::Done || status == Status::Disk
 }
 
 fn count_on(alloc: Global, disk: &mut MemDisk, runs: &[Run]) -> usize {
