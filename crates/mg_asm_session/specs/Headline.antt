@@ -1,5 +1,5 @@
 -- What the program promises. An object that does not tell its content has None for it, and a promise on content is then empty.
-use Rattle.std.specs.Prelude.{ℕ, ◌^◌, ◌≡◌, ◌≢◌, ◌⊎◌, List, Option, Result, Ok, Err}
+use Rattle.std.specs.Prelude.{ℕ, ◌+◌, ◌^◌, ◌≡◌, ◌≢◌, ◌⊎◌, List, Option, Result, Ok, Err}
 use Rattle.std.specs.Io.KnownBytes.{Appends}
 use Rattle.mg_asm.specs.Assembled.{assembled}
 use Rattle.mg_asm.specs.Listed.{listed}
@@ -66,5 +66,7 @@ pub record Keeps {S O E : Type 0} (from : sources.Ghosts S) (to : sinks.Ghosts O
   -- The text is too long exactly if more was taken than it may have.
   pub too_long : result ≡ status.TooLong → TakesMore text_limit (from.left source) (from.left source')
   pub within : result ≢ status.TooLong → TakesAtMost text_limit (from.left source) (from.left source')
+  -- At each status no more is taken than that, and a piece of 4,096 bytes.
+  pub bounded : TakesAtMost (text_limit + 4096) (from.left source) (from.left source')
   -- Words that spell a command are no `usage`.
   pub spelled : result ≢ status.Usage

@@ -1,2 +1,3 @@
--- What a program did.
+-- What a program did, and the words of its command line.
 pub mod Programs
+pub mod Words

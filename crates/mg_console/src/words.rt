@@ -1,4 +1,8 @@
 // The words of the command line.
+ghost use Rattle.std.specs.Prelude.{◌≡◌};
+ghost use Rattle.mg_console.specs.Words.{word_at};
+ghost use Rattle.mg_io.specs.Arguments.{arguments};
+
 use crate::endings::report_error;
 use mg_io::standard_numbers;
 use std::io::Eprint;
@@ -41,7 +45,9 @@ pub fn begin<R: Env + AllocGlobal + Files + Eprint>(
 }
 
 /// The word at this place. Empty if there is none.
-pub fn word(words: &[String], place: usize) -> &str {
+pub fn word(words: &[String], place: usize) -> &str
+    ensures at { result.now ≡ word_at (arguments words.now) place }
+{
     match words.get(place) {
         Some(word) => word.as_str(),
         None => "",

@@ -1,5 +1,5 @@
 -- What the program promises. An object that does not tell its content has None for it, and a promise on content is then empty.
-use Rattle.std.specs.Prelude.{ℕ, ◌^◌, ◌≡◌, ◌≢◌, ◌⊎◌, List, [], ◌++◌, Option, IfSome, Result, Ok, Err}
+use Rattle.std.specs.Prelude.{ℕ, ◌+◌, ◌^◌, ◌≡◌, ◌≢◌, ◌⊎◌, List, [], ◌++◌, Option, IfSome, Result, Ok, Err}
 use Rattle.std.specs.Io.KnownBytes.{Appends}
 use Rattle.mg_document.specs.declared.faults.ReplyFault.{ReplyFault}
 use Rattle.mg_document.specs.Asked.{get_calls, get_text, put_calls, put_text}
@@ -87,6 +87,8 @@ pub record Keeps {S O E : Type 0} (from : sources.Ghosts S) (to : sinks.Ghosts O
   -- The input is too long exactly if more was taken than it may have.
   pub too_long : result ≡ status.TooLong → TakesMore (limit_of command) (from.left source) (from.left source')
   pub within : result ≢ status.TooLong → TakesAtMost (limit_of command) (from.left source) (from.left source')
+  -- At each status no more is taken than that, and a piece of 4,096 bytes.
+  pub bounded : TakesAtMost (limit_of command + 4096) (from.left source) (from.left source')
   -- `get` leaves the source alone.
   pub alone : LeavesSource command source source'
   -- Words that spell a command are no `usage`.

@@ -1,5 +1,5 @@
 // What a command makes of its input.
-ghost use Rattle.std.specs.Prelude.{◌≡◌, ◌≢◌, Err, IfErr, IfOk, Ok};
+ghost use Rattle.std.specs.Prelude.{◌≡◌, ◌≢◌, ◌+◌, Err, IfErr, IfOk, Ok};
 ghost use Rattle.mg_document.specs.declared.faults.ReplyFault.TheVariants as fault;
 ghost use Rattle.mg_io.specs.Known.{TakesAtMost};
 ghost use Rattle.mg_filter.specs.Whole.{TakesMore};
@@ -27,6 +27,7 @@ pub(crate) fn take_input<S: Source>(
     ensures whole { IfOk result (λ text. OfInput command (S.left source.old) (S.left source.new) (λ input. text.items ≡ input)) }
     ensures within { result ≢ Err Unread.TooLong → TakesAtMost (limit_of command) (S.left source.old) (S.left source.new) }
     ensures too_long { result ≡ Err Unread.TooLong → TakesMore (limit_of command) (S.left source.old) (S.left source.new) }
+    ensures bounded { TakesAtMost (limit_of command + 4096) (S.left source.old) (S.left source.new) }
     ensures source { result ≡ Err Unread.Source → Rose (S.faults source.old) (S.faults source.new) (S.is_spent source.new) }
     ensures alone { LeavesSource command source.old source.new }
 {

@@ -1,5 +1,5 @@
 -- What is taken of a source. A source that does not tell its content has None for it.
-use Rattle.std.specs.Prelude.{ℕ, ◌+◌, ◌<◌, ◌≤◌, ◌≡◌, List, [], length, Option, Some, IfSome, IsSomeAnd}
+use Rattle.std.specs.Prelude.{ℕ, ◌+◌, ◌<◌, ◌≡◌, List, [], length, Option, Some, IfSome, IsSomeAnd}
 
 -- the source was read to its end, and this holds of what it had
 abbrev pub OfWhole : Option (List ℕ) → Option (List ℕ) → (List ℕ → Type 0) → Type 0

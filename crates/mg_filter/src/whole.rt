@@ -1,5 +1,5 @@
 // Reading a source whole.
-ghost use Rattle.std.specs.Prelude.{◌≡◌, ◌≢◌, Err, IfOk};
+ghost use Rattle.std.specs.Prelude.{◌≡◌, ◌≢◌, ◌+◌, Err, IfOk};
 ghost use Rattle.mg_io.specs.Known.{TakesAtMost};
 ghost use Rattle.mg_filter.specs.Whole.{OfWhole, TakesMore};
 ghost use Rattle.mg_faults.specs.Faults.{Rose};
@@ -18,12 +18,13 @@ pub enum Unread {
     TooLong,
 }
 
-/// All that a source has left, at most `limit` bytes. Memory comes only if an allocation failed. Before `TooLong` at most `limit` bytes
-/// and a piece of 4,096 were taken.
+/// All that a source has left, at most `limit` bytes. Memory comes only if an allocation failed. Whatever the result is,
+/// at most `limit` bytes and a piece of 4,096 were taken.
 pub fn read_whole<S: Source>(alloc: Global, limit: usize, source: &mut S) -> Result<Vec<u8>, Unread>
     ensures whole { IfOk result (λ text. OfWhole (S.left source.old) (S.left source.new) (λ input. text.items ≡ input)) }
     ensures within { result ≢ Err Unread.TooLong → TakesAtMost limit (S.left source.old) (S.left source.new) }
     ensures too_long { result ≡ Err Unread.TooLong → TakesMore limit (S.left source.old) (S.left source.new) }
+    ensures bounded { TakesAtMost (limit + 4096) (S.left source.old) (S.left source.new) }
     ensures source { result ≡ Err Unread.Source → Rose (S.faults source.old) (S.faults source.new) (S.is_spent source.new) }
 {
     let mut text = Vec::new(alloc);

@@ -3,7 +3,8 @@ use Rattle.std.specs.Io.KnownBytes.{Consumes}
 use Rattle.mg_faults.specs.Faults.{CountGoesOn}
 use Rattle.mg_filter.proofs.whole.read_whole.Given as goal
 
--- what was read so far
+-- The text is what was read so far, and within the limit.
+-- The piece keeps its length, and the count of faults goes on.
 abbrev pub invariant-pieces : goal.invariant-pieces
 invariant-pieces g l = record {
   read : Consumes (g.S.Source.left l.initial.source) (g.S.Source.left l.source) l.text.items;
