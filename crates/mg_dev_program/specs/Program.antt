@@ -25,13 +25,13 @@ pub record OverMirror {D E S K : Type 0} (words : List (String Global)) (result 
     (left : DiskUse D) (right : DiskUse E) (i : SourceUse S) (o : SinkUse K) (steps steps' : ℕ) : Type 0 where
   pub mirror : IfSome (mirror_of (arguments words)) (λ side. MirrorKeeps (session_over side result alone left right i o steps steps'))
   pub usage : mirror_of (arguments words) ≡ None →
-      NoMirrorKeeps o.facts result alone left.old left.new right.old right.new i.old i.new o.old o.new
+      NoMirrorKeeps o.facts result alone left.old left.new right.old right.new i.old i.new o.old o.new steps steps'
 
 -- What was done with these devices where it is not.
 pub record RanDevices {D S K : Type 0} (words : List (String Global)) (windows windows' : Attached) (s : Session D S K) : Type 0 where
   pub dev : IsTrue (asks_for (arguments words) windows) → DevKeeps windows windows' s
   pub usage : asks_for (arguments words) windows ≡ false → NoDevKeeps s.sink.facts s.result windows windows'
-      s.disk.old s.disk.new s.source.old s.source.new s.sink.old s.sink.new
+      s.disk.old s.disk.new s.source.old s.source.new s.sink.old s.sink.new s.steps s.steps'
 
 -- What the program did, with this status at the end: `left` is the disk in the file of the first word, and `right` the one in the file of
 -- the third. With devices the first is read before the lines run, to tell of bases without an object.

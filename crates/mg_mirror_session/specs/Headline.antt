@@ -225,8 +225,10 @@ pub record MirrorKeeps {D E S K : Type 0} (m : MirrorSession D E S K) : Type 0 w
   -- The sink failed only where its count rose.
   pub sink_failed : m.result ≡ status.Sink → SinkRose m.sink
 
--- What is kept where the words are no such: both disks and the source are left alone, and no side is told.
+-- What is kept where the words are no such: both disks and the source are left alone, no side is told, and the counter
+-- of words does not rise.
 pub record NoMirrorKeeps {D E S K : Type 0} (to : sinks.Ghosts K) (result : Status) (alone : Option Side)
-    (left left' : D) (right right' : E) (source source' : S) (sink sink' : K) : Type 0 where
+    (left left' : D) (right right' : E) (source source' : S) (sink sink' : K) (steps steps' : ℕ) : Type 0 where
   pub usage : UsageKeeps {D = D × E} to result (left, right) (left', right') source source' sink sink'
   pub none : alone ≡ None
+  pub steps_alone : steps' ≡ steps

@@ -32,7 +32,8 @@ use std::sync::ledger::Ledger;
 /// batch, as `VOLUME run` does. A side whose write or sync fails is dropped, and the other one stands alone from then on. Once all
 /// lines are answered the line `alone left` or `alone right` is put, exactly where a side stands alone.
 ///
-/// Other words get the line `usage` and [`Status::Usage`]; the disks and the source are then left alone.
+/// Other words get the line `usage` and [`Status::Usage`]; the disks and the source are then left alone. `steps`
+/// does not rise.
 ///
 /// [`Status::Disk`] comes with nothing put, no write made on SIDE's disk and no side told where that disk failed while the mirror
 /// was opened. Else it comes only where both disks failed. The other statuses are those of `VOLUME run`, of the mirror; and
@@ -55,7 +56,7 @@ pub fn top_mirror<D: Disk, E: Disk, S: Source, K: Sink, L: Ledger>(
         (use_of D.Disk left result.2) (use_of E.Disk right result.3) (use_of S.Source source.old source.new)
         (use_of K.Sink sink.old sink.new) steps.old steps.new)) }
     ensures usage { mirror_of (arguments words.now) ≡ None → NoMirrorKeeps K.Sink result.0 result.1
-        left result.2 right result.3 source.old source.new sink.old sink.new }
+        left result.2 right result.3 source.old source.new sink.old sink.new steps.old steps.new }
 {
     match read_words(words) {
         Some(from) => {

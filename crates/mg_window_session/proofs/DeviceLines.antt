@@ -75,5 +75,7 @@ not_begun facts from to windows d source sink steps been = dev_keeps facts from 
       none_devices = λ h. refl;
       untouched_devices = λ image seen no_state. refl;
       memory_devices = λ h. refl;
+      none_steps = λ h. refl;
+      untouched_steps = λ image seen no_state. refl;
     }
     record { done = λ h. absurd (cc); early = λ h. (refl, refl) } (count_none (to.faults sink) (to.is_spent sink)) (count_none (to.faults sink) (to.is_spent sink))

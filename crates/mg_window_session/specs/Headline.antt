@@ -78,6 +78,9 @@ pub record DevicesKeep {D S K : Type 0} (windows windows' : Attached) (s : Sessi
   pub none_devices : s.result ≡ status.NoVolume → windows' ≡ windows
   pub untouched_devices : OfNoState s.disk (windows' ≡ windows)
   pub memory_devices : s.result ≡ status.Memory → windows' ≡ windows
+  -- If there is no volume the counter of words does not rise.
+  pub none_steps : s.result ≡ status.NoVolume → s.steps' ≡ s.steps
+  pub untouched_steps : OfNoState s.disk (s.steps' ≡ s.steps)
 
 -- What `VOLUME dev KIND:BASE ..` keeps, when the devices that were handed in are those that the words name.
 pub record DevKeeps {D S K : Type 0} (windows windows' : Attached) (s : Session D S K) : Type 0 where
@@ -100,8 +103,10 @@ pub record DevKeeps {D S K : Type 0} (windows windows' : Attached) (s : Session 
   pub complete : OfState s.disk (λ _. (DiskRose s.disk → ⊥) → (SourceRose s.source → ⊥) → (SinkRose s.sink → ⊥)
       → IfShort s.source (IsDoneOrMemory s.result))
 
--- What is kept if the words are no such words, or name other devices: the disk, the source and the devices are left alone.
+-- What is kept if the words are no such words, or name other devices: the disk, the source and the devices are left
+-- alone, and the counter of words does not rise.
 pub record NoDevKeeps {D S K : Type 0} (to : sinks.Ghosts K) (result : Status) (windows windows' : Attached)
-    (disk disk' : D) (source source' : S) (sink sink' : K) : Type 0 where
+    (disk disk' : D) (source source' : S) (sink sink' : K) (steps steps' : ℕ) : Type 0 where
   pub usage : UsageKeeps to result disk disk' source source' sink sink'
   pub devices : windows' ≡ windows
+  pub steps_alone : steps' ≡ steps

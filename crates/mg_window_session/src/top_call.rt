@@ -29,7 +29,7 @@ use std::sync::ledger::Ledger;
 /// are left.
 ///
 /// Other words, and other devices than those that the words name, get the line `usage` and [`Status::Usage`]; the disk, the
-/// source and the devices are then left alone.
+/// source and the devices are then left alone. `steps` does not rise then, nor if the disk holds no volume.
 ///
 /// [`Status::Usage`], [`Status::NoVolume`] and [`Status::Memory`] leave the devices as they were, and so does every status when
 /// the disk holds no volume. After [`Status::Done`],
@@ -62,7 +62,7 @@ pub fn top_dev<D: Disk, S: Source, K: Sink, L: Ledger>(
         (use_of S.Source source.old source.new) (use_of K.Sink sink.old sink.new) steps.old steps.new) }
     ensures usage { asks_for (arguments words.now) (seen ⟦<Box<dyn Device> as Device>⟧.held windows.old) ≡ false → NoDevKeeps K.Sink result
         (seen ⟦<Box<dyn Device> as Device>⟧.held windows.old) (seen ⟦<Box<dyn Device> as Device>⟧.held windows.new)
-        disk.old disk.new source.old source.new sink.old sink.new }
+        disk.old disk.new source.old source.new sink.old sink.new steps.old steps.new }
 {
     top_dev_of(alloc, words, disk, source, sink, windows, steps)
 }
@@ -81,7 +81,7 @@ pub fn top_dev_of<T: Device, D: Disk, S: Source, K: Sink, L: Ledger>(
         (seen T.held windows.old) (seen T.held windows.new) (session_of 1 result (use_of D.Disk disk.old disk.new)
         (use_of S.Source source.old source.new) (use_of K.Sink sink.old sink.new) steps.old steps.new) }
     ensures usage { asks_for (arguments words.now) (seen T.held windows.old) ≡ false → NoDevKeeps K.Sink result
-        (seen T.held windows.old) (seen T.held windows.new) disk.old disk.new source.old source.new sink.old sink.new }
+        (seen T.held windows.old) (seen T.held windows.new) disk.old disk.new source.old source.new sink.old sink.new steps.old steps.new }
 {
     if ask_for(words, windows) {
         run_and_tell(alloc, windows, disk, source, sink, steps)

@@ -25,6 +25,8 @@ returns-in-Ok-clause-keeps g c = record {
   none_devices = λ h. absurd (no_volume c.run-status.result c.run-status.ensures.serves.which h);
   untouched_devices = λ image told no_state. absurd (subst IsNoState (c.in-Ok.ensures.opens image told).is no_state);
   memory_devices = λ h. c.into_windows.ensures ∙ ap (λ (k : DeviceKernel _). windows_in g.T.Device.held k) (c.run-status.ensures.memory h ∙ c.new-machine.ensures);
+  none_steps = λ h. absurd (no_volume c.run-status.result c.run-status.ensures.serves.which h);
+  untouched_steps = λ image told no_state. absurd (subst IsNoState (c.in-Ok.ensures.opens image told).is no_state);
 }
 
 pub returns-in-Err-clause-keeps : goal.returns-in-Err-clause-keeps
@@ -39,4 +41,6 @@ returns-in-Err-clause-keeps g c = record {
   none_devices = λ h. refl;
   untouched_devices = λ image told no_state. refl;
   memory_devices = λ h. refl;
+  none_steps = λ h. refl;
+  untouched_steps = λ image told no_state. refl;
 }
