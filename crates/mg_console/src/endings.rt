@@ -38,10 +38,19 @@ impl<'a> fmt::Display for Cause<'a> {
             f.write_str(ONLY_A_PART)
         } else if kind == ErrorKind::NotSeekable {
             f.write_str("a pipe or a terminal can hold no volume")
+        } else if is_of_opening(kind) {
+            write!(f, "{}", self.fault.error)
         } else {
             write!(f, "{}", self.fault)
         }
     }
+}
+
+/// Whether an error of this kind comes of opening a file, and so belongs to no block of it.
+fn is_of_opening(kind: ErrorKind) -> bool {
+    kind == ErrorKind::IsADirectory
+        || kind == ErrorKind::PermissionDenied
+        || kind == ErrorKind::NotFound
 }
 
 /// Says why a call of a file failed, if one did.

@@ -7,7 +7,7 @@ use crate::files::disk_in;
 use crate::notes::{Notes, Task};
 use crate::shown::InFile;
 use crate::statuses::report_status;
-use crate::volumes::report_volume;
+use crate::volumes::{report_unmigrated, report_volume};
 use crate::words::word;
 use mg_disk::Disk;
 use mg_file::{FileDisk, Found, OneHolder};
@@ -62,6 +62,9 @@ pub fn report_end<R: AllocGlobal + Eprint, D: Disk + InFile, E: InFile>(
         report_fault(rt, MUNGI, word(words, 0), disk.fault());
         report_fault(rt, MUNGI, word(words, 2), old.fault());
     }
+    if copies && status == Status::NoVolume {
+        report_unmigrated(rt, MUNGI, word(words, 2), old.found());
+    }
     let found = disk.found();
     report_file(rt, words, copies, disk, found, status == Status::NoVolume);
     if status == Status::Usage {
@@ -70,7 +73,8 @@ pub fn report_end<R: AllocGlobal + Eprint, D: Disk + InFile, E: InFile>(
     report_status(rt, MUNGI, status, read, written);
 }
 
-/// Says what only the file of a volume shows. It says nothing for `format`, which makes the volume, and for a copy.
+/// Says what only the file of a volume shows. It says nothing for `format`, which makes the volume, and for a copy, whose volume is in
+/// another file.
 fn report_file<R: AllocGlobal + Eprint, D: Disk>(
     rt: &R,
     words: &[String],

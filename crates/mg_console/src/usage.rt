@@ -24,7 +24,7 @@ pub fn is_told<R: Eprint>(
 ) -> bool {
     match read_number(word.as_bytes()) {
         None => {
-            let _ = eprintln!(rt; "{program}: {name} is no number: {word}");
+            report_no_number(rt, program, name, word);
             true
         }
         Some(number) if number < least || number > most => {
@@ -41,7 +41,7 @@ pub fn is_told<R: Eprint>(
 pub fn is_address_told<R: Eprint>(rt: &R, program: &str, word: &str) -> bool {
     match read_number(word.as_bytes()) {
         None => {
-            let _ = eprintln!(rt; "{program}: ADDRESS is no number: {word}");
+            report_no_number(rt, program, "ADDRESS", word);
             true
         }
         Some(address) if address % 8 != 0 || address >= ADDRESS_END => {
@@ -51,5 +51,27 @@ pub fn is_address_told<R: Eprint>(rt: &R, program: &str, word: &str) -> bool {
             true
         }
         Some(_) => false,
+    }
+}
+
+/// Says that a word is no number, or that it is one of more than 64 bits or more than 20 digits.
+fn report_no_number<R: Eprint>(rt: &R, program: &str, name: &str, word: &str) {
+    if has_digits_alone(word) {
+        let most = u64::MAX;
+        let _ = eprintln!(rt;
+            "{program}: {name} is too large: {word}; a number is at most {most}, and has at most 20 digits, or 16 after 0x"
+        );
+    } else {
+        let _ = eprintln!(rt; "{program}: {name} is no number: {word}");
+    }
+}
+
+/// Whether a word is digits alone, or `0x` and hexadecimal digits alone.
+fn has_digits_alone(word: &str) -> bool {
+    match word.as_bytes() {
+        [] => false,
+        [b'0', b'x'] => false,
+        [b'0', b'x', digits @ ..] => digits.iter().all(|digit| digit.is_ascii_hexdigit()),
+        digits => digits.iter().all(|digit| digit.is_ascii_digit()),
     }
 }

@@ -11,8 +11,8 @@ use mg_model::Params;
 use std::io::Eprint;
 
 /// Says what only the file of a volume shows, one fact a line: that it was missing, or that it was shorter than its volume when it was
-/// opened. If the command refused the volume (`is_refused`), also that it is of an older version, which `migrate` takes, or what is
-/// damaged. `found` is what the file was when it was opened, if it was. The disk is only read.
+/// opened. If the command refused the volume (`is_refused`), also why: the file is empty or no volume, the volume is of an older
+/// version, which `migrate` takes, or what is damaged. `found` is what the file was when it was opened, if it was. The disk is only read.
 pub fn report_volume<R: AllocGlobal + Eprint, D: Disk>(
     rt: &R,
     program: &str,
@@ -27,13 +27,24 @@ pub fn report_volume<R: AllocGlobal + Eprint, D: Disk>(
         Some(found) => found,
         None => {
             if is_refused {
-                report_of(rt, program, path, "there is no such file");
+                report_missing(rt, program, path);
             }
             return;
         }
     };
     match super_of(disk) {
-        Super::Not => report_made(rt, program, path, found),
+        Super::Not => {
+            if found.is_new {
+                report_of(
+                    rt,
+                    program,
+                    path,
+                    "there was no such file; an empty one was made",
+                );
+            } else if is_refused {
+                report_none(rt, program, path, found);
+            }
+        }
         Super::Old => {
             if is_refused {
                 report_old(rt, program, path);
@@ -53,15 +64,46 @@ pub fn report_volume<R: AllocGlobal + Eprint, D: Disk>(
     }
 }
 
-/// Says that a file was made, if it was.
-fn report_made<R: Eprint>(rt: &R, program: &str, path: &str, found: Found) {
-    if found.is_new {
+/// Says that there is no file.
+fn report_missing<R: Eprint>(rt: &R, program: &str, path: &str) {
+    report_of(rt, program, path, "there is no such file");
+}
+
+/// Says why a file that was there is no volume.
+fn report_none<R: Eprint>(rt: &R, program: &str, path: &str, found: Found) {
+    if found.bytes == Some(0) {
+        report_of(rt, program, path, "the file is empty");
+    } else {
         report_of(
             rt,
             program,
             path,
-            "there was no such file; an empty one was made",
+            "it is no volume, or one that was not made to its end: its first two blocks are not those of a volume",
         );
+    }
+}
+
+/// Says why the file OLD of `migrate` was refused. `found` is what it was when it was opened, if it was.
+pub(crate) fn report_unmigrated<R: Eprint>(
+    rt: &R,
+    program: &str,
+    path: &str,
+    found: Option<Found>,
+) {
+    match found {
+        None => report_missing(rt, program, path),
+        Some(found) => {
+            if found.bytes == Some(0) {
+                report_of(rt, program, path, "the file is empty");
+            } else {
+                report_of(
+                    rt,
+                    program,
+                    path,
+                    "it is no sound volume of version 1: open not means no volume, open new a later version, open damaged a broken one",
+                );
+            }
+        }
     }
 }
 
