@@ -3,8 +3,8 @@
 
     python3 clients/python/examples/letters.py VOLUME
 
-Makes the volume in the file VOLUME, which must not be there yet. The program is the one that the environment variable MUNGI names, or else
-the client's own choice. It prints
+Makes the volume in the file VOLUME, which must not be there yet. The program is the one that the environment variable
+MUNGI names, or else the client's own choice. It prints
 
     Come at nine.
     Come at ten.
@@ -14,8 +14,8 @@ the client's own choice. It prints
 import sys
 from pathlib import Path
 
-sys.path.insert(0, str(Path(__file__).resolve().parents[1]))
-import mungi
+sys.path.insert(0, str(Path(__file__).resolve().parents[1] / "src"))
+import mungi  # noqa: E402
 
 
 def main(volume):
@@ -25,8 +25,8 @@ def main(volume):
         letter = root.create()
         letter.put(b"Come at nine.\n")
 
-        # The reader is a thread with a list of its own, and begins at a page of zeros. The second word of the list says which object is
-        # the letter.
+        # The reader is a thread with a list of its own, and begins at a page of zeros. The second word of the list says
+        # which object is the letter.
         start, shared = root.create(), root.create_list()
         shared.add(start.grant("X"))
         shared.add(shared.grant("R"))
@@ -56,8 +56,12 @@ def main(volume):
 
 
 if __name__ == "__main__":
-    if len(sys.argv) != 2:
-        sys.exit("usage: letters.py VOLUME")
+    if {"-h", "--help"} & set(sys.argv[1:]):
+        print(__doc__.strip())
+        sys.exit(0)
+    if len(sys.argv) != 2 or sys.argv[1].startswith("-"):
+        print("usage: letters.py VOLUME; --help says more", file=sys.stderr)
+        sys.exit(2)
     try:
         main(sys.argv[1])
     except (OSError, mungi.Ended) as error:

@@ -3,8 +3,8 @@
 
     python3 clients/python/examples/mailbox.py [VOLUME]
 
-Makes the volume in the file VOLUME, which must not be there yet, or in a temporary folder. The program is the one that the environment
-variable MUNGI names, or else the client's own choice. It prints
+Makes the volume in the file VOLUME, which must not be there yet, or in a temporary folder. The program is the one that
+the environment variable MUNGI names, or else the client's own choice. It prints
 
     before the door, a letter: Denied
     inside the door, a letter: put
@@ -18,8 +18,8 @@ import sys
 import tempfile
 from pathlib import Path
 
-sys.path.insert(0, str(Path(__file__).resolve().parents[1]))
-import mungi
+sys.path.insert(0, str(Path(__file__).resolve().parents[1] / "src"))
+import mungi  # noqa: E402
 
 
 def tried(call, *words):
@@ -43,7 +43,8 @@ def main(volume):
         door.extend(inside.grant("R"))
         entrance = door.entry(0)
 
-        # The sender's list names the door by a password that only lets in, and a page of zeros, where its thread begins.
+        # The sender's list names the door by a password that only lets in, and a page of zeros, where its thread
+        # begins.
         start, senders = root.create(), root.create_list()
         way_in = door.grant("P")
         senders.add(start.grant("X"))
@@ -62,8 +63,12 @@ def main(volume):
 
 
 if __name__ == "__main__":
-    if len(sys.argv) > 2:
-        sys.exit("usage: mailbox.py [VOLUME]")
+    if {"-h", "--help"} & set(sys.argv[1:]):
+        print(__doc__.strip())
+        sys.exit(0)
+    if len(sys.argv) > 2 or sys.argv[1:] and sys.argv[1].startswith("-"):
+        print("usage: mailbox.py [VOLUME]; --help says more", file=sys.stderr)
+        sys.exit(2)
     with tempfile.TemporaryDirectory() as folder:
         volume = sys.argv[1] if len(sys.argv) > 1 else Path(folder) / "volume"
         try:

@@ -3,8 +3,8 @@
 
     python3 clients/python/examples/shared_documents.py [VOLUME]
 
-Makes the volume in the file VOLUME, which must not be there yet, or in a temporary folder. The program is the one that the environment
-variable MUNGI names, or else the client's own choice. It prints
+Makes the volume in the file VOLUME, which must not be there yet, or in a temporary folder. The program is the one that
+the environment variable MUNGI names, or else the client's own choice. It prints
 
     the reader reads: The meeting is at nine.
     the reader writes: Denied
@@ -19,8 +19,8 @@ import sys
 import tempfile
 from pathlib import Path
 
-sys.path.insert(0, str(Path(__file__).resolve().parents[1]))
-import mungi
+sys.path.insert(0, str(Path(__file__).resolve().parents[1] / "src"))
+import mungi  # noqa: E402
 
 
 def tried(call, *words):
@@ -62,8 +62,12 @@ def main(volume):
 
 
 if __name__ == "__main__":
-    if len(sys.argv) > 2:
-        sys.exit("usage: shared_documents.py [VOLUME]")
+    if {"-h", "--help"} & set(sys.argv[1:]):
+        print(__doc__.strip())
+        sys.exit(0)
+    if len(sys.argv) > 2 or sys.argv[1:] and sys.argv[1].startswith("-"):
+        print("usage: shared_documents.py [VOLUME]; --help says more", file=sys.stderr)
+        sys.exit(2)
     with tempfile.TemporaryDirectory() as folder:
         volume = sys.argv[1] if len(sys.argv) > 1 else Path(folder) / "volume"
         try:

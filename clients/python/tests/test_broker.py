@@ -1,20 +1,23 @@
-"""Tests of the broker on real volumes in a temporary folder: python3 -m unittest, in this folder.
+"""Tests of the broker on real volumes in a temporary folder: python3 -m unittest, in the folder above.
 
-The program is found as test_mungi.py finds it; where there is none, only what needs no program is tested. Tests with several users need
-root, who connects as others. scripts/broker_trial.py tries more, for longer.
+The program is found as support.py finds it; where there is none, only what needs no program is tested. Tests with several users need
+root, who connects as others. trials/broker_trial.py tries more, for longer.
 """
 
 import contextlib
+import fcntl
 import io
 import os
 import random
 import re
 import select
+import shutil
 import signal
 import socket
 import stat
 import subprocess
 import sys
+import tempfile
 import threading
 import time
 import unittest
@@ -23,9 +26,9 @@ import zipfile
 from pathlib import Path
 
 import mungi
-import mungi_broker
-import test_mungi
-from test_mungi import HERE, PATIENCE, PROGRAM, OnVolumes
+from mungi import broker as mungi_broker
+from tests import test_calls, test_objects, test_pages
+from tests.support import HERE, PATIENCE, PROGRAM, SOURCES, TOP, OnVolumes
 
 IS_ROOT = os.geteuid() == 0
 # Numbers of users that need no name.
@@ -229,14 +232,14 @@ def being(user, group=None, groups=()):
 class Running:
     """A broker that runs, in a process of its own."""
 
-    def __init__(self, folder, volume, users, *more, program=PROGRAM, name="socket"):
+    def __init__(self, folder, volume, users, *more, program=PROGRAM, name="socket", starter=(), **kinds):
         self.path = folder / name
         self.users = folder / f"users-{name}"
         self.users.write_text(users)
         self.log = folder / f"log-{name}"
-        command = [sys.executable, "-m", "mungi_broker", str(volume), str(self.path), str(self.users), "--program", str(program), *more]
+        command = [*starter, sys.executable, "-m", "mungi.broker", str(volume), str(self.path), str(self.users), "--program", str(program), *more]
         with open(self.log, "wb") as log:
-            self.process = subprocess.Popen(command, cwd=HERE, stdin=subprocess.DEVNULL, stderr=log)
+            self.process = subprocess.Popen(command, cwd=SOURCES, stdin=subprocess.DEVNULL, stderr=log, **kinds)
 
     def log_text(self):
         return self.log.read_text()
@@ -275,8 +278,12 @@ class Peer:
     def __init__(self, path, user=None, **more):
         self.socket = socket.socket(socket.AF_UNIX)
         self.socket.settimeout(PATIENCE)
-        with being(os.geteuid() if user is None else user, **more):
-            self.socket.connect(str(path))
+        try:
+            with being(os.geteuid() if user is None else user, **more):
+                self.socket.connect(str(path))
+        except BaseException:
+            self.socket.close()
+            raise
         self.rest = b""
 
     def send(self, data):
@@ -433,13 +440,20 @@ class Sharing(OnBroker):
             ((self.volume, free, self.folder / "none"), "No such file"),
             ((there, free, users), "open not"),
         ):
-            command = [sys.executable, "-m", "mungi_broker", *map(str, words), "--program", PROGRAM]
-            done = subprocess.run(command, cwd=HERE, capture_output=True, text=True, timeout=PATIENCE, check=False)
+            command = [sys.executable, "-m", "mungi.broker", *map(str, words), "--program", PROGRAM]
+            done = subprocess.run(command, cwd=SOURCES, capture_output=True, text=True, timeout=PATIENCE, check=False)
             self.assertEqual(done.returncode, 2 if said == "open not" else 1, done.stderr)
             self.assertIn(said, done.stderr)
-        command = [sys.executable, "-m", "mungi_broker", str(self.volume), str(free), str(users), "--program", str(self.folder / "none")]
-        done = subprocess.run(command, cwd=HERE, capture_output=True, text=True, timeout=PATIENCE, check=False)
+        command = [sys.executable, "-m", "mungi.broker", str(self.volume), str(free), str(users), "--program", str(self.folder / "none")]
+        done = subprocess.run(command, cwd=SOURCES, capture_output=True, text=True, timeout=PATIENCE, check=False)
         self.assertEqual((done.returncode, done.stderr.count("\n")), (3, 1), done.stderr)
+        for words in (("--nonsense",), (str(self.volume),), (str(self.volume), str(free), str(users), "--openings", "0")):
+            command = [sys.executable, "-m", "mungi.broker", *words]
+            done = subprocess.run(command, cwd=SOURCES, capture_output=True, text=True, timeout=PATIENCE, check=False)
+            self.assertEqual((done.returncode, done.stdout), (1, ""), done.stderr)
+        with self.assertRaises(FileNotFoundError) as caught:
+            mungi.connect(free)
+        self.assertEqual(caught.exception.filename, str(free))
         self.assertEqual((there.read_text(), link.is_symlink(), free.exists()), ("mine", True, False))
         self.assertEqual(self.peer(running).ask("2 load 8"), ["no Denied"])
 
@@ -485,9 +499,9 @@ class Ending(OnBroker):
         timer = threading.Timer(0.3, lambda: os.kill(running.program(), signal.SIGKILL))
         timer.start()
         with self.assertRaises(mungi.Ended) as caught:
-            with machine.batch(4096):
+            with machine.batch(4096) as batch:
                 for number in range(200):
-                    thread.store(own, number)
+                    batch.thread(2).store(own, number)
         timer.join()
         ended = caught.exception
         self.assertEqual((ended.status, ended.some_may_be_kept), (-9, True))
@@ -534,11 +548,10 @@ class Ending(OnBroker):
         running = self.run_broker(self.me([2]), "--openings", "60")
         os.rename(self.volume, self.folder / "away")
         os.kill(running.program(), signal.SIGKILL)
-        running.wait("status 2")
+        running.wait("there is no volume")
         peer = self.peer(running)
         peer.send(b"2 load 8\n")
         self.assertEqual(peer.reply(), "ended 2 0")
-        # The program made an empty file.
         os.replace(self.folder / "away", self.volume)
         deadline = time.monotonic() + PATIENCE
         reply = ""
@@ -594,9 +607,9 @@ class Ending(OnBroker):
         for number in range(500):
             thread.store(self.own[2], number)
             self.assertEqual(thread.load(self.own[2]), number)
-        with machine.batch(4096):
+        with machine.batch(4096) as batch:
             for number in range(4000):
-                thread.store(self.own[2] + 8 * (number % 512), number)
+                batch.thread(2).store(self.own[2] + 8 * (number % 512), number)
         self.assertEqual(machine.close(), 0)
         self.assertNotEqual(running.program(), first)
         self.assertEqual(running.stop(), 0)
@@ -743,18 +756,487 @@ class Pressing(OnBroker):
             self.assertTrue(meaning(line) == "bad" or meaning(line)[0] == 2 or re.fullmatch(rb"[0-9]+ apdlist", line), line)
 
 
+# What stands in for the program where the machine does not matter. It holds the file, answers 64 lines at once, and
+# keeps one word. `check` says that the file is a volume of 16 frames. While there is a file VOLUME.wait it opens nothing.
+STAND_IN = r"""
+import fcntl, os, sys, time
+volume, word = sys.argv[1:3]
+if word == "check":
+    file = os.open(volume, os.O_RDONLY)
+    try:
+        fcntl.flock(file, fcntl.LOCK_SH | fcntl.LOCK_NB)
+    except OSError:
+        sys.exit(4)
+    print("ok 16 1 1 1 1 0 5")
+    sys.exit(0)
+if word != "run":
+    sys.exit(0)
+while os.path.exists(volume + ".wait"):
+    time.sleep(0.01)
+file = os.open(volume, os.O_RDWR)
+try:
+    fcntl.flock(file, fcntl.LOCK_EX | fcntl.LOCK_NB)
+except OSError:
+    sys.exit(4)
+def answer(line):
+    words = line.split()
+    if words[1:2] == [b"store"]:
+        os.pwrite(file, b"%020d" % int(words[3]), 0)
+        return b"ok\n"
+    if words[1:2] == [b"load"]:
+        return b"ok 0x%016x\n" % int(os.pread(file, 20, 0).strip(b"\0") or b"0")
+    return b"no Syntax\n"
+replies = []
+for line in sys.stdin.buffer:
+    replies.append(answer(line))
+    if len(replies) == 64:
+        sys.stdout.buffer.write(b"".join(replies))
+        sys.stdout.buffer.flush()
+        replies.clear()
+sys.stdout.buffer.write(b"".join(replies))
+"""
+STAND_IN_BYTES = 4096 * (2595 + 1 + 16)
+SCRIPTS = TOP / "scripts"
+
+
+def patiently(test, what):
+    """Waits until a test gives something."""
+    deadline = time.monotonic() + PATIENCE
+    while not (found := test()):
+        if time.monotonic() > deadline:
+            raise AssertionError(f"{what} did not happen")
+        time.sleep(0.01)
+    return found
+
+
+class Serving(unittest.TestCase):
+    """The broker as a service of systemd, where a program that stands in for `mungi` is enough."""
+
+    def setUp(self):
+        folder = tempfile.TemporaryDirectory(prefix="mungi-test-")
+        self.addCleanup(folder.cleanup)
+        self.folder = Path(folder.name)
+        self.program = self.script("program", f"#!{sys.executable}\n{STAND_IN}")
+        self.volume = self.folder / "volume"
+        self.volume.touch()
+        os.truncate(self.volume, STAND_IN_BYTES)
+        self.count = 0
+
+    def script(self, name, text):
+        path = self.folder / name
+        path.write_text(text)
+        path.chmod(0o700)
+        return path
+
+    def begin(self, *more, path="socket", **kinds):
+        self.count += 1
+        users = f"[user.{os.geteuid()}]\nthreads = [2]\n"
+        kinds.setdefault("program", self.program)
+        running = Running(self.folder, self.volume, users, *more, name=path, **kinds)
+        self.addCleanup(running.process.wait)
+        self.addCleanup(running.process.kill)
+        return running
+
+    def listener(self, address=None):
+        """What systemd listens on for what it is told, and its name for the variable."""
+        name = address or str(self.folder / "notify")
+        listener = socket.socket(socket.AF_UNIX, socket.SOCK_DGRAM)
+        self.addCleanup(listener.close)
+        listener.bind(name)
+        listener.settimeout(PATIENCE)
+        return listener, name.replace("\0", "@")
+
+    @staticmethod
+    def told(listener, wanted):
+        """What was told, up to a text that is wanted."""
+        lines = []
+        while not any(wanted in line for line in lines):
+            lines += listener.recv(1 << 16).decode().split("\n")
+        return lines
+
+    def peer(self, running):
+        peer = Peer(running.path)
+        self.addCleanup(peer.close)
+        return peer
+
+    # Signals
+
+    def assert_acts(self, running):
+        """Both signals came, and the broker did what they ask for."""
+        running.ready()
+        running.wait("read again")
+        running.wait("ended with status 0")
+        self.assertEqual(self.peer(running).ask("2 store 8 5", "2 load 8"), ["ok", "ok 0x0000000000000005"])
+        self.assertEqual(running.stop(), 0)
+
+    def test_signals_while_it_starts(self):
+        # As its unit starts it: they are blocked until it says otherwise.
+        starter = ["env", "--block-signal=HUP,USR1"]
+        if subprocess.run([*starter, "true"], stderr=subprocess.DEVNULL, check=False).returncode:
+            self.skipTest("env can't block signals")
+        for delay in (0.01, 0.05, 0.15):
+            running = self.begin("--backup", "true", starter=starter)
+            time.sleep(delay)
+            for number in (signal.SIGHUP, signal.SIGUSR1):
+                running.process.send_signal(number)
+            self.assert_acts(running)
+
+    def test_signals_while_modules_are_read(self):
+        # A module that is read slowly: it says so, waits, and gives way to the one that is meant.
+        slow = self.folder / "slow"
+        slow.mkdir()
+        (slow / "argparse.py").write_text(
+            "import sys, time\nfrom pathlib import Path\nhere = Path(__file__).parent\n(here / 'reading').touch()\ntime.sleep(0.5)\n"
+            "sys.path.remove(str(here))\ndel sys.modules['argparse']\nimport argparse\n"
+        )
+        running = self.begin("--backup", "true", env=dict(os.environ, PYTHONPATH=str(slow)))
+        patiently((slow / "reading").exists, "reading")
+        for number in (signal.SIGHUP, signal.SIGUSR1):
+            running.process.send_signal(number)
+        self.assert_acts(running)
+
+    def test_signals_while_it_opens(self):
+        wait = self.folder / "volume.wait"
+        wait.touch()
+        running = self.begin("--backup", "true")
+        patiently(lambda: Path(f"/proc/{running.process.pid}/task/{running.process.pid}/children").read_text(), "a program")
+        for number in (signal.SIGHUP, signal.SIGUSR1):
+            running.process.send_signal(number)
+        running.wait("read again")
+        wait.unlink()
+        self.assert_acts(running)
+
+    # What systemd is told
+
+    def test_it_is_ready_once_the_volume_is_open(self):
+        for address in (None, f"\0mungi-test-{os.getpid()}"):
+            listener, name = self.listener(address)
+            wait = self.folder / "volume.wait"
+            wait.touch()
+            seen = self.folder / "seen"
+            backup = self.script("backup", f'#!/bin/sh\nenv >"{seen}"\n')
+            running = self.begin("--backup", str(backup), env=dict(os.environ, NOTIFY_SOCKET=name, LISTEN_PID="1", LISTEN_FDS="1"))
+            self.assertEqual(select.select([listener], [], [], 1)[0], [])
+            wait.unlink()
+            self.assertEqual(listener.recv(1 << 16).decode().split("\n"), ["READY=1", f"STATUS={self.volume} is open"])
+            self.assertEqual(self.peer(running).ask("2 load 8"), ["ok 0x0000000000000000"])
+            running.process.send_signal(signal.SIGUSR1)
+            told = self.told(listener, "is open again")
+            self.assertEqual(told[0], f"STATUS={self.volume} is closed for a backup")
+            self.assertNotRegex(seen.read_text(), "(?m)^(NOTIFY_SOCKET|LISTEN_)")
+            self.assertEqual(running.stop(), 0)
+            self.assertIn("STOPPING=1", self.told(listener, "STOPPING"))
+
+    def test_a_broker_that_can_not_start_is_never_ready(self):
+        listener, name = self.listener()
+        environment = dict(os.environ, NOTIFY_SOCKET=name)
+        for program, status in ((self.script("broken", "#!/bin/sh\nexit 2\n"), 2), (self.folder / "none", 3)):
+            running = self.begin(program=program, env=environment)
+            self.assertEqual(running.process.wait(PATIENCE), status)
+        with open(self.volume, "rb") as held:
+            fcntl.flock(held, fcntl.LOCK_EX)
+            running = self.begin(env=environment)
+            told = self.told(listener, "STATUS")
+            self.assertEqual(told, [f"STATUS={self.volume} can't be opened yet: it is tried 20 times, every 0.5 s"])
+            self.assertIn(told[0].removeprefix("STATUS="), running.log_text())
+            running.process.send_signal(signal.SIGTERM)
+            self.assertEqual(running.process.wait(PATIENCE), 0)
+        listener.setblocking(False)
+        with contextlib.suppress(BlockingIOError):
+            while True:
+                self.assertNotIn("READY", listener.recv(1 << 16).decode())
+
+    def test_nobody_reads_what_is_told(self):
+        running = self.begin(env=dict(os.environ, NOTIFY_SOCKET=str(self.folder / "none"))).ready()
+        running.wait("none: No such file")
+        self.assertEqual(self.peer(running).ask("2 load 8"), ["ok 0x0000000000000000"])
+        self.assertEqual(running.stop(), 0)
+
+    # Pauses
+
+    def test_backups_are_no_openings(self):
+        listener, name = self.listener()
+        running = self.begin("--openings", "2", "--backup", "true", env=dict(os.environ, NOTIFY_SOCKET=name)).ready()
+        peer = self.peer(running)
+        for number in range(1, 5):
+            running.process.send_signal(signal.SIGUSR1)
+            running.wait("is open again, after", number)
+            self.assertEqual(peer.ask("2 load 8"), ["ok 0x0000000000000000"])
+        os.kill(running.program(), signal.SIGKILL)
+        running.wait("is open again, after", 5)
+        self.assertNotIn("waits", running.log_text())
+        os.kill(running.program(), signal.SIGKILL)
+        # The third opening of this minute waits, and that is said.
+        running.wait("it was opened 2 times in 60 s")
+        self.told(listener, "it was opened 2 times in 60 s")
+        self.assertRegex(running.log_text(), r"waits [0-9]+\.[0-9] s: it was opened")
+        self.assertEqual(running.stop(), 0)
+
+    def test_a_volume_that_goes_away_and_comes_back(self):
+        running = self.begin("--openings", "60").ready()
+        away = self.folder / "away"
+        os.rename(self.volume, away)
+        os.kill(running.program(), signal.SIGKILL)
+        running.wait("there is no volume", 2)
+        running.wait("can't be opened: status 2; it is tried again in 1.0 s")
+        # No empty file is made, which a later mount would hide.
+        self.assertFalse(self.volume.exists())
+        os.rename(away, self.volume)
+        running.wait("is open again, after")
+        self.assertEqual(self.peer(running).ask("2 load 8"), ["ok 0x0000000000000000"])
+        self.assertEqual(running.stop(), 0)
+
+    # The socket
+
+    def hand_over(self, files, count=None, path="socket", **kinds):
+        """A broker that gets open files as systemd gives them."""
+        moves = " ".join(f"{3 + place}<&{file.fileno()}" for place, file in enumerate(files))
+        text = f'export LISTEN_PID=$$ LISTEN_FDS={len(files) if count is None else count}\nexec "$@" {moves}'
+        return self.begin(path=path, starter=["bash", "-c", text, "bash"], pass_fds=[file.fileno() for file in files], **kinds)
+
+    def bound(self, name="socket"):
+        listening = socket.socket(socket.AF_UNIX)
+        self.addCleanup(listening.close)
+        listening.bind(str(self.folder / name))
+        listening.listen(8)
+        # The shell has room for 3 and 4 then.
+        high = socket.socket(fileno=fcntl.fcntl(listening.fileno(), fcntl.F_DUPFD_CLOEXEC, 20))
+        self.addCleanup(high.close)
+        return high
+
+    def test_the_socket_stays_over_a_restart(self):
+        listening = self.bound()
+        early = Peer(self.folder / "socket")
+        self.addCleanup(early.close)
+        early.send(b"2 store 8 7\n")
+        running = self.hand_over([listening]).ready()
+        self.assertEqual(early.reply(), "ok")
+        place = running.path.lstat()
+        self.assertEqual(running.stop(), 0)
+        self.assertEqual(early.rest_of_it(), ["ended 0 0"])
+        self.assertTrue(os.path.samestat(running.path.lstat(), place))
+        # Nobody serves it, and who connects waits for who will.
+        waiting = Peer(self.folder / "socket")
+        self.addCleanup(waiting.close)
+        waiting.send(b"2 load 8\n")
+        self.assertEqual(select.select([waiting.socket], [], [], 0.3)[0], [])
+        again = self.hand_over([listening]).ready()
+        self.assertEqual(waiting.reply(), "ok 0x0000000000000007")
+        again.process.kill()
+        again.process.wait()
+        self.assertIsNone(waiting.reply())
+        third = self.hand_over([listening]).ready()
+        self.assertEqual(self.peer(third).ask("2 load 8"), ["ok 0x0000000000000007"])
+        self.assertEqual(third.stop(), 0)
+
+    def test_what_is_handed_over_and_not_taken(self):
+        listening = self.bound("other")
+        datagrams = socket.socket(socket.AF_UNIX, socket.SOCK_DGRAM)
+        silent = socket.socket(socket.AF_UNIX)
+        self.addCleanup(datagrams.close)
+        self.addCleanup(silent.close)
+        silent.bind(str(self.folder / "socket"))
+        high = [socket.socket(fileno=fcntl.fcntl(it.fileno(), fcntl.F_DUPFD_CLOEXEC, 20)) for it in (datagrams, silent)]
+        for it in high:
+            self.addCleanup(it.close)
+        with open(os.devnull) as null, open(fcntl.fcntl(null.fileno(), fcntl.F_DUPFD_CLOEXEC, 20)) as file:
+            for files, said in (
+                ([listening], "other"),
+                ([listening, listening], "2 sockets are handed over"),
+                ([high[0]], "no Unix socket that listens"),
+                ([high[1]], "no Unix socket that listens"),
+                ([file], "no socket"),
+            ):
+                running = self.hand_over(files)
+                self.assertEqual(running.process.wait(PATIENCE), 1, running.log_text())
+                self.assertIn(said, running.log_text())
+        # Files for another process are none.
+        running = self.begin(path="own", env=dict(os.environ, LISTEN_PID="1", LISTEN_FDS="1")).ready()
+        self.assertEqual(running.stop(), 0)
+
+    def test_a_client_that_waits_for_the_broker(self):
+        path = self.folder / "socket"
+        with self.assertRaises(FileNotFoundError):
+            mungi.connect(path, PATIENCE)
+        begun = time.monotonic()
+        with self.assertRaises(FileNotFoundError):
+            mungi.connect(path, PATIENCE, wait=0.4)
+        self.assertGreater(time.monotonic() - begun, 0.4)
+        with self.assertRaises(ValueError):
+            mungi.connect(path, wait=-1)
+        started = []
+        timer = threading.Timer(0.5, lambda: started.append(self.begin()))
+        timer.start()
+        machine = mungi.connect(path, PATIENCE, wait=PATIENCE)
+        timer.join()
+        machine.thread(2).store(8, 6)
+        started[0].process.kill()
+        started[0].process.wait()
+        # The socket is there, and nobody listens.
+        with self.assertRaises(ConnectionRefusedError):
+            mungi.connect(path, PATIENCE)
+        timer = threading.Timer(0.5, lambda: started.append(self.begin()))
+        timer.start()
+        self.assertEqual(mungi.connect(path, PATIENCE, wait=PATIENCE).thread(2).load(8), 6)
+        timer.join()
+        self.assertEqual(started[1].stop(), 0)
+
+    # Backups
+
+    def slow_copy(self):
+        """The environment of a backup whose `cp` never ends, and the file with the number of its process."""
+        tools = self.folder / "commands"
+        tools.mkdir(exist_ok=True)
+        number = self.folder / "number"
+        self.script("commands/cp", f'#!/bin/sh\necho "$$" >"{number}.new"\nmv "{number}.new" "{number}"\nexec sleep 1000\n')
+        return dict(os.environ, PATH=f"{tools}:{os.environ['PATH']}", MUNGI=str(self.program)), number
+
+    def back_up(self, *words, environment=None):
+        environment = environment or dict(os.environ, MUNGI=str(self.program))
+        return subprocess.run([SCRIPTS / "backup", *words], env=environment, capture_output=True, text=True, timeout=PATIENCE, check=False)
+
+    def assert_gone(self, number):
+        """The process that a file names has ended."""
+        patiently(lambda: not os.path.exists(f"/proc/{number.read_text().strip()}"), "the end of cp")
+        number.unlink()
+
+    def assert_free(self):
+        with open(self.volume, "rb") as file:
+            fcntl.flock(file, fcntl.LOCK_EX | fcntl.LOCK_NB)
+
+    def test_a_backup_that_is_ended(self):
+        environment, number = self.slow_copy()
+        copy = self.folder / "copies" / "copy"
+        copy.parent.mkdir()
+        for how in (signal.SIGTERM, signal.SIGINT, signal.SIGHUP):
+            process = subprocess.Popen([SCRIPTS / "backup", self.volume, copy], env=environment, stderr=subprocess.DEVNULL)
+            patiently(number.exists, "a copy")
+            process.send_signal(how)
+            self.assertEqual(process.wait(PATIENCE), 130)
+            self.assert_gone(number)
+            self.assertEqual(list(copy.parent.iterdir()), [])
+            self.assert_free()
+
+    def test_a_backup_that_is_killed(self):
+        environment, number = self.slow_copy()
+        copy = self.folder / "copies" / "copy"
+        copy.parent.mkdir()
+        process = subprocess.Popen([SCRIPTS / "backup", self.volume, copy], env=environment, stderr=subprocess.DEVNULL)
+        patiently(number.exists, "a copy")
+        done = self.back_up(self.volume, copy)
+        self.assertEqual(done.returncode, 1)
+        self.assertIn("another backup makes it", done.stderr)
+        process.kill()
+        process.wait()
+        try:
+            # What it started may run on, and holds nothing.
+            self.assert_free()
+            self.assertTrue(Path(f"{copy}.part").exists())
+            Path(f"{copy}.sha256").touch()
+            done = self.back_up(self.volume, copy)
+            self.assertEqual((done.returncode, done.stderr), (0, ""))
+        finally:
+            os.kill(int(number.read_text()), signal.SIGKILL)
+        self.assertEqual(sorted(it.name for it in copy.parent.iterdir()), ["copy", "copy.sha256"])
+        self.assertEqual(self.back_up("--verify", copy).returncode, 0)
+
+    def test_so_many_copies_are_kept(self):
+        folder = self.folder / "copies"
+        folder.mkdir()
+        others = ["other-2020-01-01-000000", "volume", "volume-2020-01-01", "volume-2020-01-01-000000.txt"]
+        old = [f"volume-2020-01-0{day}-000000" for day in range(1, 5)]
+        for name in (*others, *old, *(f"{name}.sha256" for name in old), "volume-2020-01-09-000000.part", "volume-2020-01-09-000000.sha256"):
+            (folder / name).write_text("x")
+        done = self.back_up("--keep", "3", folder, self.volume)
+        self.assertEqual((done.returncode, done.stderr), (0, ""))
+        left = {it.name for it in folder.iterdir()}
+        new = left - set(others) - {name + end for name in old[2:] for end in ("", ".sha256")}
+        self.assertEqual(len(new), 2, new)
+        self.assertLessEqual(set(others), left)
+        name = min(new)
+        self.assertRegex(name, r"^volume-20\d\d-\d\d-\d\d-\d{6}$")
+        self.assertEqual(self.back_up("--verify", folder / name).returncode, 0)
+        for words, status in ((("0", folder), 2), (("x", folder), 2), (("", folder), 2), (("1", folder / "none"), 1)):
+            done = self.back_up("--keep", *words, self.volume)
+            self.assertEqual((done.returncode, done.stderr.count("\n")), (status, 1))
+        self.assertEqual({it.name for it in folder.iterdir()}, left)
+
+    def test_the_broker_ends_while_it_backs_up(self):
+        environment, number = self.slow_copy()
+        folder = self.folder / "copies"
+        folder.mkdir()
+        command = f"{SCRIPTS / 'backup'} --keep 5 {folder}"
+        running = self.begin("--backup", command, env=environment).ready()
+        running.process.send_signal(signal.SIGUSR1)
+        patiently(number.exists, "a copy")
+        begun = time.monotonic()
+        self.assertEqual(running.stop(), 0)
+        self.assertLess(time.monotonic() - begun, 4)
+        self.assert_gone(number)
+        self.assertEqual(list(folder.iterdir()), [])
+        self.assert_free()
+        # Also where a shell of the operator's, which does nothing with signals, is between.
+        between = self.script("between", f'#!/bin/sh\n{command} "$1"\necho done\n')
+        running = self.begin("--backup", str(between), env=environment).ready()
+        running.process.send_signal(signal.SIGUSR1)
+        patiently(number.exists, "a copy")
+        self.assertEqual(running.stop(), 0)
+        self.assert_gone(number)
+        patiently(lambda: not list(folder.iterdir()), "an empty folder")
+        running = self.begin("--backup", command).ready()
+        running.process.send_signal(signal.SIGUSR1)
+        running.wait("ended with status 0")
+        self.assertEqual(len(list(folder.iterdir())), 2)
+        self.assertEqual(running.stop(), 0)
+
+    def test_a_new_volume_has_its_blocks(self):
+        maker = self.script(
+            "maker", f'#!/bin/sh\n[ "$2" = format ] || exit 0\ntruncate -s {STAND_IN_BYTES} "$1"\necho ok 0x1 0x2 0x3\n'
+        )
+        for words, is_whole in (((), True), (("--sparse",), False)):
+            path = self.folder / f"new{len(words)}"
+            done = subprocess.run([SCRIPTS / "new_volume", *words, path, "16", "5"], env=dict(os.environ, MUNGI=str(maker)), capture_output=True, text=True, check=False)
+            self.assertEqual((done.returncode, done.stdout, done.stderr), (0, "ok 0x1 0x2 0x3\n", ""))
+            self.assertEqual((path.stat().st_size, path.stat().st_blocks * 512 >= STAND_IN_BYTES), (STAND_IN_BYTES, is_whole))
+
+
+class Units(unittest.TestCase):
+    """The files of systemd."""
+
+    FOLDER = TOP / "clients/systemd"
+
+    def test_the_page_names_each_and_they_name_what_it_makes(self):
+        page = (TOP / "docs/SERVICE.md").read_text()
+        for path in self.FOLDER.iterdir():
+            self.assertTrue(path.name in page, path.name)
+        self.assertIn("/run/mungi/socket", (self.FOLDER / "mungi.service").read_text())
+        self.assertIn("ListenStream=/run/mungi/socket\n", (self.FOLDER / "mungi.socket").read_text())
+
+    @unittest.skipIf(shutil.which("systemd-analyze") is None, "systemd-analyze is not here")
+    def test_systemd_reads_them(self):
+        with tempfile.TemporaryDirectory() as folder:
+            # The programs of the units are not here.
+            for path in self.FOLDER.iterdir():
+                text = re.sub(r"(?m)^(Exec\w+)=\S+", rf"\1={shutil.which('true')}", path.read_text())
+                Path(folder, path.name).write_text(text)
+            names = sorted(str(path) for path in Path(folder).iterdir())
+            done = subprocess.run(["systemd-analyze", "verify", *names], capture_output=True, text=True, timeout=PATIENCE, check=False)
+        said = [line for line in done.stderr.splitlines() if "mungi" in line and "man " not in line]
+        self.assertEqual(said, [])
+
+
 class Pages(OnVolumes):
     """The examples of docs/SERVICE.md, and what pip installs."""
 
     @unittest.skipUnless(IS_ROOT, "only root can be several users")
     def test_two_users(self):
-        sources = list(test_mungi.Examples.sources(test_mungi.TOP / "docs/SERVICE.md"))
+        sources = list(test_pages.Examples.sources(TOP / "docs/SERVICE.md"))
         puts = {
-            "letters": [(ANNA, "granted\n"), (BERT, "Come at ten.\n1 store 0x100004008 0 -> refused Thread\n2 store 0x100004008 0 -> no Denied\n")],
+            "shared": [(ANNA, "granted\n"), (BERT, "Come at ten.\n1 store 0x100004008 0 -> refused Thread\n2 store 0x100004008 0 -> no Denied\n")],
             "mailbox": [(ANNA, "open\n"), (BERT, "2 load 0x100001000 -> no Denied\n"), (ANNA, "Dear Anna, it is Bert.\n")],
         }
         self.assertEqual(len(sources), 1 + sum(len(rows) for rows in puts.values()))
-        page = (test_mungi.TOP / "docs/SERVICE.md").read_text()
+        page = (TOP / "docs/SERVICE.md").read_text()
         users = "[user.anna]\nthreads = [1]\n\n[user.bert]\nthreads = [2]\n"
         self.assertIn("".join(f"    {line}\n" if line else "\n" for line in users.splitlines()), page)
         users = users.replace("anna", str(ANNA)).replace("bert", str(BERT))
@@ -763,7 +1245,8 @@ class Pages(OnVolumes):
         os.chdir(self.folder)
         place = 1
         for name, rows in puts.items():
-            command = [sys.executable, str(HERE / "examples" / f"{name}.py"), name]
+            example = "letters" if name == "shared" else name
+            command = [sys.executable, str(HERE / "examples" / f"{example}.py"), name]
             subprocess.run(command, check=True, capture_output=True, env=dict(os.environ, MUNGI=PROGRAM), timeout=PATIENCE)
             running = Running(self.folder, self.folder / name, users, name=f"{name}.socket")
             self.addCleanup(running.stop)
@@ -776,15 +1259,24 @@ class Pages(OnVolumes):
             self.assertEqual(running.stop(), 0)
 
     def test_what_pip_installs(self):
-        with unittest.mock.patch.object(sys, "path", [str(HERE), *sys.path]):
-            import wheel_of_modules
-        name = wheel_of_modules.build_wheel(self.folder)
-        for words in (["-c", "import mungi; print(mungi.connect)"], ["-m", "mungi_broker", "--help"]):
-            environment = {key: value for key, value in os.environ.items() if key != "PYTHONPATH"} | {"PYTHONPATH": str(self.folder / name)}
+        # (a copy, since setuptools writes beside the sources)
+        source = self.folder / "source"
+        shutil.copytree(HERE, source, ignore=shutil.ignore_patterns("tests", "examples", "build", "*.egg-info", "__pycache__"))
+        build = "import sys\nfrom setuptools import build_meta\nbuild_meta.build_wheel(sys.argv[1])\n"
+        done = subprocess.run([sys.executable, "-c", build, str(self.folder)], cwd=source, capture_output=True, text=True, timeout=PATIENCE, check=False)
+        if done.returncode != 0 and re.search("No module named|bdist_wheel", done.stderr):
+            self.skipTest("setuptools is not here, or not the package wheel that an old one needs")
+        self.assertEqual(done.returncode, 0, done.stderr)
+        (place,) = self.folder.glob("mungi-*.whl")
+        for words in (["-c", "import mungi; print(mungi.connect)"], ["-m", "mungi.broker", "--help"]):
+            environment = {key: value for key, value in os.environ.items() if key != "PYTHONPATH"} | {"PYTHONPATH": str(place)}
             done = subprocess.run([sys.executable, *words], cwd=self.folder, env=environment, capture_output=True, timeout=PATIENCE, check=True)
             self.assertGreater(len(done.stdout), 20)
-        with zipfile.ZipFile(self.folder / name) as wheel:
-            self.assertEqual({"mungi/py.typed", "mungi_broker/py.typed"} - set(wheel.namelist()), set())
+        with zipfile.ZipFile(place) as wheel:
+            names = set(wheel.namelist())
+        modules = {f"mungi/{path.name}" for path in (SOURCES / "mungi").iterdir() if path.is_file()}
+        self.assertEqual((modules - names, {it for it in names if it.startswith("test")}), (set(), set()))
+        self.assertIn("mungi/py.typed", modules)
 
 
 class OverBroker:
@@ -807,11 +1299,9 @@ class OverBroker:
             return status
 
         machine.close = close_both
+        # (its sockets are closed before the broker is ended)
+        self.addCleanup(self.quit, machine)
         return machine
-
-    @staticmethod
-    def quit(machine):
-        machine.kill()
 
 
 def over(kind, *left_out):
@@ -819,18 +1309,18 @@ def over(kind, *left_out):
     return type(f"{kind.__name__}OverBroker", (OverBroker, kind), {name: None for name in left_out})
 
 
-CallsOverBroker = over(test_mungi.Calls)
+CallsOverBroker = over(test_calls.Calls)
 MistakesOverBroker = over(
-    test_mungi.Mistakes,
+    test_calls.Mistakes,
     "test_a_file_that_is_not_there",
     "test_the_program_that_the_environment_names",
     "test_words_for_a_mirror",
     "test_files_that_a_mirror_does_not_take",
 )
-DocumentsOverBroker = over(test_mungi.Documents)
-RightsOverBroker = over(test_mungi.Rights)
-BatchesOverBroker = over(test_mungi.Batches, "test_a_run_that_has_read_all_it_may")
-TourOverBroker = over(test_mungi.Tour)
+DocumentsOverBroker = over(test_objects.Documents)
+RightsOverBroker = over(test_objects.Rights)
+BatchesOverBroker = over(test_objects.Batches, "test_a_run_that_has_read_all_it_may")
+TourOverBroker = over(test_pages.Tour)
 
 
 if __name__ == "__main__":

@@ -1,62 +1,40 @@
-"""Reads the texts of mungi_show: what a volume holds, who may reach what, and who gained and who lost which right.
-
-    import mungi
-
-    state = mungi.show("vol")
-    for thread in state.threads:
-        print(thread.number, thread.state, [hex(slot.base) for slot in thread.domain])
-    for row in mungi.reach("vol", thread=2):
-        print(hex(row.base), row.rights)
-    for change in mungi.changes("vol.before", "vol"):
-        print(change.thread, hex(change.base), "gained", change.gained, "lost", change.lost)
-
-`show`, `reach` and `changes` run the program mungi_show, which only reads the volume; no run may have the volume meanwhile. The texts are
-defined and proved (docs/PROMISES.md), and `man -l docs/mungi_show.1` describes them. Here each line of them is read. A line that is not
-known, or that is out of its place, raises `BadText`, which says the line.
-
-A text is read as it comes, and what a filter leaves out is not kept. A word costs 16 bytes, another line some 100 to 500. **What is read
-has secrets**: all passwords, and the seed.
-
-Numbers are whole. Addresses, bases and passwords are below 2**64, and an address counts bytes. Rights are letters out of RWXDPO, in this
-order.
-"""
+"""The texts of mungi_show, read line by line."""
 
 from __future__ import annotations
 
 import bisect
-import contextlib
-import heapq
-import io
-import itertools
-import os
 import re
-import subprocess
-import tempfile
 from array import array
-from collections.abc import Generator, Iterable, Iterator, Mapping
+from collections.abc import Callable, Iterable, Iterator, Mapping, Sequence
 from dataclasses import dataclass, field
+from typing import TypeVar
 
-PAGE_BYTES = 4096
+from mungi.errors import Error
+from mungi.limits import PAGE_BYTES
+
 LETTERS = "RWXDPO"
+T = TypeVar("T")
 
 
-class BadText(ValueError):
-    """A line that is not known, or not in this place, or a text that ends before it is whole. `number` is the line's number, from 1, and
-    `line` the line, or "" at the end of the text."""
+class BadText(Error, ValueError):
+    """A line that is not known, or not in this place, or a text that ends before it is whole. `number` is the line's
+    number, from 1, and `line` the line, or "" at the end of the text."""
 
     def __init__(self, number: int, line: str):
         self.number = number
         self.line = line.rstrip("\n")
-        super().__init__(f"line {number} is not known here: {self.line!r}" if line else f"the text ends before line {number}, and is not whole")
-
-
-# What a state has
+        super().__init__(
+            f"line {number} is not known here: {self.line!r}"
+            if line
+            else f"the text ends before line {number}, and is not whole"
+        )
 
 
 @dataclass(frozen=True, slots=True)
 class Settings:
-    """What the volume was made with: pages that all objects may have together, the seed as 64 hexadecimal digits, credits of all accounts
-    together, and the tariff, four pairs of a number of pages and the credits that a page costs a period from there on."""
+    """What the volume was made with: pages that all objects may have together, the seed as 64 hexadecimal digits,
+    credits of all accounts together, and the tariff, four pairs of a number of pages and the credits that a page costs
+    a period from there on."""
 
     frames: int
     seed: str
@@ -87,7 +65,8 @@ class AccountRow:
 
 @dataclass(frozen=True, slots=True)
 class PasswordRow:
-    """A password of an object, and its rights. `until` is the first period in which it does not count any more, or None if it never ends."""
+    """A password of an object, and its rights. `until` is the first period in which it does not count any more, or None
+    if it never ends."""
 
     password: int
     rights: str
@@ -107,8 +86,8 @@ class Slot:
 
 
 class Words(Mapping[int, int]):
-    """The words of an object that are not 0: each address with its value, in the order of addresses. An address that is not in it raises
-    KeyError; its word is 0 if the object has it."""
+    """The words of an object that are not 0: each address with its value, in the order of addresses. An address that is
+    not in it raises KeyError; its word is 0 if the object has it."""
 
     __slots__ = ("_addresses", "_values")
 
@@ -139,8 +118,8 @@ class Words(Mapping[int, int]):
 
 @dataclass(frozen=True, slots=True)
 class ObjectRow:
-    """An object: its base, pages of 4,096 bytes, the account that pays, its passwords (ended ones too), the addresses at which it may be
-    entered, its extension or None, and its words that are not 0."""
+    """An object: its base, pages of 4,096 bytes, the account that pays, its passwords (ended ones too), the addresses
+    at which it may be entered, its extension or None, and its words that are not 0."""
 
     base: int
     pages: int
@@ -163,7 +142,12 @@ class ObjectRow:
 
     def rights_by(self, password: int, period: int) -> str:
         """The rights that a password gives on the object in a period; "" if it gives none."""
-        rights = {letter for row in self.passwords if row.password == password and row.is_current(period) for letter in row.rights}
+        rights = {
+            letter
+            for row in self.passwords
+            if row.password == password and row.is_current(period)
+            for letter in row.rights
+        }
         return "".join(letter for letter in LETTERS if letter in rights)
 
 
@@ -177,8 +161,9 @@ class Frame:
 
 @dataclass(frozen=True, slots=True)
 class ThreadRow:
-    """A thread: its number, its birth and that of the thread that made it (0 of the first), the address of its next instruction, "Ready",
-    "Stopped" or "Faulted", the cause of a fault or None, registers r0 to r7, and its frames, the present one last."""
+    """A thread: its number, its birth and that of the thread that made it (0 of the first), the address of its next
+    instruction, "Ready", "Stopped" or "Faulted", the cause of a fault or None, registers r0 to r7, and its frames, the
+    present one last."""
 
     number: int
     birth: int
@@ -218,20 +203,17 @@ class State:
         return _found(self.threads, number, lambda row: row.number)
 
 
-def _found(rows, wanted, key):
+def _found(rows: Sequence[T], wanted: int, key: Callable[[T], int]) -> T:
     at = bisect.bisect_left(rows, wanted, key=key)
     if at == len(rows) or key(rows[at]) != wanted:
         raise KeyError(wanted)
     return rows[at]
 
 
-# Who may reach what
-
-
 @dataclass(frozen=True, slots=True)
 class Reach:
-    """The rights that a thread has now on the object with this base. `enters` has the object's entries if P is one of them: there `pdx` is
-    not refused with Denied or NoEntry."""
+    """The rights that a thread has now on the object with this base. `enters` has the object's entries if P is one of
+    them: there `pdx` is not refused with Denied or NoEntry."""
 
     thread: int
     base: int
@@ -241,8 +223,8 @@ class Reach:
 
 @dataclass(frozen=True, slots=True)
 class Change:
-    """The rights on the object with this base that a thread has after and not before (`gained`), and before and not after (`lost`), with
-    the addresses of `enter` lines that came and went."""
+    """The rights on the object with this base that a thread has after and not before (`gained`), and before and not
+    after (`lost`), with the addresses of `enter` lines that came and went."""
 
     thread: int
     base: int
@@ -367,11 +349,14 @@ def _thread(text: _Text, least: int) -> ThreadRow:
             slots.append(_slot(text.take("slot")))
         frames.append(Frame(_hex(back), tuple(slots)))
     word, _, cause = state.partition(" ")
-    return ThreadRow(int(number), int(birth), int(creator), _hex(pc), word, cause or None, tuple(map(_hex, registers)), tuple(frames))
+    return ThreadRow(
+        int(number), int(birth), int(creator), _hex(pc), word, cause or None, tuple(map(_hex, registers)), tuple(frames)
+    )
 
 
 def _read_words(text: _Text, places: list[tuple[int, int, Words | None]]) -> None:
-    """Reads the words of objects. `places` has the base and the end of each in order, and what takes its words, or None."""
+    """Reads the words of objects. `places` has the base and the end of each in order, and what takes its words, or
+    None."""
     at, least = 0, 0
     while text.kind == "word":
         bad_number, bad_line = text.number, text.line
@@ -414,7 +399,8 @@ def read_state(lines: Iterable[str], thread: int | None = None, base: int | None
 
 
 def read_reach(lines: Iterable[str]) -> Iterator[Reach]:
-    """Reads the text of `reach` from its lines, each with its newline, and gives a row as soon as it is read. Raises BadText."""
+    """Reads the text of `reach` from its lines, each with its newline, and gives a row as soon as it is read. Raises
+    BadText."""
     text, last = _Text(lines), (0, -1)
     while text.line:
         bad = text.number, text.line
@@ -430,119 +416,3 @@ def read_reach(lines: Iterable[str]) -> Iterator[Reach]:
                 raise BadText(*bad)
             enters.append(_hex(address))
         yield Reach(thread, base, rights, tuple(enters))
-
-
-# Volumes
-
-
-# What the program prints, and nothing else, if the file is no volume or its words ask for nothing.
-_REFUSALS = {"open not\n", "open old\n", "open damaged\n", "usage\n"}
-
-
-def _lines_of(volume: str | os.PathLike, name: str, program: str | os.PathLike | None) -> Generator[str, None, None]:
-    """The lines of a text of a volume, as the program prints them. Raises FileNotFoundError and Ended as `show` does."""
-    # (here, since mungi hands on what this module has)
-    import mungi
-
-    words = [program or mungi.default_program("mungi_show"), mungi._there(volume), name]
-    with tempfile.TemporaryFile() as errors:
-        process = subprocess.Popen(words, stdin=subprocess.DEVNULL, stdout=subprocess.PIPE, stderr=errors)
-        assert process.stdout is not None
-        try:
-            rest = []
-            with io.TextIOWrapper(process.stdout, encoding="ascii", errors="backslashreplace", newline="\n") as put:
-                for number, line in enumerate(put):
-                    if not line.endswith("\n") or number == 0 and line in _REFUSALS:
-                        rest = [line]
-                        break
-                    yield line
-            status = process.wait()
-        finally:
-            # Who wants no more lines, or met one that is not known, does not wait for the others.
-            process.kill()
-            process.wait()
-        errors.seek(0)
-        said = errors.read(1 << 16).decode("utf-8", "backslashreplace")
-    if status != 0:
-        raise mungi.Ended(status, said, [line.rstrip("\n") for line in rest], [], [], [])
-    mungi._warn(said, [os.fspath(volume)], 4)
-    yield from rest
-
-
-def show(
-    volume: str | os.PathLike,
-    thread: int | None = None,
-    base: int | None = None,
-    words: bool = True,
-    program: str | os.PathLike | None = None,
-) -> State:
-    """What the volume in the file `volume` holds.
-
-    With `thread`, a number, it has that thread alone; with `base` that object alone; without `words` no words. There may be none with the
-    number or the base. Settings, counters and accounts are always there. `program` is mungi_show, else that of `mungi.default_program`.
-
-    It only reads. Raises FileNotFoundError if there is no file, mungi.Ended with status 2 if it is no volume and 4 if a run has it, and
-    BadText. Warns with mungi.CutShort if the file is shorter than its volume."""
-    with contextlib.closing(_lines_of(volume, "state", program)) as lines:
-        return read_state(lines, thread, base, words)
-
-
-def _reached(volume: str | os.PathLike, program: str | os.PathLike | None) -> Generator[Reach, None, None]:
-    with contextlib.closing(_lines_of(volume, "reach", program)) as lines:
-        yield from read_reach(lines)
-
-
-def _wanted(rows: Iterable[Reach], thread: int | None, base: int | None) -> Iterator[Reach]:
-    return (row for row in rows if thread in (None, row.thread) and base in (None, row.base))
-
-
-def reach(
-    volume: str | os.PathLike, thread: int | None = None, base: int | None = None, program: str | os.PathLike | None = None
-) -> list[Reach]:
-    """Who may reach what now: a row for each thread and each object on which it has some right, by the thread's number and then by the
-    object's base. A right is in it exactly if an access would be allowed now.
-
-    With `thread`, a number, it has the rows of that thread alone; with `base` those of that object. Reads and raises as `show` does."""
-    with contextlib.closing(_reached(volume, program)) as rows:
-        return list(_wanted(rows, thread, base))
-
-
-def _place(row: Reach) -> tuple[int, int]:
-    return row.thread, row.base
-
-
-def _without(some: Iterable, others: Iterable) -> tuple:
-    left = set(others)
-    return tuple(it for it in some if it not in left)
-
-
-def changes(
-    before: str | os.PathLike | Iterable[Reach],
-    after: str | os.PathLike | Iterable[Reach],
-    thread: int | None = None,
-    base: int | None = None,
-    program: str | os.PathLike | None = None,
-) -> list[Change]:
-    """Who gained and who lost which right: a row for each thread and object with a difference, by the thread's number and then by the base.
-
-    `before` and `after` are each the file of a volume, or what `reach` gave. Volumes are read side by side, and only what differs is kept.
-    With `thread` or `base` it has that thread or that object alone. Reads and raises as `show` does.
-
-    Threads are known by their numbers, and objects by their bases. If a thread ended and another one got its number, or an object was
-    deleted and another one begins at its base, they count as one: compare `birth` of threads, and passwords of objects, of `show`."""
-    found: list[Change] = []
-    with contextlib.ExitStack() as stack:
-        sides = []
-        for side, given in enumerate((before, after)):
-            if isinstance(given, (str, os.PathLike)):
-                rows: Iterable[Reach] = stack.enter_context(contextlib.closing(_reached(given, program)))
-            else:
-                rows = sorted(given, key=_place)
-            sides.append(zip(_wanted(rows, thread, base), itertools.repeat(side)))
-        for (number, start), both in itertools.groupby(heapq.merge(*sides, key=lambda it: _place(it[0])), key=lambda it: _place(it[0])):
-            by_side = {side: row for row, side in both}
-            old, new = (by_side.get(side) or Reach(number, start, "", ()) for side in (0, 1))
-            if old != new:
-                gained, lost = ("".join(_without(*pair)) for pair in ((new.rights, old.rights), (old.rights, new.rights)))
-                found.append(Change(number, start, gained, lost, _without(new.enters, old.enters), _without(old.enters, new.enters)))
-    return found

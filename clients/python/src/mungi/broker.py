@@ -1,6 +1,6 @@
 """A broker: many people use one volume, each as the threads that are theirs.
 
-    python3 -m mungi_broker VOLUME SOCKET USERS
+    python3 -m mungi.broker VOLUME SOCKET USERS
 
 It holds one run, `mungi VOLUME run 64`, and listens on the Unix socket SOCKET. Who is at the other end of a connection is what the kernel
 says of it. The file USERS says which threads each user and each group has. A connection sends lines and gets a reply a line, in order, as
@@ -12,10 +12,31 @@ with `run`. A line of a thread that is not the sender's is not given to the mach
 - SIGTERM: no more lines are taken, those that were taken are answered, and the status is 0.
 
 The other statuses are 1 if a word or USERS is wrong or SOCKET is taken, and that of the program if the volume can't be opened at
-first. What happens is written to standard error, a line each. Linux and Python 3.11 or later; no other package.
+first. What happens is written to standard error, a line each. systemd, if it started the broker, is told when the volume
+is open and what the broker waits for, and may hand over the socket. Linux and Python 3.11 or later; no other package.
 """
 
 from __future__ import annotations
+
+import signal
+import sys
+
+# The signals that came before the broker could act on them. It does so once it runs.
+EARLY: list[int] = []
+
+
+def keep_signals() -> None:
+    """Keeps SIGHUP and SIGUSR1, which would end a process that has no handler for them."""
+    for number in (signal.SIGHUP, signal.SIGUSR1):
+        signal.signal(number, lambda number, _: EARLY.append(number))
+    # Whoever starts the broker may block them, as its unit does, so that they wait while Python itself starts.
+    signal.pthread_sigmask(signal.SIG_UNBLOCK, (signal.SIGHUP, signal.SIGUSR1))
+
+
+# Before the other modules are read, which takes longer than all else up to here. The name is not `__main__` where the
+# module is a package that `-m` runs, nor as pip's command.
+if __name__ == "__main__" or sys.argv[0] == "-m" or sys.argv[0].endswith("/mungi-broker"):
+    keep_signals()
 
 import argparse
 import asyncio
@@ -29,15 +50,13 @@ import re
 import resource
 import select
 import shlex
-import signal
 import socket
 import stat
 import struct
 import subprocess
-import sys
 import time
 import tomllib
-from typing import Iterable, NamedTuple
+from typing import Iterable, NamedTuple, NoReturn
 
 import mungi
 
@@ -56,6 +75,11 @@ FIRST_TRIES = 20
 FIRST_WAIT = 0.5
 # How long the command of --backup may take, in seconds.
 BACKUP_PATIENCE = 900.0
+# The seconds in which openings are counted.
+MINUTE = 60.0
+# The first open file that systemd hands over, and how long it may take to read what it is told, in seconds.
+FIRST_FILE = 3
+TELL_PATIENCE = 5.0
 # Lines are gathered for a batch at most this many times as long as the silence that closes one.
 LONGEST_GATHERING = 8
 # More than the most bytes of one batch.
@@ -80,10 +104,51 @@ def say(text: str) -> None:
     print(f"mungi_broker: {text}", file=sys.stderr, flush=True)
 
 
+class System:
+    """What systemd gave to this process, by its variables: an address that is told how the service is, and a socket that
+    listens. Both may be missing. The variables are taken away, so that no process that is started here has them."""
+
+    def __init__(self) -> None:
+        self.address = os.environ.pop("NOTIFY_SOCKET", "")
+        given, count = os.environ.pop("LISTEN_PID", ""), os.environ.pop("LISTEN_FDS", "")
+        os.environ.pop("LISTEN_FDNAMES", None)
+        # They may be meant for the process that started this one.
+        self.files = int(count) if given == str(os.getpid()) and count.isdecimal() else 0
+
+    def tell(self, *lines: str) -> None:
+        """Sends lines such as READY=1. If nobody asked for them nothing is sent. A failure is printed."""
+        if self.address:
+            # An abstract name begins with @ in the variable, and with a zero in the system.
+            address = "\0" + self.address[1:] if self.address.startswith("@") else self.address
+            try:
+                with socket.socket(socket.AF_UNIX, socket.SOCK_DGRAM) as peer:
+                    peer.settimeout(TELL_PATIENCE)
+                    peer.sendto("\n".join(lines).encode(), address)
+            except OSError as error:
+                say(f"{self.address}: {error.strerror or error}")
+
+    def listening(self, path: str) -> socket.socket | None:
+        """The socket that systemd listens on, or None if it gave none. Raises OSError if it doesn't listen at this path."""
+        if self.files == 0:
+            return None
+        if self.files != 1:
+            raise OSError(errno.EINVAL, f"{self.files} sockets are handed over, and one is wanted")
+        if not stat.S_ISSOCK(os.fstat(FIRST_FILE).st_mode):
+            raise OSError(errno.ENOTSOCK, "what is handed over is no socket")
+        listening = socket.socket(fileno=FIRST_FILE)
+        listening.set_inheritable(False)
+        if listening.family != socket.AF_UNIX or listening.type != socket.SOCK_STREAM or not listening.getsockopt(socket.SOL_SOCKET, socket.SO_ACCEPTCONN):
+            raise OSError(errno.EINVAL, "what is handed over is no Unix socket that listens for connections")
+        name = listening.getsockname()
+        if not isinstance(name, str) or os.path.realpath(name) != os.path.realpath(path):
+            raise OSError(errno.EINVAL, f"the socket that is handed over is {name or 'without a name'}")
+        return listening
+
+
 # Who may send what
 
 
-class Mistake(Exception):
+class Mistake(mungi.Error):
     """The file of users can't be read as one. The text begins with the line."""
 
 
@@ -460,7 +525,9 @@ class Broker:
         patience: float = 60.0,
         backup: list[str] | None = None,
         most_input: int = mungi.MOST_INPUT_BYTES,
+        system: System | None = None,
     ):
+        self.system = system or System()
         self.volume = volume
         self.file = users
         self.program = program or mungi.default_program()
@@ -484,7 +551,7 @@ class Broker:
         # threads that others may end, whose numbers other threads may get then: no line of theirs is given.
         self.alone = 0
         self.ending: collections.Counter[int] = collections.Counter()
-        self.process: subprocess.Popen | None = None
+        self.process: subprocess.Popen[bytes] | None = None
         # Whether the run before ended with status 0, so that the system's cache has nothing that the medium lacks.
         self.is_clean = False
         # Whether the program was started and has not answered yet, and whether its input was closed.
@@ -492,7 +559,7 @@ class Broker:
         self.is_gathering = False
         self.is_ending = False
         # What happens between two runs; no line is given meanwhile. At the start that is the opening.
-        self.pause: asyncio.Future | None = self.loop.create_future()
+        self.pause: asyncio.Future[None] | None = self.loop.create_future()
         self.backup_is_wanted = False
         self.copying: asyncio.subprocess.Process | None = None
         # What the program gave of its next reply, and what it was not given yet, in pieces of whole lines.
@@ -844,13 +911,30 @@ class Broker:
 
     # Runs
 
+    def report(self, text: str) -> None:
+        """Prints what happens to the volume, and tells it to systemd."""
+        say(f"{self.volume} {text}")
+        self.system.tell(f"STATUS={self.volume} {text}")
+
     def start(self) -> None:
         """Starts the program. `outcome` then is 0 once the volume is open, or else the status."""
-        self.opened.append(time.monotonic())
         self.outcome = self.loop.create_future()
         self.is_opening, self.is_closing = True, False
         self.sent_bytes = 0
         self.begun = b""
+        try:
+            os.stat(self.volume)
+            is_there = True
+        except OSError as error:
+            # Of other errors the program says what they are.
+            is_there = not isinstance(error, (FileNotFoundError, NotADirectoryError))
+        if not is_there:
+            # The program would make an empty file, as where a mount is away, and a later mount would hide it.
+            say(f"{self.volume}: there is no volume")
+            self.is_opening = False
+            self.tell_all(2)
+            self.outcome.set_result(2)
+            return
         if not self.is_clean:
             mungi.drop_cache(self.volume)
         # Whoever ended in what was under way is not known, so all are asked for.
@@ -932,31 +1016,47 @@ class Broker:
         self.start()
         return await self.outcome
 
-    async def close_run(self) -> None:
-        """Ends the input of the run, between two batches, and waits until the run has ended."""
-        if self.process is not None:
-            assert self.process.stdin is not None
-            self.outcome = self.loop.create_future()
-            self.is_closing = True
-            self.progress = time.monotonic()
-            # Of dots that were not written yet none is waited for.
-            self.loop.remove_writer(self.process.stdin.fileno())
-            self.unwritten.clear()
-            self.process.stdin.close()
-            await self.outcome
+    async def close_run(self) -> bool:
+        """Ends the input of the run, between two batches, and waits until the run has ended. Gives whether there was one
+        that ended with status 0."""
+        if self.process is None:
+            return False
+        assert self.process.stdin is not None
+        self.outcome = self.loop.create_future()
+        self.is_closing = True
+        self.progress = time.monotonic()
+        # Of dots that were not written yet none is waited for.
+        self.loop.remove_writer(self.process.stdin.fileno())
+        self.unwritten.clear()
+        self.process.stdin.close()
+        return await self.outcome == 0
 
     async def reopen(self) -> None:
         """Closes the run if there is one, has the volume copied if that was asked for, and opens the volume again."""
-        await self.close_run()
+        closed = time.monotonic()
+        # An opening after a run that the broker closed itself does not count: it was wanted.
+        counts = not await self.close_run()
         if self.backup_is_wanted:
-            await self.copy()
             self.backup_is_wanted = False
+            self.report("is closed for a backup")
+            await self.copy()
+        most = self.opened.maxlen or 1
         while True:
-            if len(self.opened) == self.opened.maxlen:
-                await self.rest(self.opened[0] + 60 - time.monotonic())
-            if await self.open() == 0 or self.is_ending:
+            now = time.monotonic()
+            if counts and len(self.opened) == most and self.opened[0] + MINUTE > now:
+                seconds = self.opened[0] + MINUTE - now
+                self.report(f"waits {seconds:.1f} s: it was opened {most} times in {MINUTE:g} s")
+                await self.rest(seconds)
+            if counts:
+                self.opened.append(time.monotonic())
+            status = await self.open()
+            if status == 0 or self.is_ending:
                 break
-            await self.rest(60 / (self.opened.maxlen or 1))
+            counts = True
+            self.report(f"can't be opened: status {status}; it is tried again in {MINUTE / most:.1f} s")
+            await self.rest(MINUTE / most)
+        if status == 0:
+            self.report(f"is open again, after {time.monotonic() - closed:.1f} s")
         self.pause = None
         self.stir()
 
@@ -971,17 +1071,34 @@ class Broker:
         begun = time.monotonic()
         environment = dict(os.environ, MUNGI=self.program)
         try:
-            self.copying = await asyncio.create_subprocess_exec(*self.backup, self.volume, stdin=subprocess.DEVNULL, stdout=sys.stderr, env=environment)
+            self.copying = await asyncio.create_subprocess_exec(
+                *self.backup, self.volume, stdin=subprocess.DEVNULL, stdout=sys.stderr, env=environment, process_group=0
+            )
         except OSError as error:
             say(f"{self.backup[0]}: {error.strerror}")
             return
+        if self.is_ending:
+            self.end_copy()
         try:
             status = await asyncio.wait_for(self.copying.wait(), BACKUP_PATIENCE)
         except asyncio.TimeoutError:
-            self.copying.kill()
+            self.end_copy()
             status = await self.copying.wait()
         self.copying = None
         say(f"{self.backup[0]} ended with status {status}, after {time.monotonic() - begun:.1f} s")
+
+    def end_copy(self) -> None:
+        """Ends the command of --backup and what it started. They have some seconds to remove what they made, and are
+        killed then."""
+        copying = self.copying
+
+        def send(number: int) -> None:
+            if copying is not None and copying is self.copying:
+                with contextlib.suppress(ProcessLookupError):
+                    os.killpg(copying.pid, number)
+
+        send(signal.SIGTERM)
+        self.loop.call_later(FAREWELL, send, signal.SIGKILL)
 
     def want_backup(self) -> None:
         if self.backup is None:
@@ -1009,8 +1126,8 @@ class Broker:
                 self.listening.close()
             for connection in self.connections.values():
                 connection.watch()
-            if self.copying is not None:
-                self.copying.terminate()
+            self.system.tell("STOPPING=1", f"STATUS={self.volume} is closed")
+            self.end_copy()
             self.stir()
 
     async def finish(self) -> None:
@@ -1062,37 +1179,47 @@ def listen(path: str) -> socket.socket:
     return listening
 
 
-async def serve(volume: str, path: str, broker: Broker) -> int:
-    """Opens the volume, listens until the broker is done, and gives the status."""
+async def serve(volume: str, path: str, broker: Broker, given: socket.socket | None = None) -> int:
+    """Opens the volume, listens until the broker is done, and gives the status. `given` is systemd's socket at the path."""
     loop = asyncio.get_running_loop()
     loop.add_signal_handler(signal.SIGTERM, broker.stop)
     loop.add_signal_handler(signal.SIGINT, broker.stop)
     loop.add_signal_handler(signal.SIGHUP, broker.reload)
     loop.add_signal_handler(signal.SIGUSR1, broker.want_backup)
+    for number in dict.fromkeys(EARLY):
+        (broker.reload if number == signal.SIGHUP else broker.want_backup)()
     broker.watch()
-    for _ in range(FIRST_TRIES):
+    broker.opened.append(time.monotonic())
+    for place in range(FIRST_TRIES):
         # Nothing else is begun before the volume is open.
         status = await broker.open()
         if status != 4 or broker.is_ending:
             break
         # Another run may be about to end: that of a broker that was killed.
+        if place == 0:
+            broker.report(f"can't be opened yet: it is tried {FIRST_TRIES} times, every {FIRST_WAIT:g} s")
         await broker.rest(FIRST_WAIT)
     if status != 0:
-        return status if status > 0 else 4
-    try:
-        listening = listen(path)
-    except OSError as error:
-        say(f"{path}: {error.strerror or error}")
-        await broker.close_run()
-        return 1
-    place = os.lstat(path)
+        # Whoever has it ended meanwhile gets the status of an end in order: no line was taken.
+        return 0 if broker.is_ending else status if status > 0 else 4
+    made = None
+    if given is None:
+        try:
+            given = listen(path)
+        except OSError as error:
+            say(f"{path}: {error.strerror or error}")
+            await broker.close_run()
+            return 1
+        made = os.lstat(path)
     broker.pause = None
-    broker.listen(listening)
+    broker.listen(given)
     say(f"{volume} is open, and {path} is listened on")
+    broker.system.tell("READY=1", f"STATUS={volume} is open")
     broker.stir()
     await broker.is_done.wait()
+    # A socket of systemd's stays, and so do those who wait to be accepted: the next broker serves them.
     with contextlib.suppress(FileNotFoundError):
-        if os.path.samestat(os.lstat(path), place):
+        if made is not None and os.path.samestat(os.lstat(path), made):
             os.unlink(path)
     return 0
 
@@ -1106,22 +1233,37 @@ def positive(text: str) -> float:
 
 async def run(words: argparse.Namespace) -> int:
     """The status of the broker that the words of the command describe."""
+    system = System()
     try:
         program = words.program or mungi.default_program()
         backup = shlex.split(words.backup) if words.backup else None
-        broker = Broker(words.volume, words.users, program, words.silence * 1e-6, words.openings, words.patience, backup, words.most_input)
+        broker = Broker(words.volume, words.users, program, words.silence * 1e-6, words.openings, words.patience, backup, words.most_input, system)
     except (OSError, Mistake) as error:
         say(f"{words.users}: {error}" if isinstance(error, Mistake) else str(error))
         return 1
-    why = is_taken(words.socket)
+    try:
+        given = system.listening(words.socket)
+    except OSError as error:
+        say(f"{words.socket}: {error.strerror}")
+        return 1
+    why = is_taken(words.socket) if given is None else None
     if why is not None or not os.path.exists(words.volume):
         say(f"{words.socket} {why}" if why is not None else f"{words.volume}: there is no volume")
         return 1
-    return await serve(words.volume, words.socket, broker)
+    return await serve(words.volume, words.socket, broker, given)
+
+
+class Words(argparse.ArgumentParser):
+    """The words of the command. Wrong ones end it with status 1: 2 is that of a program that finds no volume."""
+
+    def error(self, message: str) -> NoReturn:
+        self.print_usage(sys.stderr)
+        self.exit(1, f"mungi_broker: {message}; --help says more\n")
 
 
 def main() -> None:
-    parser = argparse.ArgumentParser(prog="mungi_broker", description="Lets many people use one volume, each as the threads that are theirs.")
+    keep_signals()
+    parser = Words(prog="mungi-broker", description="Lets many people use one volume, each as the threads that are theirs.")
     parser.add_argument("volume", metavar="VOLUME", help="the file of the volume")
     parser.add_argument("socket", metavar="SOCKET", help="the Unix socket to listen on, which is made")
     parser.add_argument("users", metavar="USERS", help="the file that says who has which threads")

@@ -1,6 +1,6 @@
-"""Tests of the reader of mungi_show's texts: python3 -m unittest, in this folder.
+"""Tests of the reader of mungi_show's texts: python3 -m unittest, in the folder above.
 
-The programs are those of test_mungi.py; the tests on real volumes are skipped if there are none. MUNGI_SESSIONS says how many random
+The programs are those of support.py; the tests on real volumes are skipped if there are none. MUNGI_SESSIONS says how many random
 sessions are run, and MUNGI_PATIENCE how many seconds a program may take. The seed of the random sessions is in the message of a failure.
 """
 
@@ -15,9 +15,23 @@ import unittest
 from pathlib import Path
 
 import mungi
-import mungi_show
-from mungi_show import AccountRow, BadText, Change, Counters, Frame, ObjectRow, PasswordRow, Reach, Settings, Slot, State, ThreadRow, Words
-from test_mungi import PROGRAM, SHOW
+from mungi.show import read_reach, read_state
+from mungi.texts import (
+    AccountRow,
+    BadText,
+    Change,
+    Counters,
+    Frame,
+    ObjectRow,
+    PasswordRow,
+    Reach,
+    Settings,
+    Slot,
+    State,
+    ThreadRow,
+    Words,
+)
+from tests.support import PROGRAM, SHOW
 
 PATIENCE = float(os.environ.get("MUNGI_PATIENCE", "60"))
 SESSIONS = int(os.environ.get("MUNGI_SESSIONS", "20"))
@@ -123,7 +137,7 @@ class Texts(unittest.TestCase):
     )
 
     def test_each_line_of_a_state(self):
-        self.assertEqual(mungi_show.read_state(self.LINES), self.STATE)
+        self.assertEqual(read_state(self.LINES), self.STATE)
         self.assertEqual("".join(text_of(self.STATE)), "".join(self.LINES))
 
     def test_what_a_state_is_asked(self):
@@ -136,10 +150,10 @@ class Texts(unittest.TestCase):
             self.assertRaises(KeyError, asks)
 
     def test_filters(self):
-        state = mungi_show.read_state(self.LINES, thread=7, base=ROOT + 4096)
+        state = read_state(self.LINES, thread=7, base=ROOT + 4096)
         self.assertEqual((state.threads, state.objects), (self.STATE.threads[1:], self.STATE.objects[1:]))
         self.assertEqual((state.settings, state.accounts), (self.STATE.settings, self.STATE.accounts))
-        state = mungi_show.read_state(self.LINES, thread=2, words=False)
+        state = read_state(self.LINES, thread=2, words=False)
         self.assertEqual((state.threads, [len(row.words) for row in state.objects]), ((), [0, 0]))
 
     def test_a_line_that_is_not_known_is_told(self):
@@ -152,7 +166,7 @@ class Texts(unittest.TestCase):
             (23, "word 0x0000000100003000 0x0000000000000001\n"), (23, "word 0x0000000100000000 0x0000000000000001\n"), (23, "word 0x0000000100002ff8 0x0000000000000000\n"),
         ):  # fmt: skip
             with self.subTest(line), self.assertRaises(BadText) as caught:
-                mungi_show.read_state([*self.LINES[:at], line, *self.LINES[at + 1 :]])
+                read_state([*self.LINES[:at], line, *self.LINES[at + 1 :]])
             self.assertEqual((caught.exception.number, caught.exception.line), (at + 1, line.rstrip("\n")))
             self.assertIn(repr(line.rstrip("\n")), str(caught.exception))
 
@@ -160,25 +174,25 @@ class Texts(unittest.TestCase):
         # No line may be dropped, written twice or moved, but for those whose absence is a smaller state.
         for at, line in enumerate(self.LINES):
             with self.subTest(line), self.assertRaises(BadText):
-                mungi_show.read_state([*self.LINES[: at + 1], "more\n", *self.LINES[at + 1 :]])
+                read_state([*self.LINES[: at + 1], "more\n", *self.LINES[at + 1 :]])
             with self.subTest(line), self.assertRaises(BadText):
-                mungi_show.read_state([*self.LINES[:at], line.rstrip("\n")])
+                read_state([*self.LINES[:at], line.rstrip("\n")])
         for end in range(17):
             if self.LINES[end].split()[0] not in ("account", "object", "password", "entry", "extension", "thread"):
-                self.assertRaises(BadText, mungi_show.read_state, self.LINES[:end])
-        self.assertRaises(BadText, mungi_show.read_state, self.LINES[:17])
+                self.assertRaises(BadText, read_state, self.LINES[:end])
+        self.assertRaises(BadText, read_state, self.LINES[:17])
 
     def test_the_lines_of_reach(self):
         lines = ["reach 1 0x0000000100000000 RP\n", "enter 1 0x0000000100000008\n", "enter 1 0x0000000100000010\n", "reach 1 0x0000000100001000 O\n", "reach 2 0x0000000100000000 W\n"]
         rows = [Reach(1, ROOT, "RP", (ROOT + 8, ROOT + 16)), Reach(1, ROOT + 4096, "O", ()), Reach(2, ROOT, "W", ())]
-        self.assertEqual(list(mungi_show.read_reach(lines)), rows)
-        self.assertEqual(list(mungi_show.read_reach([])), [])
+        self.assertEqual(list(read_reach(lines)), rows)
+        self.assertEqual(list(read_reach([])), [])
         for at, line in (
             (0, "reach 1 0x0000000100000000 \n"), (0, "reach 1 0x0000000100000000 PR\n"), (1, "enter 2 0x0000000100000008\n"), (2, "enter 1 0x10\n"),
             (3, "reach 1 0x0000000100000000 O\n"), (4, "enter 1 0x0000000100001000\n"), (4, "reach 2 0x0000000100000000 W"), (4, "word 1 2\n"),
         ):  # fmt: skip
             with self.subTest(line), self.assertRaises(BadText) as caught:
-                list(mungi_show.read_reach([*lines[:at], line, *lines[at + 1 :]]))
+                list(read_reach([*lines[:at], line, *lines[at + 1 :]]))
             self.assertEqual((caught.exception.number, caught.exception.line), (at + 1, line.rstrip("\n")))
 
     def test_changes_of_rows(self):
@@ -200,7 +214,7 @@ class Texts(unittest.TestCase):
         objects = [f"object {it:#018x} 1 1\n" + f"password {it:#018x} RWXDPO never\n" * 8 + f"entry {it:#018x}\n" for it in base]
         text = "".join([*self.LINES[:9], *objects, *self.LINES[16:18], *(f"word {it + 8 * at:#018x} {at + 1:#018x}\n" for it in base for at in range(25))])
         begun = time.process_time()
-        state = mungi_show.read_state(text.splitlines(keepends=True))
+        state = read_state(text.splitlines(keepends=True))
         self.assertLess(time.process_time() - begun, 5)
         self.assertEqual((len(state.objects), sum(len(row.words) for row in state.objects)), (4000, 100_000))
 
