@@ -31,8 +31,8 @@ from pathlib import Path
 CLIENT = Path(__file__).resolve().parents[1] / "clients/python"
 sys.path.insert(0, str(CLIENT))
 
+from tests import support  # noqa: E402  (first, since the folder of the tests says where the package is)
 import mungi  # noqa: E402
-import test_mungi  # noqa: E402
 
 PROCESSES = 2
 # How long the broker may take to open the volume, in seconds.
@@ -114,8 +114,8 @@ def together(path, made, seconds, options, is_beside):
     folder = path.parent
     users, place = folder / "users", str(folder / "socket")
     users.write_text(f"[user.{os.getuid()}]\nthreads = [{', '.join(str(thread) for thread, _ in made)}]\n")
-    command = [sys.executable, "-m", "mungi_broker", str(path), place, str(users), "--program", options.program, "--silence", str(options.silence)]
-    broker = subprocess.Popen(command, env=dict(os.environ, PYTHONPATH=str(CLIENT)), stderr=subprocess.DEVNULL)
+    command = [sys.executable, "-m", "mungi.broker", str(path), place, str(users), "--program", options.program, "--silence", str(options.silence)]
+    broker = subprocess.Popen(command, env=dict(os.environ, PYTHONPATH=str(CLIENT / "src")), stderr=subprocess.DEVNULL)
     try:
         for _ in range(PATIENCE * 10):
             if os.path.exists(place):
@@ -172,7 +172,7 @@ def main():
     parser.add_argument("--rounds", type=int, default=3)
     parser.add_argument("--silence", type=float, default=100)
     options = parser.parse_args()
-    options.program = options.program or test_mungi.PROGRAM
+    options.program = options.program or support.PROGRAM
     if options.program is None:
         sys.exit("broker: there is no program: set MUNGI, or build it with the script mungi")
     with tempfile.TemporaryDirectory(dir=options.folder) as folder:

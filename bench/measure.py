@@ -33,7 +33,7 @@ import time
 from pathlib import Path
 
 TOP = Path(__file__).resolve().parent.parent
-sys.path.insert(0, str(TOP / "scripts"))
+sys.path.insert(0, str(TOP / "trials"))
 
 from version1 import version1  # noqa: E402
 

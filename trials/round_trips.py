@@ -1,7 +1,7 @@
 #!/usr/bin/env python3
 """Sends random bytes into a volume and out again, by the programs mungi_text and mungi.
 
-    scripts/round_trips.py [ROUNDS [NUMBER]]
+    trials/round_trips.py [ROUNDS [NUMBER]]
 
 It reads no input.
 

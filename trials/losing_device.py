@@ -1,4 +1,4 @@
-"""A device for nbdkit that loses what was not flushed, as one without power does. scripts/device_faults runs it:
+"""A device for nbdkit that loses what was not flushed, as one without power does. trials/device_faults runs it:
 
     nbdkit python losing_device.py medium=FILE [fault=KIND at=NUMBER] [after=FILE] [lasts=yes] [dies=NUMBER] [flush=nothing] [random=NUMBER] [counts=FILE]
 

@@ -1,7 +1,7 @@
 #!/usr/bin/env python3
 """Tries the broker for longer than its tests do.
 
-    scripts/broker_trial.py [--program PATH] [--folder FOLDER] [--seconds S] [--kills N] [--fuzz N] [PART ..]
+    trials/broker_trial.py [--program PATH] [--folder FOLDER] [--seconds S] [--kills N] [--fuzz N] [PART ..]
 
 It has to be root, since it connects as eight users and as `nobody`. The parts are these; without a word all are tried.
 
@@ -10,8 +10,8 @@ It has to be root, since it connects as eight users and as `nobody`. The parts a
   says that this user may see.
 - kills: the program and the broker are killed N times each (50) in the middle of stores and loads of 16 connections. No line that was
   answered may be lost, none may be done that was told as not given, and no reply may come twice.
-- power: the volume is on a device that loses what was not flushed (scripts/losing_device.py; the packages are those of
-  scripts/device_faults). The program is killed N times, the broker opens the volume again, and the device loses power in that opening
+- power: the volume is on a device that loses what was not flushed (trials/losing_device.py; the packages are those of
+  trials/device_faults). The program is killed N times, the broker opens the volume again, and the device loses power in that opening
   or soon after it. No line that was answered may be lost.
 - out: another user's thread in 40 spellings, N byte strings (10,000), users who aren't named, and the same as `nobody`. All that the
   machine is given is recorded: it must hold no line but those of the sender's thread, and lines that are no call.
@@ -38,9 +38,9 @@ from pathlib import Path
 CLIENT = Path(__file__).resolve().parents[1] / "clients/python"
 sys.path.insert(0, str(CLIENT))
 
+from tests import test_broker  # noqa: E402  (first, since the folder of the tests says where the package is)
 import mungi  # noqa: E402
-import test_broker  # noqa: E402
-from test_broker import NOBODY, SPELLINGS, Peer, Running, meaning, wild  # noqa: E402
+from tests.test_broker import NOBODY, SPELLINGS, Peer, Running, meaning, wild  # noqa: E402
 
 USERS = [62000 + number for number in range(8)]
 # A group that one of the users is in, and gets its thread by.

@@ -1,9 +1,9 @@
 #!/usr/bin/env python3
 """Makes a volume of version 1 of one of today, so that `mungi VOLUME migrate OLD` can be tried.
 
-    scripts/version1.py VOLUME OLD
+    trials/version1.py [--overwrite] VOLUME OLD
 
-The file VOLUME is only read; OLD is made, or written over, and is another file. VOLUME must be a volume whose journal holds nothing, as a run on no
+The file VOLUME is only read; OLD is made, and is another file. A file OLD that is not empty is overwritten only if the first word is --overwrite. VOLUME must be a volume whose journal holds nothing, as a run on no
 lines leaves it, and whose objects have at most 16 passwords each, none of which ends. Version 1 has another superblock, objects of
 512 bytes without untils, and so its frame table and its frames 512 blocks lower; all else is as it is today (docs/VOLUME.md).
 """
@@ -42,10 +42,16 @@ if __name__ == "__main__":
     if sys.argv[1:] in (["--help"], ["-h"]):
         print(__doc__.strip())
         sys.exit(0)
-    if len(sys.argv) != 3:
-        sys.exit("usage: scripts/version1.py VOLUME OLD")
+    words = sys.argv[1:]
+    overwrites = words[:1] == ["--overwrite"]
+    words = words[overwrites:]
+    if len(words) != 2 or any(it.startswith("-") for it in words):
+        print("usage: trials/version1.py [--overwrite] VOLUME OLD", file=sys.stderr)
+        sys.exit(2)
     try:
-        version1(*sys.argv[1:])
+        if not overwrites and os.path.exists(words[1]) and os.path.getsize(words[1]) > 0:
+            sys.exit(f"version1: {words[1]} is not empty, and is left as it was; with --overwrite as first word it is overwritten")
+        version1(*words)
     except OSError as fault:
         sys.exit(f"version1: {fault.filename}: {fault.strerror}")
     except ValueError as fault:

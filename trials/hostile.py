@@ -1,11 +1,11 @@
 #!/usr/bin/env python3
 """Runs mungi on real files as a hostile machine or user may, and prints a line for each case.
 
-    scripts/hostile.py files            files, folders, modes, limits, streams, two runs at once, two files, migrations
-    scripts/hostile.py kill [RUNS]      runs that are killed at random moments, 100 of them
-    scripts/hostile.py restart [IMAGES] runs that are killed, the next run on the same file, and what a loss of power then leaves:
+    trials/hostile.py files            files, folders, modes, limits, streams, two runs at once, two files, migrations
+    trials/hostile.py kill [RUNS]      runs that are killed at random moments, 100 of them
+    trials/hostile.py restart [IMAGES] runs that are killed, the next run on the same file, and what a loss of power then leaves:
                                         1,000 images, which takes strace
-    scripts/hostile.py memory           each allocation refused in turn, which takes a C compiler
+    trials/hostile.py memory           each allocation refused in turn, which takes a C compiler
 
 --program names the program; without it that of the script mungi is used. The cases of a volume in two files use the program that the variable
 MUNGI_DEV names, or else that of the script mungi_dev. No input is read. A line begins with 'ok', with 'not tried' and the reason, or with
@@ -302,6 +302,54 @@ def maker_cases(folder):
     tell(good, "new_volume in a folder that is not there", done.stderr.decode().strip())
     done = made(folder + "/few", "15", "1000")
     tell(done.returncode == 1 and not os.path.exists(folder + "/few"), "new_volume with words that format refuses", f"status {done.returncode}")
+
+
+def guard_cases(folder):
+    """Slips that would cost what a file holds: a command over it through the scripts' guard, and a copy over it."""
+    text, volume = Path(folder) / "diary", Path(fresh(folder, "kept"))
+    copy = folder + "/kept.copy"
+    assert run([str(volume), "run"], b"1 load 0x100000000\n").status == 0
+    tell(script("backup", str(volume), copy).returncode == 0, "a copy is made before a slip")
+    # The slip that no call undoes: thread 1's own entry is stored over.
+    ended = run([str(volume), "run"], b"1 store 0x100000010 7\n1 load 0x100000000\n")
+    tell(ended.put == b"ok\nno Denied\n", "a wrong store into the root's first page locks thread 1 out", str(ended))
+    old = version1_of(folder)
+    for path in (text, volume):
+        for command in (["format", "64", SEED, "1000"], ["migrate", old]):
+            for words, status in ((command, 1), (["--overwrite", *command], 0)):
+                if path == text:
+                    text.write_bytes(b"what may not be lost\n")
+                path.chmod(0o644)
+                before = path.read_bytes()
+                overwrites = words[0] == "--overwrite"
+                if overwrites and path == volume:
+                    continue
+                given = ["--overwrite", str(path), *command] if overwrites else [str(path), *command]
+                done = script("guard", "mungi", PROGRAM, *given)
+                good = done.returncode == status and (overwrites or path.read_bytes() == before and b"--overwrite" in done.stderr)
+                good = good and mode_of(path) == (0o600 if overwrites else 0o644)
+                tell(good, f"{command[0]} over {'a text' if path == text else 'a volume'}" + (" with --overwrite" if overwrites else ""), said(done))
+    done = script("guard", "mungi", PROGRAM, folder + "/slip", "run")
+    good = (done.returncode, done.stdout, os.path.exists(folder + "/slip")) == (2, b"open not\n", False)
+    tell(good, "run on a file that is not there, through the scripts, makes no file", said(done))
+    before = volume.read_bytes()
+    done = script("restore", copy, str(volume))
+    tell(done.returncode == 1 and volume.read_bytes() == before, "restore over a volume without --overwrite", said(done))
+    with open(volume, "rb") as reader:
+        fcntl.flock(reader, fcntl.LOCK_SH)
+        done = script("restore", "--overwrite", copy, str(volume))
+    tell(done.returncode == 1 and b"another run holds" in done.stderr and volume.read_bytes() == before, "restore while somebody has the volume", said(done))
+    done = script("restore", "--overwrite", copy, str(volume))
+    ended = run([str(volume), "run"], b"1 load 0x100000000\n")
+    good = done.returncode == 0 and ended.put == b"ok 0x0000000000000001\n" and mode_of(volume) == 0o600
+    tell(good, "restore brings the volume back", f"{said(done)}; {ended}")
+
+
+def version1_of(folder):
+    """A volume of version 1."""
+    volume = fresh(folder, "newer")
+    assert run([volume, "run"]).status == 0
+    return version1(volume, folder + "/older")
 
 
 def limit_cases(folder):
@@ -782,7 +830,7 @@ def main():
         sys.exit(f"hostile: {words.program!r} is no program")
     with tempfile.TemporaryDirectory() as folder:
         if words.kind == "files":
-            for cases in (file_cases, maker_cases, mode_cases, mirror_cases, limit_cases, full_cases, stream_cases, two_cases, migrate_cases):
+            for cases in (file_cases, maker_cases, guard_cases, mode_cases, mirror_cases, limit_cases, full_cases, stream_cases, two_cases, migrate_cases):
                 cases(folder)
         elif words.kind == "kill":
             kill_cases(folder, words.runs or 100)
