@@ -355,14 +355,10 @@ def kills(folder, options, made):
             is_killed = False
             alive = set(storers)
             while alive and time.monotonic() < deadline:
-                for storer in list(alive):
-                    if not is_killed:
+                if not is_killed:
+                    for storer in alive:
                         storer.write()
-                    count = storer.read()
-                    if count is None:
-                        alive.discard(storer)
-                    else:
-                        replies += count
+                replies += read_all(alive)
                 if not is_killed and time.monotonic() > end:
                     is_killed = True
                     if turn % 2 == 0:
@@ -386,6 +382,18 @@ def kills(folder, options, made):
         running.stop()
 
 
+def read_all(alive):
+    """Reads from each: how many replies came. Who is served no more is taken out of `alive`."""
+    replies = 0
+    for storer in list(alive):
+        count = storer.read()
+        if count is None:
+            alive.discard(storer)
+        else:
+            replies += count
+    return replies
+
+
 def device_faults():
     """The script of that name, as a module."""
     loader = importlib.machinery.SourceFileLoader("device_faults", str(Path(__file__).resolve().parent / "device_faults"))
@@ -400,13 +408,9 @@ def talk(storers, until):
     replies, alive = 0, set(storers)
     deadline = time.monotonic() + PATIENCE
     while alive and not until() and time.monotonic() < deadline:
-        for storer in list(alive):
+        for storer in alive:
             storer.write()
-            count = storer.read()
-            if count is None:
-                alive.discard(storer)
-            else:
-                replies += count
+        replies += read_all(alive)
         time.sleep(0.001)
     return replies
 
