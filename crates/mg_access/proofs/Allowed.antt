@@ -1,26 +1,12 @@
 -- What is kept says whether an access is allowed, and what is found backs the seat that it fills.
-use Rattle.std.proofs.Common.{ℕ, ◌≡◌, ◌==◌, ◌&&◌, Bool, true, false, List, if◌then◌else◌, Option, Some, None, refl, sym, ap, subst, ◌∙◌}
-use Rattle.std.specs.Prelude.{Contains, find, map, option_map}
-use Rattle.std.specs.List.{list_any}
-use Rattle.std.proofs.lemmas.List.Folds.{list_any-from_Any}
-use Rattle.mg_access.proofs.Apart.{found-object}
-use Rattle.mg_access.specs.KnownLemmas.{find-rows}
-use Rattle.mg_access.proofs.Reached.{reached-some}
-use Rattle.mg_access.specs.Searching.{IsOpenedBy, IsSoughtAt, allowed_row, slot_opens}
-use Rattle.mg_access.specs.declared.lists.Sought.{Sought}
-use Rattle.mg_disk.specs.Disk.{Image}
-use Rattle.mg_laws.specs.Backing.{BackedAllows, OpeningBacks}
-use Rattle.mg_model.specs.declared.rights.Right.{Right}
-use Rattle.mg_model.specs.declared.seats.Seat.{Seat}
-use Rattle.mg_model.specs.Access.{allowed, at, covers, domain_of, pairs_under, holds}
-use Rattle.mg_model.specs.Backed.{IsBacked}
-use Rattle.mg_model.specs.State.{Counters, Object, ObjectRow, State}
-use Rattle.mg_model.specs.WellFormed.{IsWellFormed}
-use Rattle.mg_vcache.specs.Seats.{AllBacked, is_kept}
-use Rattle.mg_vcache.specs.SeatLemmas.{kept_backed}
-use Rattle.mg_volume.specs.Held.{VolumeHeld}
-use Rattle.mg_volume.specs.Meaning.{counters_in, now_of, objects_in}
-use Rattle.mg_volume.specs.RunLemmas.{told_period, told_rows}
+use Rattle.mg_access.{proofs.{Apart.found-object, Reached.reached-some}, specs.{KnownLemmas.find-rows, Searching.{IsOpenedBy, IsSoughtAt}}}
+use Rattle.{mg_access.specs.{Searching.{allowed_row, slot_opens}, declared.lists.Sought.Sought}, mg_disk.specs.Disk.Image}
+use Rattle.{mg_laws.specs.Backing.{BackedAllows, OpeningBacks}, mg_model.specs.Access.{allowed, at, covers, domain_of, pairs_under, holds}}
+use Rattle.mg_model.specs.{Backed.IsBacked, State.{Counters, Object, ObjectRow, State}, WellFormed.IsWellFormed, declared.rights.Right.Right}
+use Rattle.{mg_model.specs.declared.seats.Seat.Seat, mg_vcache.specs.{SeatLemmas.kept_backed, Seats.{AllBacked, is_kept}}}
+use Rattle.{mg_volume.specs.{Held.VolumeHeld, Meaning.{counters_in, now_of, objects_in}, RunLemmas.{told_period, told_rows}}, std.proofs.Common.ℕ}
+use Rattle.std.proofs.Common.{◌≡◌, ◌==◌, ◌&&◌, Bool, true, false, List, if◌then◌else◌, Option, Some, None, refl, sym, ap, subst, ◌∙◌}
+use Rattle.std.{proofs.lemmas.List.Folds.list_any-from_Any, specs.{List.list_any, Prelude.{Contains, find, map, option_map}}}
 
 module _ (state : State) (t a : ℕ) (right : Right) where
   by_test : (v : Bool) (o : Option Object) (object : Object) (row : ObjectRow) → v ≡ true → o ≡ Some object → object.row ≡ row → Some row ≡ (if v then option_map (λ (x : Object). x.row) o else None)

@@ -1,22 +1,11 @@
 -- Objects lie apart: the object with a base has each address of it.
-use Rattle.std.proofs.Common.{ℕ, ◌+◌, ◌-◌, ◌*◌, ◌/◌, ◌<◌, ◌≤◌, ◌≡◌, ◌==◌, ◌&&◌, not, Bool, true, false, List, [], ◌∷◌, length, if◌then◌else◌, Option, Some, None, refl, sym, ap, subst, ◌∙◌, arith}
-use Rattle.std.specs.Prelude.{find, map, nat_le, nat_lt, option_map, slice_index}
-use Rattle.std.specs.List.{list_all}
-use Rattle.std.specs.Option.{option_map_or}
-use Rattle.std.proofs.lemmas.Bool.{and_from, and_parts, eqb-true, leb-true, le-leb, lt-ltb, ltb-true}
-use Rattle.mg_access.specs.FoundLemmas.{found-passes}
-use Rattle.mg_access.specs.KnownLemmas.{find-rows}
-use Rattle.mg_access.specs.Searching.{words_based}
-use Rattle.mg_model.specs.declared.slots.Slot.{Slot}
-use Rattle.mg_model.specs.Abbreviations.{word_in}
-use Rattle.mg_model.specs.Access.{at, based_at, covers}
-use Rattle.mg_model.specs.Objects.{page_behind, page_of, word_at}
-use Rattle.mg_model.specs.Ranges.{IsPlace}
-use Rattle.mg_model.specs.State.{Object, ObjectRow}
-use Rattle.mg_model.specs.Tests.{all_distinct, is_entry_of, is_object_row, is_password, is_place}
-use Rattle.mg_model.specs.RowTestLemmas.{place-tells}
-use Rattle.mg_model.specs.Volume.{are_apart}
-use Rattle.mg_volume.specs.Meaning.{is_page_in}
+use Rattle.{mg_access.specs.{FoundLemmas.found-passes, KnownLemmas.find-rows, Searching.words_based}, mg_model.specs.Abbreviations.word_in}
+use Rattle.mg_model.specs.{Access.{at, based_at, covers}, Objects.{page_behind, page_of, word_at}, Ranges.IsPlace, RowTestLemmas.place-tells}
+use Rattle.mg_model.specs.{State.{Object, ObjectRow}, Tests.{all_distinct, is_entry_of, is_object_row, is_password, is_place}, Volume.are_apart}
+use Rattle.{mg_model.specs.declared.slots.Slot.Slot, mg_volume.specs.Meaning.is_page_in, std.proofs.Common.{ℕ, ◌+◌, ◌-◌, ◌*◌, ◌/◌, ◌<◌, ◌≤◌, ◌≡◌}}
+use Rattle.std.proofs.Common.{◌==◌, ◌&&◌, not, Bool, true, false, List, [], ◌∷◌, length, if◌then◌else◌, Option, Some, None, refl, sym, ap, subst, ◌∙◌}
+use Rattle.std.{proofs.{Common.arith, lemmas.Bool.{and_from, and_parts, eqb-true, leb-true, le-leb, lt-ltb, ltb-true}}, specs.List.list_all}
+use Rattle.std.specs.{Option.option_map_or, Prelude.{find, map, nat_le, nat_lt, option_map, slice_index}}
 
 -- the object after a row
 pub found-object : (o : Option Object) (row : ObjectRow) → option_map (λ (o : Object). o.row) o ≡ Some row → (object : Object) × (o ≡ Some object) × (object.row ≡ row)

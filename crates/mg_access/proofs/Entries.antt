@@ -1,21 +1,11 @@
 -- Steps of a search through the entries of a capability list, and through a list.
-use Rattle.std.proofs.Common.{ℕ, zero, suc, ◌+◌, ◌-◌, ◌*◌, ◌<◌, ◌≤◌, ◌≡◌, ◌≢◌, ◌||◌, ◌&&◌, slice_index, Bool, true, false, List, [], ◌∷◌, Option, None, Some, refl, sym, ap, subst, ◌∙◌, arith}
+use Rattle.mg_access.specs.{Searching.{entry_at, opens, slot_opens, words_based}, declared.lists.Sought.Sought}
+use Rattle.{mg_disk.specs.declared.disk.Disk.Ghosts, mg_model.specs.{Abbreviations.pairs_from, Access.{at, capabilities, pairs_of, pairs_under}}}
+use Rattle.{mg_model.specs.{Access.{holds, reaches}, State.{Object, State}, declared.slots.Slot.Slot}, mg_volume.specs.{Calls.Reads, Held.VolumeHeld}}
+use Rattle.{mg_volume.specs.{Meaning.now_of, Pairs.IsNextPair}, std.proofs.Common.{ℕ, zero, suc, ◌+◌, ◌-◌, ◌*◌, ◌<◌, ◌≤◌, ◌≡◌, ◌≢◌, ◌||◌, ◌&&◌}}
+use Rattle.std.proofs.Common.{slice_index, Bool, true, false, List, [], ◌∷◌, Option, None, Some, refl, sym, ap, subst, ◌∙◌, arith}
+use Rattle.std.{proofs.lemmas.{Bool.{eq-eqb, ne_eqb}, List.Folds.list_any-append}, specs.{List.list_any, Option.{ForSome, option_map_or}}}
 use Rattle.std.specs.Prelude.{flat_map}
-use Rattle.std.specs.List.{list_any}
-use Rattle.std.specs.Option.{ForSome, option_map_or}
-use Rattle.std.proofs.lemmas.Bool.{eq-eqb, ne_eqb}
-use Rattle.std.proofs.lemmas.List.Folds.{list_any-append}
-use Rattle.mg_disk.specs.declared.disk.Disk.{Ghosts}
-use Rattle.mg_access.specs.Searching.{entry_at, opens, slot_opens, words_based}
-use Rattle.mg_access.specs.declared.lists.Sought.{Sought}
-use Rattle.mg_model.specs.declared.slots.Slot.{Slot}
-use Rattle.mg_model.specs.Abbreviations.{pairs_from}
-use Rattle.mg_model.specs.Access.{at, capabilities, pairs_of, pairs_under, holds, reaches}
-use Rattle.mg_model.specs.State.{Object, State}
-use Rattle.mg_volume.specs.Pairs.{IsNextPair}
-use Rattle.mg_volume.specs.Calls.{Reads}
-use Rattle.mg_volume.specs.Held.{VolumeHeld}
-use Rattle.mg_volume.specs.Meaning.{now_of}
 
 pairs_from-next : (words : List ℕ) (j n : ℕ) → j < n → pairs_from words j (n - j) ≡ entry_at words j ∷ pairs_from words (j + 1) (n - (j + 1))
 pairs_from-next words j n h = let e : n - j ≡ suc (n - (j + 1)) = omega arith in ap (λ k. pairs_from words j k) e

@@ -1,26 +1,11 @@
 -- What an access keeps, by what was found.
-use Rattle.std.proofs.Common.{ℕ, ◌≡◌, ◌≢◌, ◌≤◌, ◌+◌, ◌==◌, true, false, List, Option, Some, None, Result, Ok, Err, refl, sym, subst, ◌∙◌, arith}
-use Rattle.std.specs.Prelude.{IfSome, IsErr, find}
-use Rattle.std.specs.Option.{ForSome}
-use Rattle.mg_access.proofs.Tried.{known-at, tried, within}
-use Rattle.mg_access.specs.Finding.{Finds}
-use Rattle.mg_access.specs.FindingLemmas.{error}
-use Rattle.mg_access.specs.KnownLemmas.{rows_tell}
-use Rattle.mg_access.specs.Searching.{allowed_row}
-use Rattle.mg_disk.specs.Stops.{CountRose}
-use Rattle.mg_disk.specs.declared.disk.Disk.{Ghosts}
-use Rattle.mg_model.specs.declared.rights.Right.{Right}
-use Rattle.mg_model.specs.declared.seats.Seat.{Seat}
-use Rattle.mg_model.specs.Access.{covers}
-use Rattle.mg_model.specs.Accesses.{Access}
-use Rattle.mg_model.specs.Kept.{access_limit, is_known}
-use Rattle.mg_model.specs.Keys.{Key, seat_of}
-use Rattle.mg_model.specs.Limits.{search_limit}
-use Rattle.mg_model.specs.State.{ObjectRow, Thread}
-use Rattle.mg_vcache.specs.Seats.{AllBacked, is_kept}
-use Rattle.mg_volume.specs.Calls.{Reads}
-use Rattle.mg_volume.specs.Held.{VolumeHeld}
-use Rattle.mg_volume.specs.Meaning.{now_of, objects_in, threads_in}
+use Rattle.mg_access.{proofs.Tried.{known-at, tried, within}, specs.{Finding.Finds, FindingLemmas.error, KnownLemmas.rows_tell}}
+use Rattle.{mg_access.specs.Searching.allowed_row, mg_disk.specs.{Stops.CountRose, declared.disk.Disk.Ghosts}, mg_model.specs.Access.covers}
+use Rattle.mg_model.specs.{Accesses.Access, Kept.{access_limit, is_known}, Keys.{Key, seat_of}, Limits.search_limit, State.{ObjectRow, Thread}}
+use Rattle.{mg_model.specs.declared.{rights.Right.Right, seats.Seat.Seat}, mg_vcache.specs.Seats.{AllBacked, is_kept}, mg_volume.specs.Calls.Reads}
+use Rattle.{mg_volume.specs.{Held.VolumeHeld, Meaning.{now_of, objects_in, threads_in}}, std.proofs.Common.{ℕ, ◌≡◌, ◌≢◌, ◌≤◌, ◌+◌, ◌==◌, true, false}}
+use Rattle.std.{proofs.Common.{List, Option, Some, None, Result, Ok, Err, refl, sym, subst, ◌∙◌, arith}, specs.{Option.ForSome, Prelude.IfSome}}
+use Rattle.std.specs.Prelude.{IsErr, find}
 
 module _ {D : Type 0} (facts : Ghosts D) (t a : ℕ) (right : Right) (old new : VolumeHeld) where
   abbrev access : Access

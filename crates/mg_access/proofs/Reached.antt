@@ -1,18 +1,9 @@
 -- What slots reach, in terms of rows.
-use Rattle.std.proofs.Common.{ℕ, ◌≡◌, ◌==◌, ◌&&◌, Bool, true, false, List, [], if◌then◌else◌, Option, Some, None, sym, ap, ◌∙◌}
-use Rattle.std.specs.Prelude.{find, map, option_map}
-use Rattle.std.specs.List.{list_any}
-use Rattle.std.specs.Option.{option_map_or}
-use Rattle.mg_access.proofs.Apart.{found-none, found-object}
-use Rattle.mg_access.specs.KnownLemmas.{find-rows}
-use Rattle.mg_access.proofs.Entries.{reaches-at}
-use Rattle.mg_access.specs.Searching.{opens, reached_row, slot_opens, words_based}
-use Rattle.mg_access.specs.declared.lists.Sought.{Sought}
-use Rattle.mg_model.specs.declared.rights.Right.{Right}
-use Rattle.mg_model.specs.declared.rights.Right.TheVariants.{R}
-use Rattle.mg_model.specs.declared.slots.Slot.{Slot}
-use Rattle.mg_model.specs.Access.{at, based_at, capabilities, covers, pairs_of, holds, reaches}
-use Rattle.mg_model.specs.State.{Object, ObjectRow, State}
+use Rattle.mg_access.{proofs.{Apart.{found-none, found-object}, Entries.reaches-at}, specs.{KnownLemmas.find-rows, Searching.{opens, reached_row}}}
+use Rattle.{mg_access.specs.{Searching.{slot_opens, words_based}, declared.lists.Sought.Sought}, mg_model.specs.Access.{at, based_at, capabilities}}
+use Rattle.mg_model.specs.{Access.{covers, pairs_of, holds, reaches}, State.{Object, ObjectRow, State}, declared.rights.Right.{Right, TheVariants.R}}
+use Rattle.{mg_model.specs.declared.slots.Slot.Slot, std.proofs.Common.{ℕ, ◌≡◌, ◌==◌, ◌&&◌, Bool, true, false, List, [], if◌then◌else◌, Option, Some}}
+use Rattle.std.{proofs.Common.{None, sym, ap, ◌∙◌}, specs.{List.list_any, Option.option_map_or, Prelude.{find, map, option_map}}}
 
 -- a slot whose base has no object opens nothing
 pub slot-none : (state : State) (sought : Sought) (slot : Slot) → find (λ (r : ObjectRow). r.base == slot.base) (map (λ (o : Object). o.row) state.objects) ≡ None → slot_opens state sought slot ≡ false

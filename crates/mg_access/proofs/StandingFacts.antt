@@ -1,22 +1,10 @@
 -- What is known of the state of a volume that stands on a disk.
-use Rattle.std.proofs.Common.{ℕ, ◌+◌, ◌*◌, ◌/◌, ◌<◌, ◌≡◌, ◌==◌, ◌&&◌, Bool, true, false, length, Option, None, Some, refl, sym, subst}
-use Rattle.std.specs.Prelude.{IsSome, find, nat_le, slice_index}
-use Rattle.std.specs.List.{list_all}
-use Rattle.mg_disk.specs.Disk.{Image}
-use Rattle.mg_access.proofs.Apart.{word-based}
-use Rattle.mg_access.specs.Searching.{words_based}
-use Rattle.mg_model.specs.Bank.{used}
-use Rattle.mg_model.specs.Objects.{word_at}
-use Rattle.mg_model.specs.State.{Object, ObjectRow, State}
-use Rattle.mg_model.specs.Tests.{is_object_row}
-use Rattle.mg_model.specs.WellFormed.{IsWellFormed}
-use Rattle.mg_model.specs.Volume.{accounts_fit, are_apart, threads_fit}
-use Rattle.mg_volume.specs.Held.{VolumeHeld}
-use Rattle.mg_volume.specs.FormedLemmas.{formed_sound}
-use Rattle.mg_volume.specs.StateLemmas.{now_rows}
-use Rattle.mg_volume.specs.Meaning.{IsSpelledBy, is_sound, now_of, objects_in}
-use Rattle.mg_volume.specs.RangeLemmas.{held_rows}
-use Rattle.mg_volume.specs.RunLemmas.{told_rows}
+use Rattle.{mg_access.{proofs.Apart.word-based, specs.Searching.words_based}, mg_disk.specs.Disk.Image, mg_model.specs.{Bank.used, Objects.word_at}}
+use Rattle.mg_model.specs.{State.{Object, ObjectRow, State}, Tests.is_object_row, Volume.{accounts_fit, are_apart, threads_fit}}
+use Rattle.{mg_model.specs.WellFormed.IsWellFormed, mg_volume.specs.{FormedLemmas.formed_sound, Held.VolumeHeld, Meaning.{IsSpelledBy, is_sound}}}
+use Rattle.{mg_volume.specs.{Meaning.{now_of, objects_in}, RangeLemmas.held_rows, RunLemmas.told_rows, StateLemmas.now_rows}, std.proofs.Common.ℕ}
+use Rattle.std.proofs.Common.{◌+◌, ◌*◌, ◌/◌, ◌<◌, ◌≡◌, ◌==◌, ◌&&◌, Bool, true, false, length, Option, None, Some, refl, sym, subst}
+use Rattle.std.specs.{List.list_all, Prelude.{IsSome, find, nat_le, slice_index}}
 
 middle : (a b c d e : Bool) → (a && (b && c && d) && e) ≡ true → b ≡ true
 middle true true c d e h = refl

@@ -1,20 +1,10 @@
 -- The rule of one access, from what was found.
-use Rattle.std.proofs.Common.{ℕ, ◌≡◌, ◌≢◌, ◌≤◌, ◌+◌, ◌-◌, ◌==◌, Bool, not, true, false, List, [], ◌∷◌, if◌then◌else◌, Option, Some, None, refl, sym, ap, subst, ◌∙◌, arith}
-use Rattle.std.specs.Prelude.{IfSome, find, option_map, slice_set}
-use Rattle.std.specs.Option.{option_map_or, option_to_list}
-use Rattle.std.proofs.lemmas.Bool.{and_parts, eq-eqb}
-use Rattle.std.proofs.lemmas.List.{get_or-set_other}
-use Rattle.mg_access.specs.Known.{rows_know}
-use Rattle.mg_access.specs.Searching.{allowed_row}
-use Rattle.mg_access.specs.WordLemmas.{taken-none}
-use Rattle.mg_model.specs.declared.rights.Right.{Right}
-use Rattle.mg_model.specs.declared.seats.Seat.{Seat}
-use Rattle.mg_model.specs.Access.{allowed, at, covers}
-use Rattle.mg_model.specs.Kept.{Validates, access_limit}
-use Rattle.mg_model.specs.Keys.{Key, is_elsewhere, is_key, seat_of}
-use Rattle.mg_model.specs.Limits.{search_limit}
-use Rattle.mg_model.specs.State.{Object, ObjectRow, State}
-use Rattle.mg_vcache.specs.Seats.{is_kept, key_in}
+use Rattle.{mg_access.specs.{Known.rows_know, Searching.allowed_row, WordLemmas.taken-none}, mg_model.specs.Access.{allowed, at, covers}}
+use Rattle.mg_model.specs.{Kept.{Validates, access_limit}, Keys.{Key, is_elsewhere, is_key, seat_of}, Limits.search_limit, State.{Object, ObjectRow}}
+use Rattle.{mg_model.specs.{State.State, declared.{rights.Right.Right, seats.Seat.Seat}}, mg_vcache.specs.Seats.{is_kept, key_in}}
+use Rattle.std.proofs.Common.{ℕ, ◌≡◌, ◌≢◌, ◌≤◌, ◌+◌, ◌-◌, ◌==◌, Bool, not, true, false, List, [], ◌∷◌, if◌then◌else◌, Option, Some, None, refl, sym}
+use Rattle.std.{proofs.{Common.{ap, subst, ◌∙◌, arith}, lemmas.{Bool.{and_parts, eq-eqb}, List.get_or-set_other}}, specs.Option.option_map_or}
+use Rattle.std.specs.{Option.option_to_list, Prelude.{IfSome, find, option_map, slice_set}}
 
 module _ (t a : ℕ) (right : Right) where
   -- the key of a row

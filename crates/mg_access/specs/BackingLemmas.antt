@@ -1,18 +1,9 @@
 -- Lemmas on what a call without the disk leaves of the rights that are kept, by the law on its row.
-use Rattle.std.specs.Prelude.{ℕ, Bool, List, Option}
-use Rattle.std.proofs.Common.{ap, subst}
-use Rattle.mg_access.specs.Backing.{StayBacked}
-use Rattle.mg_disk.specs.Disk.{Image}
-use Rattle.mg_model.specs.declared.replies.Reply.{Reply}
-use Rattle.mg_model.specs.declared.seats.Seat.{Seat}
-use Rattle.mg_model.specs.Backed.{KeepsBacked, by_none}
-use Rattle.mg_model.specs.Refused.{Answer}
-use Rattle.mg_model.specs.State.{State}
-use Rattle.mg_model.specs.WellFormed.{IsWellFormed}
-use Rattle.mg_vcache.specs.Drops.{Drops}
-use Rattle.mg_vcache.specs.SeatLemmas.{backed_still, drops_backed}
-use Rattle.mg_volume.specs.Calls.{Answers, CallStages}
-use Rattle.mg_volume.specs.Held.{VolumeHeld}
+use Rattle.std.{proofs.Common.{ap, subst}, specs.Prelude.{ℕ, Bool, List, Option}}
+use Rattle.{mg_access.specs.Backing.StayBacked, mg_disk.specs.Disk.Image, mg_model.specs.Backed.{KeepsBacked, by_none}}
+use Rattle.mg_model.specs.{Refused.Answer, State.State, WellFormed.IsWellFormed, declared.replies.Reply.Reply}
+use Rattle.{mg_model.specs.declared.seats.Seat.Seat, mg_vcache.specs.{Drops.Drops, SeatLemmas.backed_still}}
+use Rattle.{mg_vcache.specs.SeatLemmas.drops_backed, mg_volume.specs.{Calls.{Answers, CallStages}, Held.VolumeHeld}}
 use Rattle.mg_volume.specs.Meaning.{IsSpelledBy, now_of}
 
 module _ (row : State → Answer) (ended : Seat → Bool) (most : ℕ) (old new : VolumeHeld) (seats seats' : List (Option Seat)) (reply : Reply) where

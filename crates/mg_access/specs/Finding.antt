@@ -1,18 +1,11 @@
 -- What an access keeps, one fact a field.
-use Rattle.std.specs.Prelude.{ℕ, ◌≡◌, ◌≤◌, ◌+◌, ◌-◌, ◌==◌, find, List, Option, None, Result, IfOk, OnErr, OnOk}
-use Rattle.std.specs.Option.{ForSome}
-use Rattle.mg_access.specs.Searching.{word_accesses}
-use Rattle.mg_disk.specs.Stops.{CountRose}
-use Rattle.mg_disk.specs.declared.disk.Disk.{Ghosts}
-use Rattle.mg_model.specs.declared.seats.Seat.{Seat}
-use Rattle.mg_model.specs.Accesses.{Access}
-use Rattle.mg_model.specs.Kept.{KeepsRules, Validates, access_limit, searches_limit}
-use Rattle.mg_model.specs.Limits.{search_limit}
-use Rattle.mg_model.specs.State.{Thread}
-use Rattle.mg_vcache.specs.Seats.{AllBacked, is_kept}
-use Rattle.mg_volume.specs.Calls.{Reads}
-use Rattle.mg_volume.specs.Held.{VolumeHeld}
-use Rattle.mg_volume.specs.Meaning.{now_of, threads_in}
+use Rattle.std.specs.{Option.ForSome, Prelude.{ℕ, ◌≡◌, ◌≤◌, ◌+◌, ◌-◌, ◌==◌, find, List, Option, None, Result, IfOk}}
+use Rattle.std.specs.Prelude.{OnErr, OnOk}
+use Rattle.{mg_access.specs.Searching.word_accesses, mg_disk.specs.{Stops.CountRose, declared.disk.Disk.Ghosts}}
+use Rattle.mg_model.specs.{Accesses.Access, Kept.{KeepsRules, Validates, access_limit, searches_limit}}
+use Rattle.mg_model.specs.{Limits.search_limit, State.Thread, declared.seats.Seat.Seat}
+use Rattle.{mg_vcache.specs.Seats.{AllBacked, is_kept}, mg_volume.specs.{Calls.Reads, Held.VolumeHeld, Meaning.now_of}}
+use Rattle.mg_volume.specs.Meaning.{threads_in}
 
 -- What a search for an access keeps, whether the row of the object is the answer, or its base, or the list by which it is reached.
 pub record Finds {D A E : Type 0} (facts : Ghosts D) (access : Access) (result : Result (Option A) E) (old new : VolumeHeld) (seats seats' : List (Option Seat)) (before after : D) (steps steps' : ℕ) : Type 0 where

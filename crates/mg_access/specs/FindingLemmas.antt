@@ -1,19 +1,10 @@
 -- Lemmas on what the access of a word keeps, by what the search for it keeps.
-use Rattle.std.specs.Prelude.{ℕ, ◌≡◌, true, IsErr, List, Option, Result, Ok, Err}
-use Rattle.std.proofs.Common.{refl, sym, subst}
-use Rattle.mg_access.specs.Finding.{Finds, FindsWord}
-use Rattle.mg_access.specs.ReachedLemmas.{gone_held}
-use Rattle.mg_access.specs.WordLemmas.{tested-limit, tested-rules}
-use Rattle.mg_disk.specs.declared.disk.Disk.{Ghosts}
-use Rattle.mg_laws.specs.Costs.{SearchesKeepRules}
-use Rattle.mg_model.specs.declared.rights.Right.{Right}
-use Rattle.mg_model.specs.declared.seats.Seat.{Seat}
-use Rattle.mg_model.specs.Accesses.{Access}
-use Rattle.mg_model.specs.Kept.{Searches}
-use Rattle.mg_model.specs.ObjectCalls.{is_aligned}
-use Rattle.mg_vcache.specs.Seats.{is_kept}
-use Rattle.mg_volume.specs.Held.{VolumeHeld}
-use Rattle.mg_volume.specs.Meaning.{now_of}
+use Rattle.std.{proofs.Common.{refl, sym, subst}, specs.Prelude.{ℕ, ◌≡◌, true, IsErr, List, Option, Result, Ok, Err}}
+use Rattle.mg_access.specs.{Finding.{Finds, FindsWord}, ReachedLemmas.gone_held, WordLemmas.tested-limit}
+use Rattle.{mg_access.specs.WordLemmas.tested-rules, mg_disk.specs.declared.disk.Disk.Ghosts}
+use Rattle.{mg_laws.specs.Costs.SearchesKeepRules, mg_model.specs.{Accesses.Access, Kept.Searches}}
+use Rattle.mg_model.specs.{ObjectCalls.is_aligned, declared.{rights.Right.Right, seats.Seat.Seat}}
+use Rattle.{mg_vcache.specs.Seats.is_kept, mg_volume.specs.{Held.VolumeHeld, Meaning.now_of}}
 
 -- an answer that is an error
 pub error : {A E : Type 0} (result : Result A E) → IsErr result → (e : E) × (result ≡ Err e)

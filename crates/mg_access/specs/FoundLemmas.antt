@@ -1,12 +1,8 @@
 -- Lemmas on what is found in a list: it passes the test and is in the list, and each address of a row that is found has a page.
-use Rattle.std.proofs.Common.{ℕ, ◌+◌, ◌*◌, ◌/◌, ◌≡◌, ◌||◌, Bool, true, false, List, [], ◌∷◌, if◌then◌else◌, Some, refl, sym, ap, ◌∙◌, arith}
-use Rattle.std.specs.Prelude.{find, nat_le, nat_lt}
-use Rattle.std.specs.List.{list_any}
-use Rattle.std.proofs.lemmas.Bool.{and_from, and_parts, leb-true, le-leb, lt-ltb, ltb-true, or_left, or_right}
-use Rattle.mg_model.specs.Access.{covers}
-use Rattle.mg_model.specs.Ranges.{IsPlace}
-use Rattle.mg_model.specs.State.{ObjectRow}
-use Rattle.mg_volume.specs.Meaning.{is_page_in}
+use Rattle.std.proofs.Common.{ℕ, ◌+◌, ◌*◌, ◌/◌, ◌≡◌, ◌||◌, Bool, true, false, List, [], ◌∷◌, if◌then◌else◌, Some, refl}
+use Rattle.std.proofs.{Common.{sym, ap, ◌∙◌, arith}, lemmas.Bool.{and_from, and_parts, leb-true, le-leb, lt-ltb}}
+use Rattle.std.{proofs.lemmas.Bool.{ltb-true, or_left, or_right}, specs.{List.list_any, Prelude.{find, nat_le, nat_lt}}}
+use Rattle.{mg_model.specs.{Access.covers, Ranges.IsPlace, State.ObjectRow}, mg_volume.specs.Meaning.is_page_in}
 
 -- what is found passes the test
 pub found-passes : {X : Type 0} (test : X → Bool) (xs : List X) (x : X) → find test xs ≡ Some x → test x ≡ true

@@ -1,10 +1,6 @@
 -- Whether the key of an access is kept, by the rows of the objects alone.
-use Rattle.std.specs.Prelude.{ℕ, Bool, false, List, find, Option}
-use Rattle.std.specs.Option.{option_map_or}
-use Rattle.mg_model.specs.declared.rights.Right.{Right}
-use Rattle.mg_model.specs.declared.seats.Seat.{Seat}
-use Rattle.mg_model.specs.Access.{covers}
-use Rattle.mg_model.specs.State.{ObjectRow}
+use Rattle.std.specs.{Option.option_map_or, Prelude.{ℕ, Bool, false, List, find, Option}}
+use Rattle.mg_model.specs.{Access.covers, State.ObjectRow, declared.{rights.Right.Right, seats.Seat.Seat}}
 use Rattle.mg_vcache.specs.Seats.{is_kept}
 
 -- an address that none of these objects has has no key

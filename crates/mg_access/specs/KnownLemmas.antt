@@ -1,17 +1,9 @@
 -- Lemmas on what rows say of the objects of a state.
-use Rattle.std.specs.Prelude.{ℕ, ◌≡◌, Bool, true, false, List, [], ◌∷◌, if◌then◌else◌, find, map, option_map, Option, Some, None}
-use Rattle.std.specs.Option.{option_map_or}
-use Rattle.std.proofs.Common.{refl, sym, ap, ◌∙◌}
-use Rattle.mg_access.specs.Known.{rows_know}
-use Rattle.mg_disk.specs.Disk.{Image}
-use Rattle.mg_model.specs.declared.rights.Right.{Right}
-use Rattle.mg_model.specs.declared.seats.Seat.{Seat}
-use Rattle.mg_model.specs.Access.{at, covers}
-use Rattle.mg_model.specs.Kept.{is_known}
-use Rattle.mg_model.specs.State.{Object, ObjectRow}
-use Rattle.mg_vcache.specs.Seats.{is_kept}
-use Rattle.mg_volume.specs.Held.{VolumeHeld}
-use Rattle.mg_volume.specs.Meaning.{now_of, objects_in}
+use Rattle.std.{proofs.Common.{refl, sym, ap, ◌∙◌}, specs.{Option.option_map_or, Prelude.{ℕ, ◌≡◌, Bool, true, false}}}
+use Rattle.std.specs.Prelude.{List, [], ◌∷◌, if◌then◌else◌, find, map, option_map, Option, Some, None}
+use Rattle.{mg_access.specs.Known.rows_know, mg_disk.specs.Disk.Image, mg_model.specs.Access.{at, covers}}
+use Rattle.mg_model.specs.{Kept.is_known, State.{Object, ObjectRow}, declared.{rights.Right.Right, seats.Seat.Seat}}
+use Rattle.{mg_vcache.specs.Seats.is_kept, mg_volume.specs.{Held.VolumeHeld, Meaning.{now_of, objects_in}}}
 use Rattle.mg_volume.specs.RunLemmas.{told_rows}
 
 -- a row that is found is that of the object that is found

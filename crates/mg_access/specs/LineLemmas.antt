@@ -1,15 +1,10 @@
 -- Lemmas on lines of accesses: what a line keeps and costs, from the accesses that it made.
-use Rattle.std.specs.Prelude.{ℕ, ◌≡◌, ◌≤◌, ◌+◌, ◌-◌, ◌==◌, ◌&&◌, Bool, not, true, false, List, [], ◌∷◌, ◌++◌, if◌then◌else◌}
-use Rattle.std.proofs.Common.{arith, refl, ap, ◌∙◌}
-use Rattle.std.proofs.lemmas.Bool.{eq-eqb}
-use Rattle.mg_laws.specs.Costs.{SearchesKeepRules}
-use Rattle.mg_model.specs.declared.calls.Line.{Line}
-use Rattle.mg_model.specs.Accesses.{Access, accesses, line_words}
-use Rattle.mg_model.specs.Kept.{KeepsKeys, KeepsLine, KeepsRules, Searches, Validates, access_limit, is_served, line_limit, searches_limit}
-use Rattle.mg_model.specs.Keys.{Key, is_elsewhere, seat_of, taken}
-use Rattle.mg_model.specs.State.{State}
-use Rattle.mg_model.specs.Threads.{is_thread}
-use Rattle.mg_model.specs.Warmth.{failing, is_disturbing}
+use Rattle.std.{proofs.{Common.{arith, refl, ap, ◌∙◌}, lemmas.Bool.eq-eqb}, specs.Prelude.{ℕ, ◌≡◌, ◌≤◌, ◌+◌, ◌-◌, ◌==◌}}
+use Rattle.std.specs.Prelude.{◌&&◌, Bool, not, true, false, List, [], ◌∷◌, ◌++◌, if◌then◌else◌}
+use Rattle.{mg_laws.specs.Costs.SearchesKeepRules, mg_model.specs.Accesses.{Access, accesses, line_words}}
+use Rattle.mg_model.specs.Kept.{KeepsKeys, KeepsLine, KeepsRules, Searches, Validates, access_limit, is_served}
+use Rattle.mg_model.specs.{Kept.{line_limit, searches_limit}, Keys.{Key, is_elsewhere, seat_of, taken}, State.State}
+use Rattle.mg_model.specs.{Threads.is_thread, Warmth.{failing, is_disturbing}, declared.calls.Line.Line}
 
 -- a line that was answered
 pub keeps_line : (state : State) (line : Line) (kept kept' : Key → Bool) (steps steps' words : ℕ) → KeepsRules state (accesses state line) kept kept' words → steps' ≡ steps + line_words state line + words

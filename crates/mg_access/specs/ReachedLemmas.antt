@@ -1,22 +1,13 @@
 -- Lemmas on what was reached: what the row that is found says of the access, and steps of a search through a list.
-use Rattle.std.proofs.Common.{ℕ, suc, ◌+◌, ◌<◌, ◌≤◌, ◌≡◌, ◌||◌, ◌&&◌, ◌==◌, Bool, true, false, List, length, get_or, drop, if◌then◌else◌, Option, Some, None, refl, sym, ap, ◌∙◌, arith}
-use Rattle.std.specs.Prelude.{[], find, is_some, option_map}
-use Rattle.std.specs.List.{list_any}
-use Rattle.std.specs.Option.{option_map_or}
-use Rattle.std.proofs.Math.Seq.{drop-cons}
-use Rattle.std.proofs.lemmas.List.{drop_all}
-use Rattle.mg_access.specs.Searching.{allowed_row, reached_row}
-use Rattle.mg_disk.specs.Disk.{Image}
-use Rattle.mg_model.specs.declared.rights.Right.{Right}
-use Rattle.mg_model.specs.Access.{allowed, at, capabilities, domain_of, holds, last_slots, thread_of}
-use Rattle.mg_model.specs.Abbreviations.{no_row}
-use Rattle.mg_model.specs.ObjectCalls.{row_at}
-use Rattle.mg_model.specs.State.{Object, ObjectRow, State, Thread}
-use Rattle.mg_model.specs.Threads.{is_thread}
-use Rattle.mg_volume.specs.Held.{VolumeHeld}
-use Rattle.mg_volume.specs.StateLemmas.{now_threads}
-use Rattle.mg_volume.specs.Meaning.{Keeps, now_of, threads_in}
-use Rattle.mg_volume.specs.RunLemmas.{told_thread}
+use Rattle.std.proofs.Common.{ℕ, suc, ◌+◌, ◌<◌, ◌≤◌, ◌≡◌, ◌||◌, ◌&&◌, ◌==◌, Bool, true, false, List, length, get_or}
+use Rattle.std.proofs.{Common.{drop, if◌then◌else◌, Option, Some, None, refl, sym, ap, ◌∙◌, arith}, Math.Seq.drop-cons}
+use Rattle.std.{proofs.lemmas.List.drop_all, specs.{List.list_any, Option.option_map_or, Prelude.{[], find, is_some}}}
+use Rattle.std.specs.Prelude.{option_map}
+use Rattle.{mg_access.specs.Searching.{allowed_row, reached_row}, mg_disk.specs.Disk.Image}
+use Rattle.mg_model.specs.{Abbreviations.no_row, Access.{allowed, at, capabilities, domain_of, holds, last_slots}}
+use Rattle.mg_model.specs.{Access.thread_of, ObjectCalls.row_at, State.{Object, ObjectRow, State, Thread}}
+use Rattle.{mg_model.specs.{Threads.is_thread, declared.rights.Right.Right}, mg_volume.specs.Held.VolumeHeld}
+use Rattle.mg_volume.specs.{Meaning.{Keeps, now_of, threads_in}, RunLemmas.told_thread, StateLemmas.now_threads}
 
 -- when a row is reached the access is allowed, and the row is that of the address
 reached-when : (v : Bool) (o : Option Object) (row : ObjectRow) → Some row ≡ (if v then option_map (λ (object : Object). object.row) o else None) → (v ≡ true) × (option_map_or (λ (object : Object). object.row) o no_row ≡ row)

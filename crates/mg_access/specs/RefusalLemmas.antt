@@ -1,9 +1,6 @@
 -- Lemmas on the refusals of a call that begins with the access of a word: what follows of the tests after it.
-use Rattle.std.specs.Prelude.{◌≡◌, ◌∷◌, [], Bool, true, false, List, Some, None}
-use Rattle.std.proofs.Common.{refl}
-use Rattle.mg_model.specs.declared.replies.Refusal.{Refusal}
-use Rattle.mg_model.specs.declared.replies.Refusal.TheVariants.{Align, Denied}
-use Rattle.mg_model.specs.Refused.{first_refusal}
+use Rattle.std.{proofs.Common.refl, specs.Prelude.{◌≡◌, ◌∷◌, [], Bool, true, false, List, Some, None}}
+use Rattle.mg_model.specs.{Refused.first_refusal, declared.replies.Refusal.{Refusal, TheVariants.{Align, Denied}}}
 
 -- when neither of its tests holds, the later ones decide
 pub access_passed : (v w : Bool) (more : List (Bool × Refusal)) → first_refusal ((v, Align) ∷ (w, Denied) ∷ []) ≡ None → first_refusal ((v, Align) ∷ (w, Denied) ∷ more) ≡ first_refusal more

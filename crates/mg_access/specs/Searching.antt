@@ -1,20 +1,12 @@
 -- What the search for an access asks of the words of an object.
-use Rattle.std.specs.Prelude.{ℕ, ◌≡◌, true, Contains, ◌+◌, ◌*◌, ◌==◌, ◌&&◌, Bool, not, List, [], ◌∷◌, find, if◌then◌else◌, option_map, slice_index, Option, None, Some}
-use Rattle.std.specs.List.{list_any}
-use Rattle.std.specs.Option.{option_map_or}
-use Rattle.mg_access.specs.declared.lists.Sought.{Sought}
-use Rattle.mg_model.specs.declared.replies.Refusal.{Refusal}
-use Rattle.mg_model.specs.declared.replies.Refusal.TheVariants.{Align, Denied}
-use Rattle.mg_model.specs.declared.rights.Right.{Right}
-use Rattle.mg_model.specs.declared.slots.Slot.{Slot}
-use Rattle.mg_model.specs.Accesses.{Access, word_access}
-use Rattle.mg_model.specs.Threads.{is_thread}
-use Rattle.mg_model.specs.Access.{allowed, at, based_at, covers, pairs_under, holds, reaches}
-use Rattle.mg_model.specs.ObjectCalls.{is_aligned}
-use Rattle.mg_model.specs.Refused.{first_refusal}
-use Rattle.mg_model.specs.State.{Object, ObjectRow, State}
-use Rattle.mg_volume.specs.Held.{VolumeHeld}
-use Rattle.mg_volume.specs.Meaning.{counters_in, objects_in}
+use Rattle.std.specs.{List.list_any, Option.option_map_or, Prelude.{ℕ, ◌≡◌, true, Contains, ◌+◌, ◌*◌, ◌==◌, ◌&&◌, Bool}}
+use Rattle.std.specs.Prelude.{not, List, [], ◌∷◌, find, if◌then◌else◌, option_map, slice_index, Option, None, Some}
+use Rattle.{mg_access.specs.declared.lists.Sought.Sought, mg_model.specs.Access.{allowed, at, based_at, covers}}
+use Rattle.mg_model.specs.{Access.{pairs_under, holds, reaches}, Accesses.{Access, word_access}, ObjectCalls.is_aligned}
+use Rattle.mg_model.specs.{Refused.first_refusal, State.{Object, ObjectRow, State}, Threads.is_thread}
+use Rattle.mg_model.specs.declared.{replies.Refusal.{Refusal, TheVariants.{Align, Denied}}, rights.Right.Right}
+use Rattle.{mg_model.specs.declared.slots.Slot.Slot, mg_volume.specs.{Held.VolumeHeld, Meaning.counters_in}}
+use Rattle.mg_volume.specs.Meaning.{objects_in}
 
 -- the object that is sought is the object that has this address, at the period of a volume
 pub record IsSoughtAt (v : VolumeHeld) (address : ℕ) (sought : Sought) : Type 0 where

@@ -1,23 +1,10 @@
 -- What a call with the disk keeps, one fact a field.
-use Rattle.std.specs.Prelude.{ℕ, ◌≡◌, ◌≤◌, ◌+◌, Bool, List, Option, Result, IfOk, OnErr, OnOk}
-use Rattle.std.specs.Option.{ForSome}
-use Rattle.mg_disk.specs.Stops.{CountRose}
-use Rattle.mg_disk.specs.declared.disk.Disk.{Ghosts}
-use Rattle.mg_model.specs.declared.calls.Call.{Call}
-use Rattle.mg_model.specs.declared.calls.Line.{Line}
-use Rattle.mg_model.specs.declared.replies.Reply.{Reply}
-use Rattle.mg_model.specs.declared.seats.Seat.{Seat}
-use Rattle.mg_model.specs.FewSlots.{HasFewSlots}
-use Rattle.mg_model.specs.Kept.{KeepsLine, line_limit}
-use Rattle.mg_model.specs.Keys.{Key}
-use Rattle.mg_model.specs.Refused.{Answer, IsRefusal}
-use Rattle.mg_model.specs.State.{State}
-use Rattle.mg_model.specs.Step.{step}
-use Rattle.mg_model.specs.Turn.{thread_call}
-use Rattle.mg_vcache.specs.Seats.{AllBacked, is_kept}
-use Rattle.mg_volume.specs.Calls.{Reads, Serves}
-use Rattle.mg_volume.specs.Held.{VolumeHeld}
-use Rattle.mg_volume.specs.Meaning.{Keeps, now_of, staged_in}
+use Rattle.std.specs.{Option.ForSome, Prelude.{ℕ, ◌≡◌, ◌≤◌, ◌+◌, Bool, List, Option, Result, IfOk, OnErr, OnOk}}
+use Rattle.{mg_disk.specs.{Stops.CountRose, declared.disk.Disk.Ghosts}, mg_model.specs.FewSlots.HasFewSlots}
+use Rattle.mg_model.specs.{Kept.{KeepsLine, line_limit}, Keys.Key, Refused.{Answer, IsRefusal}, State.State, Step.step}
+use Rattle.mg_model.specs.{Turn.thread_call, declared.{calls.{Call.Call, Line.Line}, replies.Reply.Reply}}
+use Rattle.{mg_model.specs.declared.seats.Seat.Seat, mg_vcache.specs.Seats.{AllBacked, is_kept}}
+use Rattle.mg_volume.specs.{Calls.{Reads, Serves}, Held.VolumeHeld, Meaning.{Keeps, now_of, staged_in}}
 
 -- A call, as its contract speaks of it: its row of the definition; which keys stay kept and how many words are counted if it
 -- is answered; and how many are counted at most, be it answered or not.

@@ -1,22 +1,11 @@
 -- Lemmas on what a call with the disk keeps: of one that was answered after reads alone, and of one that reads and might have staged.
-use Rattle.std.specs.Prelude.{ℕ, ◌≡◌, ◌-◌, List, Option, Result, Ok, Err}
-use Rattle.std.specs.Option.{ForSome}
-use Rattle.std.proofs.Common.{arith, sym, ap, ◌∙◌}
-use Rattle.mg_access.specs.LineLemmas.{keeps_line}
-use Rattle.mg_access.specs.Served.{CallReads, CallRow, CallServes, of_call}
-use Rattle.mg_disk.specs.declared.disk.Disk.{Ghosts}
-use Rattle.mg_model.specs.declared.calls.Call.{Call}
-use Rattle.mg_model.specs.declared.calls.Line.{Line}
-use Rattle.mg_model.specs.declared.replies.Reply.{Reply}
-use Rattle.mg_model.specs.declared.seats.Seat.{Seat}
-use Rattle.mg_model.specs.Accesses.{accesses, line_words}
-use Rattle.mg_model.specs.FewSlots.{HasFewSlots}
-use Rattle.mg_model.specs.Kept.{KeepsLine, KeepsRules}
-use Rattle.mg_model.specs.Turn.{thread_call}
-use Rattle.mg_vcache.specs.Seats.{AllBacked, is_kept}
-use Rattle.mg_volume.specs.Calls.{Reads}
-use Rattle.mg_volume.specs.Held.{VolumeHeld}
-use Rattle.mg_volume.specs.Meaning.{now_of}
+use Rattle.std.{proofs.Common.{arith, sym, ap, ◌∙◌}, specs.{Option.ForSome, Prelude.{ℕ, ◌≡◌, ◌-◌, List, Option}}}
+use Rattle.std.specs.Prelude.{Result, Ok, Err}
+use Rattle.mg_access.specs.{LineLemmas.keeps_line, Served.{CallReads, CallRow, CallServes, of_call}}
+use Rattle.{mg_disk.specs.declared.disk.Disk.Ghosts, mg_model.specs.Accesses.{accesses, line_words}}
+use Rattle.mg_model.specs.{FewSlots.HasFewSlots, Kept.{KeepsLine, KeepsRules}, Turn.thread_call}
+use Rattle.mg_model.specs.declared.{calls.{Call.Call, Line.Line}, replies.Reply.Reply, seats.Seat.Seat}
+use Rattle.{mg_vcache.specs.Seats.{AllBacked, is_kept}, mg_volume.specs.{Calls.Reads, Held.VolumeHeld, Meaning.now_of}}
 use Rattle.mg_volume.specs.RunLemmas.{reads_serve}
 
 module _ {D E : Type 0} (facts : Ghosts D) (old new : VolumeHeld) (seats seats' : List (Option Seat)) (before after : D) (steps steps' : ℕ) where

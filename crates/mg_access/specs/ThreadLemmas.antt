@@ -1,14 +1,9 @@
 -- The row of a thread that lives, as it is held and as the state has it.
-use Rattle.std.specs.Prelude.{◌≡◌, ◌==◌, ◌||◌, ℕ, Bool, true, false, List, [], ◌∷◌, find, if◌then◌else◌, option_map, IfSome, Option, Some, None}
-use Rattle.std.specs.List.{list_any}
-use Rattle.std.specs.Option.{option_map_or}
-use Rattle.std.proofs.Common.{refl, ap, ◌∙◌}
-use Rattle.mg_disk.specs.Disk.{Image}
-use Rattle.mg_model.specs.Access.{last_slots, thread_of}
-use Rattle.mg_model.specs.State.{Thread, ThreadRow}
-use Rattle.mg_volume.specs.Held.{VolumeHeld}
-use Rattle.mg_volume.specs.Meaning.{now_of, threads_in}
-use Rattle.mg_volume.specs.RunLemmas.{told_thread}
+use Rattle.std.{proofs.Common.{refl, ap, ◌∙◌}, specs.{List.list_any, Option.option_map_or, Prelude.{◌≡◌, ◌==◌, ◌||◌}}}
+use Rattle.std.specs.Prelude.{ℕ, Bool, true, false, List, [], ◌∷◌, find, if◌then◌else◌, option_map, IfSome, Option}
+use Rattle.std.specs.Prelude.{Some, None}
+use Rattle.{mg_disk.specs.Disk.Image, mg_model.specs.{Access.{last_slots, thread_of}, State.{Thread, ThreadRow}}}
+use Rattle.mg_volume.specs.{Held.VolumeHeld, Meaning.{now_of, threads_in}, RunLemmas.told_thread}
 
 -- a thread that lives has a row
 pub lives-row : (t : ℕ) (threads : List Thread) → list_any (λ (thread : Thread). thread.number == t) threads ≡ true → option_map (λ (thread : Thread). thread.row) (find (λ (thread : Thread). thread.number == t) threads) ≡ None → ⊥

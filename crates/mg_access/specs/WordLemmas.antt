@@ -1,21 +1,13 @@
 -- Lemmas on the access of a word: why it is refused, and what it keeps and counts, by what was reached.
-use Rattle.std.proofs.Common.{ℕ, ◌≡◌, ◌≤◌, ◌+◌, ◌-◌, Bool, not, true, false, [], ◌∷◌, if◌then◌else◌, Option, Some, None, refl, sym, ap, subst, ◌∙◌, arith}
-use Rattle.std.specs.Prelude.{option_map}
-use Rattle.std.specs.Option.{option_to_list}
-use Rattle.mg_access.specs.LineLemmas.{none_rules, one_limit, one_rules}
-use Rattle.mg_access.specs.ReachedLemmas.{nobody_reaches, reached_allowed, reached_none, thread_gone}
-use Rattle.mg_access.specs.Searching.{access_refusal, allowed_row, word_accesses}
-use Rattle.mg_laws.specs.Costs.{SearchesKeepRules}
-use Rattle.mg_model.specs.declared.replies.Refusal.TheVariants.{Align, Denied}
-use Rattle.mg_model.specs.declared.rights.Right.{Right}
-use Rattle.mg_model.specs.Access.{allowed, at}
-use Rattle.mg_model.specs.Accesses.{Access, word_access}
-use Rattle.mg_model.specs.Kept.{KeepsRules, Searches, Validates, access_limit, searches_limit}
-use Rattle.mg_model.specs.Keys.{Key, is_elsewhere, taken}
-use Rattle.mg_model.specs.ObjectCalls.{is_aligned}
-use Rattle.mg_model.specs.Refused.{first_refusal}
-use Rattle.mg_model.specs.State.{Object, ObjectRow, State}
-use Rattle.mg_model.specs.Threads.{is_thread}
+use Rattle.std.proofs.Common.{ℕ, ◌≡◌, ◌≤◌, ◌+◌, ◌-◌, Bool, not, true, false, [], ◌∷◌, if◌then◌else◌, Option, Some, None}
+use Rattle.std.{proofs.Common.{refl, sym, ap, subst, ◌∙◌, arith}, specs.{Option.option_to_list, Prelude.option_map}}
+use Rattle.mg_access.specs.{LineLemmas.{none_rules, one_limit, one_rules}, ReachedLemmas.nobody_reaches}
+use Rattle.mg_access.specs.{ReachedLemmas.{reached_allowed, reached_none, thread_gone}, Searching.access_refusal}
+use Rattle.{mg_access.specs.Searching.{allowed_row, word_accesses}, mg_laws.specs.Costs.SearchesKeepRules}
+use Rattle.mg_model.specs.{Access.{allowed, at}, Accesses.{Access, word_access}, Kept.{KeepsRules, Searches, Validates}}
+use Rattle.mg_model.specs.{Kept.{access_limit, searches_limit}, Keys.{Key, is_elsewhere, taken}, ObjectCalls.is_aligned}
+use Rattle.mg_model.specs.{Refused.first_refusal, State.{Object, ObjectRow, State}, Threads.is_thread}
+use Rattle.mg_model.specs.declared.{replies.Refusal.TheVariants.{Align, Denied}, rights.Right.Right}
 
 module _ (t a : ℕ) (right : Right) where
   -- an access that reaches nothing takes no seat

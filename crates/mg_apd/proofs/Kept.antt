@@ -1,10 +1,7 @@
 -- The slots that a mask keeps, one after another.
-use Rattle.std.specs.Prelude.{◌≡◌, ◌≤◌, ◌<◌, ◌+◌, ◌/◌, ◌%◌, ◌^◌, ◌==◌, ◌++◌, ◌∷◌, [], ℕ, Bool, true, false, if◌then◌else◌, List, length, drop}
-use Rattle.std.proofs.Common.{arith, get_or, refl, subst, sym, ap, ◌∙◌}
-use Rattle.std.proofs.lemmas.List.{append_assoc, drop_more, length-append}
-use Rattle.mg_model.specs.declared.slots.Slot.{Slot}
-use Rattle.mg_model.specs.Domains.{kept_from}
-use Rattle.mg_model.specs.State.{CallFrame}
+use Rattle.{mg_model.specs.{Domains.kept_from, State.CallFrame, declared.slots.Slot.Slot}, std.proofs.Common.{arith, get_or, refl, subst, sym, ap}}
+use Rattle.std.{proofs.{Common.◌∙◌, lemmas.List.{append_assoc, drop_more, length-append}}, specs.Prelude.{◌≡◌, ◌≤◌, ◌<◌, ◌+◌, ◌/◌, ◌%◌, ◌^◌, ◌==◌}}
+use Rattle.std.specs.Prelude.{◌++◌, ◌∷◌, [], ℕ, Bool, true, false, if◌then◌else◌, List, length, drop}
 
 -- the slots before place i are done: the frame has those of them that are kept, and the others are to come
 pub record IsKeptTo (mask at i : ℕ) (slots : List Slot) (frame : CallFrame) : Type 0 where

@@ -1,9 +1,6 @@
 -- Other slots in the last frame.
+use Rattle.{mg_model.specs.{Domains.{last_back, with_last_slots}, State.CallFrame}, std.{proofs.Common.{arith, ap, ◌∙◌}, specs.Option.option_map_or}}
 use Rattle.std.specs.Prelude.{◌≡◌, ◌≤◌, ◌-◌, ◌++◌, ◌∷◌, [], suc, List, length, slice_get, take}
-use Rattle.std.specs.Option.{option_map_or}
-use Rattle.std.proofs.Common.{arith, ap, ◌∙◌}
-use Rattle.mg_model.specs.Domains.{last_back, with_last_slots}
-use Rattle.mg_model.specs.State.{CallFrame}
 
 -- the last frame takes the place of the frame that goes
 pub last_put : (frames : List CallFrame) (last : CallFrame) → 1 ≤ length frames → last.back ≡ last_back frames → take (length frames - 1) frames ++ last ∷ [] ≡ with_last_slots frames last.slots

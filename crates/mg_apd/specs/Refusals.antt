@@ -1,14 +1,8 @@
 -- Why a change of a thread's frames is refused: the first reason against it.
-use Rattle.std.specs.Prelude.{ℕ, ◌++◌, ◌∷◌, [], nat_le, nat_lt, List, length, Option}
-use Rattle.std.specs.Option.{option_to_list}
-use Rattle.mg_model.specs.declared.replies.Refusal.{Refusal}
-use Rattle.mg_model.specs.declared.replies.Refusal.TheVariants.{Depth, NoFrame, NoSlot, SlotFull}
-use Rattle.mg_model.specs.declared.slots.Slot.{Slot}
-use Rattle.mg_model.specs.Access.{last_slots}
-use Rattle.mg_model.specs.Domains.{kept_from}
-use Rattle.mg_model.specs.Limits.{frame_limit, slot_limit}
-use Rattle.mg_model.specs.Refused.{first_refusal}
-use Rattle.mg_model.specs.State.{ThreadRow}
+use Rattle.std.specs.{Option.option_to_list, Prelude.{ℕ, ◌++◌, ◌∷◌, [], nat_le, nat_lt, List, length, Option}}
+use Rattle.mg_model.specs.{Access.last_slots, Domains.kept_from, Limits.{frame_limit, slot_limit}}
+use Rattle.mg_model.specs.{Refused.first_refusal, State.ThreadRow, declared.replies.Refusal.Refusal}
+use Rattle.mg_model.specs.declared.{replies.Refusal.TheVariants.{Depth, NoFrame, NoSlot, SlotFull}, slots.Slot.Slot}
 
 -- against one slot more
 abbrev pub pushing_refusal : ThreadRow → Option Refusal

@@ -1,32 +1,19 @@
 -- What is printed assembles to itself.
-use Rattle.std.proofs.Common.{◌≡◌, ℕ, ◌+◌, ◌-◌, ◌*◌, ◌^◌, ◌<◌, ◌≤◌, nat_lt, Bool, true, false, List, [], ◌∷◌, ◌++◌, length, filter, All, Option, Some, None, IfSome, Ok, Err, if◌then◌else◌, codes, refl, ap, sym, ◌∙◌, subst, rules, arith, append_assoc}
-use Rattle.std.specs.Fmt.{decimal}
-use Rattle.std.specs.Option.{option_map_or}
-use Rattle.std.specs.Result.{result_flatten}
-use Rattle.std.proofs.lemmas.Bool.{lt-ltb}
-use Rattle.std.proofs.lemmas.Bool.Decides.{nat_tests}
-use Rattle.std.proofs.lemmas.Fmt.{decimal_nonempty}
-use Rattle.std.proofs.lemmas.List.Elements.{All-head, All-tail}
-use Rattle.mg_asm.specs.declared.faults.AsmKind.TheVariants.{Register, TooLong}
-use Rattle.mg_asm.specs.declared.items.Item.{Item}
+use Rattle.mg_asm.proofs.{Numbers.{distance_of-back, immediate_of-back, name_of-signed, register_of-back, signed-high}, Stepwise.items-stepwise}
+use Rattle.mg_asm.{proofs.Stepwise.{items_behind, with_item, words-stepwise, words_behind, words_in-more}, specs.Assembled.{assembled, behind}}
+use Rattle.mg_asm.specs.{Assembled.{word_limit, words_in, words_of}, LineLemmas.{AreWords, all-words, line-misses, newline_low, number-word}}
+use Rattle.mg_asm.specs.{LineLemmas.{some_word, split-before, split-spaced, split-whole}, Printed.{instruction_words, printed, printed_words}}
+use Rattle.mg_asm.specs.{Printed.{signed_text, word_line}, Reading.{as_word, from, jump_to, line_reading, on_ok, reading, register_1_and_immediate}}
+use Rattle.mg_asm.specs.{Reading.{registers_2, registers_2_and_immediate, registers_3}, Tokens.{begins_note, first_piece, is_gap, line_tokens}}
+use Rattle.{mg_asm.specs.{Tokens.tokens, declared.{faults.AsmKind.TheVariants.{Register, TooLong}, items.Item.Item}}, mg_model.specs.Print.hex_text}
+use Rattle.mg_model.specs.{Print.spaced, Ranges.IsWord, Script.decoded, Words.{is_newline, is_some_word}, declared.instructions.Instr.Instr}
+use Rattle.{mg_script.specs.{DecodedLemmas.{decoded-registers, decoded-word}, Encoded.{HasRegisters, encoded}}, mg_text.specs.NumberLemmas.High}
+use Rattle.{mg_text.specs.NumberLemmas.{hex-high, hex-some, number_of-hex}, std.proofs.Common.{◌≡◌, ℕ, ◌+◌, ◌-◌, ◌*◌, ◌^◌, ◌<◌, ◌≤◌, nat_lt, Bool}}
+use Rattle.std.proofs.Common.{true, false, List, [], ◌∷◌, ◌++◌, length, filter, All, Option, Some, None, IfSome, Ok, Err, if◌then◌else◌, codes, refl}
+use Rattle.std.proofs.{Common.{ap, sym, ◌∙◌, subst, rules, arith, append_assoc}, lemmas.{Bool.{lt-ltb, Decides.nat_tests}, Fmt.decimal_nonempty}}
+use Rattle.std.{proofs.lemmas.List.Elements.{All-head, All-tail}, specs.{Fmt.decimal, List.slice_split, Option.option_map_or, Result.result_flatten}}
 use Rattle.mg_asm.specs.declared.items.Item.TheVariants as item
-use Rattle.mg_asm.specs.Assembled.{assembled, behind, word_limit, words_in, words_of}
-use Rattle.mg_asm.specs.LineLemmas.{AreWords, all-words, line-misses, newline_low, number-word, some_word, split-before, split-spaced, split-whole}
-use Rattle.mg_asm.specs.Printed.{instruction_words, printed, printed_words, signed_text, word_line}
-use Rattle.mg_asm.specs.Reading.{as_word, from, jump_to, line_reading, on_ok, reading, register_1_and_immediate, registers_2, registers_2_and_immediate, registers_3}
-use Rattle.mg_asm.specs.Tokens.{begins_note, first_piece, is_gap, line_tokens, tokens}
-use Rattle.mg_asm.proofs.Numbers.{distance_of-back, immediate_of-back, name_of-signed, register_of-back, signed-high}
-use Rattle.mg_asm.proofs.Stepwise.{items-stepwise, items_behind, with_item, words-stepwise, words_behind, words_in-more}
-use Rattle.mg_text.specs.NumberLemmas.{High, hex-high, hex-some, number_of-hex}
-use Rattle.mg_model.specs.declared.instructions.Instr.{Instr}
 use Rattle.mg_model.specs.declared.instructions.Instr.TheVariants as op
-use Rattle.mg_model.specs.Print.{hex_text, spaced}
-use Rattle.mg_model.specs.Ranges.{IsWord}
-use Rattle.mg_model.specs.Script.{decoded}
-use Rattle.std.specs.List.{slice_split}
-use Rattle.mg_model.specs.Words.{is_newline, is_some_word}
-use Rattle.mg_script.specs.DecodedLemmas.{decoded-registers, decoded-word}
-use Rattle.mg_script.specs.Encoded.{HasRegisters, encoded}
 
 gap_low : (b : ℕ) → 45 ≤ b → is_gap b ≡ false
 gap_low b h = grind (arith, nat_tests)

@@ -1,18 +1,11 @@
 -- The lines that store words are read as calls that do.
-use Rattle.std.proofs.Common.{◌≡◌, ℕ, ◌+◌, ◌*◌, ◌^◌, ◌<◌, ◌≤◌, true, List, [], ◌∷◌, ◌++◌, length, slice_index, All, Some, codes, refl, ap, ◌∙◌, arith, append_assoc, length-append}
-use Rattle.std.specs.Fmt.{decimal}
+use Rattle.mg_asm.specs.{LineLemmas.{AreWords, length-hex_text, lines-read}, Stored.{store_calls, store_line, store_lines}}
+use Rattle.mg_model.specs.{Lines.{exactly, line_with, lines}, Print.{hex_text, spaced}, Ranges.IsWord, Words.{is_some_word, numbers_of}}
+use Rattle.{mg_model.specs.declared.calls.Line.Line, mg_text.specs.NumberLemmas.{High, hex-high, hex-some, number_of-hex}, std.proofs.Common.{◌≡◌, ℕ}}
+use Rattle.std.proofs.Common.{◌+◌, ◌*◌, ◌^◌, ◌<◌, ◌≤◌, true, List, [], ◌∷◌, ◌++◌, length, slice_index, All, Some, codes, refl, ap, ◌∙◌, arith}
+use Rattle.std.{proofs.{Common.{append_assoc, length-append}, lemmas.{Fmt.length-decimal-le, List.Elements.{All-head, All-tail}}}, specs.Fmt.decimal}
 use Rattle.std.specs.Option.{option_map_or}
-use Rattle.std.proofs.lemmas.Fmt.{length-decimal-le}
-use Rattle.std.proofs.lemmas.List.Elements.{All-head, All-tail}
-use Rattle.mg_asm.specs.Stored.{store_calls, store_line, store_lines}
-use Rattle.mg_asm.specs.LineLemmas.{AreWords, length-hex_text, lines-read}
-use Rattle.mg_text.specs.NumberLemmas.{High, hex-high, hex-some, number_of-hex}
 use Rattle.mg_model.specs.declared.calls.Call.TheVariants as call
-use Rattle.mg_model.specs.declared.calls.Line.{Line}
-use Rattle.mg_model.specs.Lines.{exactly, line_with, lines}
-use Rattle.mg_model.specs.Print.{hex_text, spaced}
-use Rattle.mg_model.specs.Ranges.{IsWord}
-use Rattle.mg_model.specs.Words.{is_some_word, numbers_of}
 
 -- the words after the thread's number
 abbrev parts : ℕ → ℕ → List (List ℕ)

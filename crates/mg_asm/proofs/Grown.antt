@@ -1,10 +1,8 @@
 -- How printed texts grow at their end.
-use Rattle.std.proofs.Common.{◌≡◌, ℕ, zero, suc, ◌+◌, ◌-◌, ◌*◌, ◌/◌, ◌%◌, ◌<◌, List, [], ◌∷◌, ◌++◌, length, get_or, map, take, refl, ap, sym, ◌∙◌, append_assoc, arith, length-take}
+use Rattle.mg_asm.specs.{Printed.{operand_text, printed, word_line}, Stored.{store_line, store_lines}, declared.printing.Operand.Operand}
+use Rattle.{mg_model.specs.Print.{hex_digit, hex_digits, hex_text, spaced}, std.proofs.Common.{◌≡◌, ℕ, zero, suc, ◌+◌, ◌-◌, ◌*◌, ◌/◌, ◌%◌, ◌<◌, List}}
+use Rattle.std.proofs.Common.{[], ◌∷◌, ◌++◌, length, get_or, map, take, refl, ap, sym, ◌∙◌, append_assoc, arith, length-take}
 use Rattle.std.proofs.lemmas.List.{append-nil, map_more, take_more}
-use Rattle.mg_asm.specs.declared.printing.Operand.{Operand}
-use Rattle.mg_asm.specs.Printed.{operand_text, printed, word_line}
-use Rattle.mg_asm.specs.Stored.{store_line, store_lines}
-use Rattle.mg_model.specs.Print.{hex_digit, hex_digits, hex_text, spaced}
 
 printed_append : (ws : List ℕ) (w : ℕ) → printed (ws ++ w ∷ []) ≡ printed ws ++ (word_line w ++ 10 ∷ [])
 printed_append [] w = refl

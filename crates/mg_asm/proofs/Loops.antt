@@ -1,12 +1,6 @@
 -- The items of lines with one line more.
-use Rattle.std.proofs.Common.{arith}
-use Rattle.std.proofs.Common.{◌≡◌, ℕ, ◌+◌, List, [], ◌∷◌, ◌++◌, length, Ok, ap}
-use Rattle.mg_asm.specs.declared.items.Item.{Item}
-use Rattle.mg_asm.specs.Assembled.{behind}
-use Rattle.mg_asm.specs.Reading.{line_reading}
-use Rattle.mg_asm.proofs.Stepwise.{items_behind, with_item}
-use Rattle.std.specs.List.{slice_split}
-use Rattle.mg_model.specs.Words.{is_newline}
+use Rattle.mg_asm.{proofs.Stepwise.{items_behind, with_item}, specs.{Assembled.behind, Reading.line_reading, declared.items.Item.Item}}
+use Rattle.{mg_model.specs.Words.is_newline, std.{proofs.Common.{arith, ◌≡◌, ℕ, ◌+◌, List, [], ◌∷◌, ◌++◌, length, Ok, ap}, specs.List.slice_split}}
 
 -- one line more
 lines-at : (before : List Item) (bytes line : List ℕ) (lines : List (List ℕ)) → slice_split is_newline bytes ≡ line ∷ lines

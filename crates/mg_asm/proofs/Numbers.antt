@@ -1,13 +1,9 @@
 -- The numbers of a line of the assembler are read back as they are printed.
-use Rattle.std.proofs.Common.{◌≡◌, ℕ, ◌+◌, ◌-◌, ◌^◌, ◌<◌, ◌≤◌, ◌==◌, nat_lt, Bool, true, false, List, [], ◌∷◌, length, Some, None, if◌then◌else◌, refl, ap, ◌∙◌, arith}
-use Rattle.std.specs.Fmt.{decimal}
-use Rattle.std.proofs.lemmas.Bool.{lt-ltb}
-use Rattle.std.proofs.lemmas.Bool.Decides.{nat_tests}
-use Rattle.std.proofs.lemmas.Fmt.{decimal_digit, decimal_nonempty, length-decimal-le}
-use Rattle.mg_asm.specs.Printed.{signed_text}
-use Rattle.mg_asm.specs.Tokens.{below, decimal_of, distance_of, immediate_of, is_name, name_of, register_of, turned_back}
-use Rattle.mg_model.specs.Words.{and_then}
-use Rattle.mg_text.specs.NumberLemmas.{Digits, High, decimal-digits, digits-high, number_of-back, value-decimal, within}
+use Rattle.mg_asm.specs.{Printed.signed_text, Tokens.{below, decimal_of, distance_of, immediate_of, is_name, name_of, register_of, turned_back}}
+use Rattle.{mg_model.specs.Words.and_then, mg_text.specs.NumberLemmas.{Digits, High, decimal-digits, digits-high, number_of-back, value-decimal}}
+use Rattle.{mg_text.specs.NumberLemmas.within, std.proofs.Common.{◌≡◌, ℕ, ◌+◌, ◌-◌, ◌^◌, ◌<◌, ◌≤◌, ◌==◌, nat_lt, Bool, true, false, List, [], ◌∷◌}}
+use Rattle.std.proofs.{Common.{length, Some, None, if◌then◌else◌, refl, ap, ◌∙◌, arith}, lemmas.{Bool.{lt-ltb, Decides.nat_tests}, Fmt.decimal_digit}}
+use Rattle.std.{proofs.lemmas.Fmt.{decimal_nonempty, length-decimal-le}, specs.Fmt.decimal}
 
 pub decimal_of-back : (n : ℕ) → n < 2 ^ 64 → decimal_of (decimal n) ≡ Some n
 decimal_of-back n fits =

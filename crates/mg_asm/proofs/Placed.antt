@@ -1,15 +1,9 @@
 -- The places of labels, as items join.
-use Rattle.std.proofs.Common.{◌≡◌, ℕ, ◌+◌, Bool, true, false, List, [], ◌∷◌, ◌++◌, Option, Some, None, if◌then◌else◌, Result, Ok, Err, refl, sym, ap, ◌∙◌, subst, rules, arith}
-use Rattle.std.specs.HashMap.{HashMap}
-use Rattle.std.specs.Prelude.{OnOk}
-use Rattle.std.specs.Cmp.Lexicographic.{bytes_decides}
-use Rattle.mg_asm.specs.Assembled.{behind, is_label, place_from, place_of, size, words_in}
-use Rattle.mg_asm.specs.Labels.{AreLabels, IsPlaced, KeepsLabel, place_in}
-use Rattle.mg_asm.specs.Reading.{Reading}
-use Rattle.mg_asm.specs.declared.items.Item.{Item}
+use Rattle.mg_asm.specs.{Assembled.{behind, is_label, place_from, place_of, size, words_in}, Labels.{AreLabels, IsPlaced, KeepsLabel, place_in}}
+use Rattle.{mg_asm.specs.{Reading.Reading, declared.{items.Item.Item, names.Name.Name}}, mg_model.specs.Words.same_bytes, std.proofs.Common.{◌≡◌, ℕ}}
+use Rattle.std.proofs.Common.{◌+◌, Bool, true, false, List, [], ◌∷◌, ◌++◌, Option, Some, None, if◌then◌else◌, Result, Ok, Err, refl, sym, ap, ◌∙◌}
+use Rattle.std.{proofs.Common.{subst, rules, arith}, specs.{Cmp.Lexicographic.bytes_decides, HashMap.HashMap, Prelude.OnOk}}
 use Rattle.mg_asm.specs.declared.items.Item.TheVariants as item
-use Rattle.mg_asm.specs.declared.names.Name.{Name}
-use Rattle.mg_model.specs.Words.{same_bytes}
 
 -- the first of two, if there is one
 abbrev or_else : Option ℕ → Option ℕ → Option ℕ

@@ -1,21 +1,13 @@
 -- The words of a text as a loop over its lines finds them.
-use Rattle.std.proofs.Common.{◌≡◌, ℕ, ◌+◌, ◌*◌, ◌^◌, nat_lt, Bool, true, false, List, [], ◌∷◌, ◌++◌, length, map, take, flat_map, if◌then◌else◌, Option, Some, None, is_some, Result, Ok, Err, refl, ap, sym, ◌∙◌, append_assoc, add_assoc, arith, length-append}
-use Rattle.std.specs.List.{enumerate_from}
-use Rattle.std.specs.Option.{option_map_or, option_to_list}
-use Rattle.std.specs.Result.{is_ok, ok_prefix}
-use Rattle.std.proofs.Math.Seq.{take-append_seam}
-use Rattle.std.proofs.lemmas.Grind.{flat_map-append}
-use Rattle.std.proofs.lemmas.Bool.{false≢true}
-use Rattle.std.proofs.lemmas.List.{append-nil, map-append}
-use Rattle.mg_asm.specs.declared.faults.AsmFault.{AsmFault}
-use Rattle.mg_asm.specs.declared.faults.AsmFault.TheVariants.{At}
-use Rattle.mg_asm.specs.declared.faults.AsmKind.{AsmKind}
-use Rattle.mg_asm.specs.declared.faults.AsmKind.TheVariants.{NoLabel, TooLong, Twice}
-use Rattle.mg_asm.specs.declared.items.Item.{Item}
-use Rattle.mg_asm.specs.declared.items.Item.TheVariants as item
 use Rattle.mg_asm.specs.Assembled.{all_given, behind, distance, item_at, items_of, made_at, place_of, size, word_at, word_limit, words_in, words_of}
-use Rattle.mg_asm.specs.Listed.{listed_at, listed_line, listed_lines, with_room}
-use Rattle.mg_asm.specs.Reading.{Reading, line_reading, on_ok}
+use Rattle.mg_asm.specs.{Listed.{listed_at, listed_line, listed_lines, with_room}, Reading.{Reading, line_reading, on_ok}}
+use Rattle.mg_asm.specs.declared.faults.{AsmFault.{AsmFault, TheVariants.At}, AsmKind.{AsmKind, TheVariants.{NoLabel, TooLong, Twice}}}
+use Rattle.{mg_asm.specs.declared.items.Item.Item, std.proofs.Common.{◌≡◌, ℕ, ◌+◌, ◌*◌, ◌^◌, nat_lt, Bool, true, false, List, [], ◌∷◌, ◌++◌, length}}
+use Rattle.std.proofs.Common.{map, take, flat_map, if◌then◌else◌, Option, Some, None, is_some, Result, Ok, Err, refl, ap, sym, ◌∙◌, append_assoc}
+use Rattle.std.proofs.{Common.{add_assoc, arith, length-append}, Math.Seq.take-append_seam, lemmas.{Bool.false≢true, Grind.flat_map-append}}
+use Rattle.std.{proofs.lemmas.List.{append-nil, map-append}, specs.{List.enumerate_from, Option.{option_map_or, option_to_list}, Result.is_ok}}
+use Rattle.std.specs.Result.{ok_prefix}
+use Rattle.mg_asm.specs.declared.items.Item.TheVariants as item
 
 -- what follows of the item of line n, or its fault
 abbrev pub with_item : {X : Type 0} → ℕ → Reading → (Item → Result X AsmFault) → Result X AsmFault

@@ -1,18 +1,11 @@
 -- What a text assembles to.
-use Rattle.std.specs.Prelude.{ℕ, ◌+◌, ◌-◌, ◌*◌, ◌%◌, ◌^◌, nat_lt, Bool, false, List, [], ◌∷◌, map, take, flat_map, if◌then◌else◌, Option, Some, None, Result, Ok, Err, is_some}
-use Rattle.std.specs.List.{enumerate_from, slice_split}
-use Rattle.std.specs.Option.{option_map_or, option_to_list}
-use Rattle.std.specs.Result.{ok_prefix, result_flatten}
-use Rattle.mg_asm.specs.declared.faults.AsmFault.{AsmFault}
-use Rattle.mg_asm.specs.declared.faults.AsmFault.TheVariants.{At}
-use Rattle.mg_asm.specs.declared.faults.AsmKind.{AsmKind}
-use Rattle.mg_asm.specs.declared.faults.AsmKind.TheVariants.{Twice, TooLong, NoLabel}
-use Rattle.mg_asm.specs.declared.items.Item.{Item}
+use Rattle.std.specs.{List.{enumerate_from, slice_split}, Option.{option_map_or, option_to_list}, Prelude.{ℕ, ◌+◌, ◌-◌}}
+use Rattle.std.specs.Prelude.{◌*◌, ◌%◌, ◌^◌, nat_lt, Bool, false, List, [], ◌∷◌, map, take, flat_map, if◌then◌else◌}
+use Rattle.std.specs.{Prelude.{Option, Some, None, Result, Ok, Err, is_some}, Result.{ok_prefix, result_flatten}}
+use Rattle.mg_asm.specs.{Reading.{Reading, line_reading, on_ok}, declared.faults.AsmFault.{AsmFault, TheVariants.At}}
+use Rattle.mg_asm.specs.declared.{faults.AsmKind.{AsmKind, TheVariants.{Twice, TooLong, NoLabel}}, items.Item.Item}
+use Rattle.{mg_asm.specs.declared.names.Name.Name, mg_model.specs.{Script.word_end, Words.{is_newline, same_bytes}}}
 use Rattle.mg_asm.specs.declared.items.Item.TheVariants as item
-use Rattle.mg_asm.specs.declared.names.Name.{Name}
-use Rattle.mg_asm.specs.Reading.{Reading, line_reading, on_ok}
-use Rattle.mg_model.specs.Script.{word_end}
-use Rattle.mg_model.specs.Words.{is_newline, same_bytes}
 
 -- the most words that a text may have
 abbrev pub word_limit : ℕ

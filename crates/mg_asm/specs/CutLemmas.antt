@@ -1,7 +1,7 @@
 -- The first piece of bytes, and the bytes after the cut.
-use Rattle.std.proofs.Common.{◌≡◌, ℕ, suc, ◌+◌, ◌-◌, ◌<◌, Bool, true, false, not, List, [], ◌∷◌, length, take, drop, refl, ap, arith, length-drop}
-use Rattle.std.proofs.lemmas.List.{take_all}
-use Rattle.std.specs.List.{prefix_len, slice_split}
+use Rattle.std.proofs.Common.{◌≡◌, ℕ, suc, ◌+◌, ◌-◌, ◌<◌, Bool, true, false, not, List, [], ◌∷◌, length, take, drop}
+use Rattle.std.{proofs.{Common.{refl, ap, arith, length-drop}, lemmas.List.take_all}, specs.List.prefix_len}
+use Rattle.std.specs.List.{slice_split}
 
 -- the number of bytes before the first cut
 abbrev before : (ℕ → Bool) → List ℕ → ℕ

@@ -1,10 +1,8 @@
 -- The text of a fault.
-use Rattle.std.specs.Prelude.{ℕ, List, [], ◌∷◌, ◌++◌, codes}
-use Rattle.std.specs.Fmt.{decimal}
-use Rattle.mg_asm.specs.declared.faults.AsmFault.{AsmFault}
-use Rattle.mg_asm.specs.declared.faults.AsmFault.TheVariants.{Memory, At}
-use Rattle.mg_asm.specs.declared.faults.AsmKind.{AsmKind}
-use Rattle.mg_asm.specs.declared.faults.AsmKind.TheVariants.{Unknown, Operands, Register, Number, Twice, TooLong, NoLabel}
+use Rattle.std.specs.{Fmt.decimal, Prelude.{ℕ, List, [], ◌∷◌, ◌++◌, codes}}
+use Rattle.mg_asm.specs.declared.faults.{AsmFault.{AsmFault, TheVariants.{Memory, At}}, AsmKind.AsmKind}
+use Rattle.mg_asm.specs.declared.faults.AsmKind.TheVariants.{Unknown, Operands, Register, Number, Twice, TooLong}
+use Rattle.mg_asm.specs.declared.faults.AsmKind.TheVariants.{NoLabel}
 
 abbrev pub kind_name : AsmKind → List ℕ
 kind_name Unknown = codes "Unknown"

@@ -1,11 +1,7 @@
 -- A map of labels by their names.
-use Rattle.std.specs.Prelude.{◌≡◌, ℕ, List, [], ◌∷◌, ◌++◌, Option, Some, Ok, if◌then◌else◌}
-use Rattle.std.specs.HashMap.{HashMap, get_by}
-use Rattle.mg_asm.specs.declared.items.Item.{Item}
-use Rattle.mg_asm.specs.declared.names.Name.{Name}
-use Rattle.mg_asm.specs.Assembled.{behind, place_of, words_in}
-use Rattle.mg_asm.specs.Reading.{Reading}
-use Rattle.mg_model.specs.Words.{same_bytes}
+use Rattle.std.specs.{HashMap.{HashMap, get_by}, Prelude.{◌≡◌, ℕ, List, [], ◌∷◌, ◌++◌, Option, Some, Ok, if◌then◌else◌}}
+use Rattle.mg_asm.specs.{Assembled.{behind, place_of, words_in}, Reading.Reading, declared.items.Item.Item}
+use Rattle.{mg_asm.specs.declared.names.Name.Name, mg_model.specs.Words.same_bytes}
 
 module _ {S : Type 0} where
   -- the place that a map has for these bytes

@@ -1,15 +1,10 @@
 -- A line of words as they are printed is read as those words.
-use Rattle.std.specs.Prelude.{◌≡◌, ℕ, ◌^◌, ◌<◌, ◌≤◌, ◌==◌, nat_lt, Bool, true, false, List, [], ◌∷◌, ◌++◌, length, filter, Some, None, if◌then◌else◌}
-use Rattle.std.specs.Fmt.{decimal}
-use Rattle.std.specs.List.{cons_option, filter_map, slice_split}
-use Rattle.std.specs.Option.{option_map_or}
-use Rattle.std.proofs.Common.{refl, ap, ◌∙◌, arith}
-use Rattle.std.proofs.lemmas.Bool.Decides.{nat_tests}
-use Rattle.std.proofs.lemmas.Fmt.{decimal_nonempty}
-use Rattle.std.proofs.lemmas.List.{append-nil}
-use Rattle.mg_model.specs.Abbreviations.{is_among, lone_words, longest_line}
-use Rattle.mg_model.specs.Lines.{bad_line, call_line, is_note, line_of, line_of_words, lines, spelled_line, thread_line}
-use Rattle.mg_model.specs.Print.{hex_text, spaced}
+use Rattle.std.proofs.{Common.{refl, ap, ◌∙◌, arith}, lemmas.{Bool.Decides.nat_tests, Fmt.decimal_nonempty}}
+use Rattle.std.{proofs.lemmas.List.append-nil, specs.{Fmt.decimal, List.{cons_option, filter_map, slice_split}}}
+use Rattle.std.specs.{Option.option_map_or, Prelude.{◌≡◌, ℕ, ◌^◌, ◌<◌, ◌≤◌, ◌==◌, nat_lt, Bool, true, false, List, []}}
+use Rattle.std.specs.Prelude.{◌∷◌, ◌++◌, length, filter, Some, None, if◌then◌else◌}
+use Rattle.mg_model.specs.{Abbreviations.{is_among, lone_words, longest_line}, Lines.{bad_line, call_line, is_note}}
+use Rattle.mg_model.specs.{Lines.{line_of, line_of_words, lines, spelled_line, thread_line}, Print.{hex_text, spaced}}
 use Rattle.mg_model.specs.Words.{is_blank, is_newline, is_some_word, number_of, words}
 use Rattle.mg_text.specs.NumberLemmas.{Digits, High, decimal-digits, digits-high, length-hex, number_of-back}
 

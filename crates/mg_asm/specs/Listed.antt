@@ -1,14 +1,9 @@
 -- What a list of words, a number a line, is read as.
-use Rattle.std.specs.Prelude.{ℕ, nat_lt, List, [], ◌∷◌, length, map, take, flat_map, if◌then◌else◌, Option, Some, None, Result, Ok, Err}
-use Rattle.std.specs.List.{enumerate_from, slice_split}
-use Rattle.std.specs.Option.{option_to_list}
+use Rattle.std.specs.{List.{enumerate_from, slice_split}, Option.option_to_list, Prelude.{ℕ, nat_lt, List, [], ◌∷◌}}
+use Rattle.std.specs.Prelude.{length, map, take, flat_map, if◌then◌else◌, Option, Some, None, Result, Ok, Err}
 use Rattle.std.specs.Result.{ok_prefix}
-use Rattle.mg_asm.specs.declared.faults.AsmFault.{AsmFault}
-use Rattle.mg_asm.specs.declared.faults.AsmKind.{AsmKind}
-use Rattle.mg_asm.specs.declared.faults.AsmKind.TheVariants.{Number, Operands, TooLong}
-use Rattle.mg_asm.specs.Assembled.{all_given, word_limit}
-use Rattle.mg_asm.specs.Reading.{from, on_ok, one}
-use Rattle.mg_asm.specs.Tokens.{line_tokens}
+use Rattle.mg_asm.specs.{Assembled.{all_given, word_limit}, Reading.{from, on_ok, one}, Tokens.line_tokens}
+use Rattle.mg_asm.specs.declared.faults.{AsmFault.AsmFault, AsmKind.{AsmKind, TheVariants.{Number, Operands, TooLong}}}
 use Rattle.mg_model.specs.Words.{is_newline, number_of}
 
 -- a line has nothing, or one number

@@ -1,13 +1,10 @@
 -- How words are printed.
-use Rattle.std.specs.Prelude.{ℕ, ◌-◌, ◌^◌, nat_lt, List, [], ◌∷◌, ◌++◌, if◌then◌else◌, codes}
-use Rattle.std.specs.Fmt.{decimal}
-use Rattle.std.specs.Option.{option_map_or}
-use Rattle.mg_asm.specs.declared.printing.Operand.{Operand}
-use Rattle.mg_asm.specs.declared.printing.Operand.TheVariants as operand
+use Rattle.std.specs.{Fmt.decimal, Option.option_map_or, Prelude.{ℕ, ◌-◌, ◌^◌, nat_lt, List, [], ◌∷◌, ◌++◌}}
+use Rattle.std.specs.Prelude.{if◌then◌else◌, codes}
+use Rattle.{mg_asm.specs.declared.printing.Operand.Operand, mg_model.specs.{Print.{hex_text, spaced}, Script.decoded}}
 use Rattle.mg_model.specs.declared.instructions.Instr.{Instr}
+use Rattle.mg_asm.specs.declared.printing.Operand.TheVariants as operand
 use Rattle.mg_model.specs.declared.instructions.Instr.TheVariants as op
-use Rattle.mg_model.specs.Print.{hex_text, spaced}
-use Rattle.mg_model.specs.Script.{decoded}
 
 -- an immediate that is read as signed
 abbrev pub signed_text : ℕ → List ℕ

@@ -1,16 +1,12 @@
 -- The item of a line of a script's text.
-use Rattle.std.specs.Prelude.{ℕ, ◌+◌, ◌*◌, ◌^◌, List, [], ◌∷◌, if◌then◌else◌, Option, Some, None, Result, Ok, Err, codes}
-use Rattle.std.specs.Option.{option_map_or}
-use Rattle.mg_asm.specs.declared.faults.AsmKind.{AsmKind}
-use Rattle.mg_asm.specs.declared.faults.AsmKind.TheVariants.{Unknown, Operands, Register, Number}
-use Rattle.mg_asm.specs.declared.items.Item.{Item}
-use Rattle.mg_asm.specs.declared.items.Item.TheVariants as item
-use Rattle.mg_asm.specs.declared.names.Name.{Name}
+use Rattle.std.specs.{Option.option_map_or, Prelude.{ℕ, ◌+◌, ◌*◌, ◌^◌, List, [], ◌∷◌, if◌then◌else◌, Option, Some}}
+use Rattle.std.specs.Prelude.{None, Result, Ok, Err, codes}
 use Rattle.mg_asm.specs.Tokens.{distance_of, immediate_of, label_of, line_tokens, name_of, register_of}
-use Rattle.mg_model.specs.declared.instructions.Instr.{Instr}
+use Rattle.mg_asm.specs.declared.faults.AsmKind.{AsmKind, TheVariants.{Unknown, Operands, Register, Number}}
+use Rattle.{mg_asm.specs.declared.{items.Item.Item, names.Name.Name}, mg_model.specs.Words.{number_of, same_bytes}}
+use Rattle.{mg_model.specs.declared.instructions.Instr.Instr, mg_script.specs.Encoded.encoded}
+use Rattle.mg_asm.specs.declared.items.Item.TheVariants as item
 use Rattle.mg_model.specs.declared.instructions.Instr.TheVariants as op
-use Rattle.mg_model.specs.Words.{number_of, same_bytes}
-use Rattle.mg_script.specs.Encoded.{encoded}
 
 -- an item, or why there is none
 abbrev pub Reading : Type 0

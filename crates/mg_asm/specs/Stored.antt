@@ -1,9 +1,7 @@
 -- Words as lines of calls that store them.
-use Rattle.std.specs.Prelude.{ℕ, ◌+◌, ◌%◌, ◌^◌, ◌==◌, ◌&&◌, nat_lt, Bool, List, [], ◌∷◌, ◌++◌, codes}
-use Rattle.std.specs.Fmt.{decimal}
+use Rattle.std.specs.{Fmt.decimal, Prelude.{ℕ, ◌+◌, ◌%◌, ◌^◌, ◌==◌, ◌&&◌, nat_lt, Bool, List, [], ◌∷◌, ◌++◌, codes}}
+use Rattle.mg_model.specs.{Print.{hex_text, spaced}, declared.calls.Line.Line}
 use Rattle.mg_model.specs.declared.calls.Call.TheVariants as call
-use Rattle.mg_model.specs.declared.calls.Line.{Line}
-use Rattle.mg_model.specs.Print.{hex_text, spaced}
 
 -- words may be stored at a multiple of 8 below the end of the pages that objects may have
 abbrev pub may_store_at : ℕ → Bool

@@ -1,9 +1,8 @@
 -- From the bytes of a line to its words, and from a word to what it spells.
-use Rattle.std.specs.Prelude.{ℕ, ◌-◌, ◌^◌, ◌==◌, ◌&&◌, ◌||◌, nat_le, nat_lt, Bool, false, List, [], ◌∷◌, length, take, filter, slice_index, if◌then◌else◌, Option, Some, None}
-use Rattle.std.specs.List.{list_all, slice_split}
-use Rattle.mg_asm.specs.declared.names.Name.{Name}
-use Rattle.mg_model.specs.Bytes.{padded_to}
-use Rattle.mg_model.specs.Abbreviations.{below_word}
+use Rattle.std.specs.{List.{list_all, slice_split}, Prelude.{ℕ, ◌-◌, ◌^◌, ◌==◌, ◌&&◌, ◌||◌, nat_le, nat_lt, Bool}}
+use Rattle.std.specs.Prelude.{false, List, [], ◌∷◌, length, take, filter, slice_index, if◌then◌else◌, Option, Some}
+use Rattle.std.specs.Prelude.{None}
+use Rattle.{mg_asm.specs.declared.names.Name.Name, mg_model.specs.{Abbreviations.below_word, Bytes.padded_to}}
 use Rattle.mg_model.specs.Words.{and_then, is_some_word, number_of, value_of_digits}
 
 -- a space or a tab

@@ -1,9 +1,8 @@
 -- The commands, and the words that spell each.
 use Rattle.std.specs.Prelude.{ℕ, ◌^◌, ◌<◌, List, [], ◌∷◌, if◌then◌else◌, Option, Some, None, codes}
-use Rattle.mg_asm.specs.Stored.{may_store_at}
-use Rattle.mg_asm_session.specs.declared.words.Command.{Command}
-use Rattle.mg_asm_session.specs.declared.words.Command.TheVariants.{Print, Store}
-use Rattle.mg_model.specs.Words.{and_then, number_of, same_bytes}
+use Rattle.{mg_asm.specs.Stored.may_store_at, mg_asm_session.specs.declared.words.Command.{Command, TheVariants.Print}}
+use Rattle.{mg_asm_session.specs.declared.words.Command.TheVariants.Store, mg_model.specs.Words.{and_then, number_of}}
+use Rattle.mg_model.specs.Words.{same_bytes}
 
 -- `THREAD ADDRESS`
 abbrev pub store_of : List ℕ → List ℕ → Option Command

@@ -1,20 +1,11 @@
 -- What the program promises. An object that does not tell its content has None for it, and a promise on content is then empty.
-use Rattle.std.specs.Prelude.{ℕ, ◌+◌, ◌^◌, ◌≡◌, ◌≢◌, ◌⊎◌, List, Option, Result, Ok, Err}
-use Rattle.std.specs.Io.KnownBytes.{Appends}
-use Rattle.mg_asm.specs.Assembled.{assembled}
-use Rattle.mg_asm.specs.Listed.{listed}
-use Rattle.mg_asm.specs.Printed.{printed}
-use Rattle.mg_asm.specs.Reading.{on_ok}
-use Rattle.mg_asm.specs.Stored.{store_lines}
-use Rattle.mg_asm.specs.FaultText.{fault_line}
-use Rattle.mg_asm.specs.declared.faults.AsmFault.{AsmFault}
-use Rattle.mg_filter.specs.Whole.{OfWhole, TakesMore}
-use Rattle.mg_filter.specs.declared.status.Status.{Status}
-use Rattle.mg_filter.specs.declared.status.Status.TheVariants as status
-use Rattle.mg_asm_session.specs.declared.words.Command.{Command}
-use Rattle.mg_asm_session.specs.declared.words.Command.TheVariants.{Print, Store}
-use Rattle.mg_faults.specs.Faults.{Rose}
+use Rattle.std.specs.{Io.KnownBytes.Appends, Prelude.{ℕ, ◌+◌, ◌^◌, ◌≡◌, ◌≢◌, ◌⊎◌, List, Option, Result, Ok, Err}}
+use Rattle.mg_asm.specs.{Assembled.assembled, FaultText.fault_line, Listed.listed, Printed.printed, Reading.on_ok}
+use Rattle.mg_asm.specs.{Stored.store_lines, declared.faults.AsmFault.AsmFault}
+use Rattle.mg_asm_session.specs.declared.words.Command.{Command, TheVariants.{Print, Store}}
+use Rattle.{mg_faults.specs.Faults.Rose, mg_filter.specs.{Whole.{OfWhole, TakesMore}, declared.status.Status.Status}}
 use Rattle.mg_io.specs.Known.{AppendsPrefix, TakesAtMost}
+use Rattle.mg_filter.specs.declared.status.Status.TheVariants as status
 use Rattle.mg_io.specs.declared.traits.Sink as sinks
 use Rattle.mg_io.specs.declared.traits.Source as sources
 

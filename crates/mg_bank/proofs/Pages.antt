@@ -1,9 +1,7 @@
 -- For how many pages each account pays.
+use Rattle.{mg_bank.specs.Bank.pages_at, std.proofs.{Common.{sym, ap, ◌∙◌, ⊎_elim, arith}, lemmas.Bool.{cases_eq, cases_lt, cond-false, cond-true}}}
+use Rattle.std.proofs.lemmas.{Bool.{eq-eqb, ne_eqb}, List.{get_or-replicate, get_or-set_other, get_or-set_same, get_or_past, length-replicate}}
 use Rattle.std.specs.Prelude.{◌≡◌, ◌≢◌, ◌<◌, ◌≤◌, ◌==◌, ℕ, List, if◌then◌else◌, length, replicate, slice_set}
-use Rattle.std.proofs.Common.{sym, ap, ◌∙◌, ⊎_elim, arith}
-use Rattle.std.proofs.lemmas.Bool.{cases_eq, cases_lt, cond-false, cond-true, eq-eqb, ne_eqb}
-use Rattle.std.proofs.lemmas.List.{get_or-replicate, get_or-set_other, get_or-set_same, get_or_past, length-replicate}
-use Rattle.mg_bank.specs.Bank.{pages_at}
 
 -- none at first
 pub no_pages : (pages : List ℕ) → pages ≡ replicate 1025 0 → (n : ℕ) → pages_at pages n ≡ 0

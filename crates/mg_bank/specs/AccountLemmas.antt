@@ -1,14 +1,10 @@
 -- Lemmas on accounts by their numbers, and on their credits.
-use Rattle.std.proofs.Common.{◌≡◌, ℕ, zero, suc, ◌+◌, ◌-◌, ◌≤◌, true, List, length, get_or, Option, Some, None, is_some, refl, ap, ◌∙◌, arith}
-use Rattle.std.proofs.lemmas.List.{length-set}
-use Rattle.std.proofs.lemmas.List.Sums.{sum_by-set}
-use Rattle.std.proofs.lemmas.Option.{slice_get-get_or}
-use Rattle.std.specs.Option.{option_map_or}
-use Rattle.mg_bank.specs.Bank.{credits_of}
-use Rattle.mg_model.specs.AccountLemmas.{IsRowOf, account_of-row, some_value}
+use Rattle.std.proofs.Common.{◌≡◌, ℕ, zero, suc, ◌+◌, ◌-◌, ◌≤◌, true, List, length, get_or, Option, Some, None, is_some}
+use Rattle.std.proofs.{Common.{refl, ap, ◌∙◌, arith}, lemmas.List.{length-set, Sums.sum_by-set}}
+use Rattle.std.{proofs.lemmas.Option.slice_get-get_or, specs.Option.option_map_or}
+use Rattle.{mg_bank.specs.Bank.credits_of, mg_model.specs.{Abbreviations.with_account, AccountLemmas.IsRowOf}}
+use Rattle.mg_model.specs.{AccountLemmas.{account_of-row, some_value}, Bank.{account_of, balance_of, credited, debited}}
 use Rattle.mg_model.specs.declared.accounts.AccRow.{AccRow}
-use Rattle.mg_model.specs.Abbreviations.{with_account}
-use Rattle.mg_model.specs.Bank.{account_of, balance_of, credited, debited}
 
 -- the row of each number up to their count
 pub account_of-at : (accounts : List AccRow) (number : ℕ) (d : AccRow) → 1 ≤ number → number ≤ length accounts → account_of accounts number ≡ Some (get_or accounts (number - 1) d)

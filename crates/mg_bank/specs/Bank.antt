@@ -1,8 +1,6 @@
 -- The credits of accounts, and what a bank keeps.
-use Rattle.std.specs.Prelude.{◌≡◌, ◌≤◌, ℕ, List, length, sum_by}
-use Rattle.std.specs.List.{slice_index_or}
-use Rattle.mg_model.specs.declared.accounts.AccRow.{AccRow}
-use Rattle.mg_model.specs.Limits.{account_limit, credit_limit}
+use Rattle.std.specs.{List.slice_index_or, Prelude.{◌≡◌, ◌≤◌, ℕ, List, length, sum_by}}
+use Rattle.mg_model.specs.{Limits.{account_limit, credit_limit}, declared.accounts.AccRow.AccRow}
 
 -- what accounts have together
 abbrev pub credits_of : List AccRow → ℕ

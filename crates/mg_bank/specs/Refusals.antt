@@ -1,11 +1,8 @@
 -- Why accounts refuse, the first reason against it, and what holds if there is none.
 use Rattle.std.specs.Prelude.{◌≡◌, ◌≤◌, ◌<◌, ◌||◌, ◌∷◌, [], ℕ, List, true, nat_le, nat_lt, not, length, is_some, Option}
-use Rattle.mg_model.specs.declared.accounts.AccRow.{AccRow}
-use Rattle.mg_model.specs.declared.replies.Refusal.{Refusal}
-use Rattle.mg_model.specs.declared.replies.Refusal.TheVariants.{Account, Credit, Limit}
-use Rattle.mg_model.specs.Bank.{account_of, balance_of, opens}
-use Rattle.mg_model.specs.Limits.{account_limit}
-use Rattle.mg_model.specs.Refused.{first_refusal}
+use Rattle.mg_model.specs.{Bank.{account_of, balance_of, opens}, Limits.account_limit, Refused.first_refusal}
+use Rattle.mg_model.specs.declared.{accounts.AccRow.AccRow, replies.Refusal.{Refusal, TheVariants.{Account, Credit}}}
+use Rattle.mg_model.specs.declared.replies.Refusal.TheVariants.{Limit}
 
 -- against an account more
 abbrev pub opening_refusal : List AccRow → ℕ → ℕ → ℕ → Option Refusal

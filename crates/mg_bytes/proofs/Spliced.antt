@@ -1,7 +1,5 @@
 -- A part of a block that is written is a splice.
-use Rattle.std.specs.Prelude.{◌≡◌, ◌+◌, ◌-◌, ◌++◌, ℕ, List, take}
-use Rattle.std.specs.List.{splice}
-use Rattle.std.proofs.Common.{ap, ◌∙◌, arith}
+use Rattle.std.{proofs.Common.{ap, ◌∙◌, arith}, specs.{List.splice, Prelude.{◌≡◌, ◌+◌, ◌-◌, ◌++◌, ℕ, List, take}}}
 use borrow.Rule.Slice.PartMut.{Post-is, post_of, put_mid}
 
 pub spliced : (old bytes new : List ℕ) (at : ℕ) → new ≡ bytes → put_mid at (at + 8 - at) old new ≡ splice old at (at + 8) bytes

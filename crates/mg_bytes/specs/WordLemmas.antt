@@ -1,9 +1,7 @@
 -- A lemma: a number that is written into a block leaves the bytes beside it.
-use Rattle.std.specs.Prelude.{◌≡◌, ◌⊎◌, ◌+◌, ◌≤◌, ℕ, List, drop, length, take}
-use Rattle.std.specs.Int.{from_le_bytes, w64}
-use Rattle.std.proofs.Common.{sym, ap, ◌∙◌, ⊎_elim, arith}
-use Rattle.std.proofs.lemmas.List.{drop-take}
-use Rattle.std.proofs.lemmas.Slice.{drop-put_mid, take-put_mid_below}
+use Rattle.std.proofs.{Common.{sym, ap, ◌∙◌, ⊎_elim, arith}, lemmas.{List.drop-take, Slice.drop-put_mid}}
+use Rattle.std.{proofs.lemmas.Slice.take-put_mid_below, specs.{Int.{from_le_bytes, w64}, Prelude.{◌≡◌, ◌⊎◌, ◌+◌, ◌≤◌}}}
+use Rattle.std.specs.Prelude.{ℕ, List, drop, length, take}
 use Rattle.mg_model.specs.Bytes.{bytes_at, number_at}
 use borrow.Rule.Slice.PartMut.{put_mid}
 

@@ -1,24 +1,13 @@
 -- What the calls on accounts make of their rows, by their tests.
-use Rattle.std.specs.Prelude.{◌≡◌, ◌+◌, ◌||◌, ◌++◌, ◌∷◌, [], ℕ, true, false, nat_le, nat_lt, not, cond, List, Option, None, Some, length, map}
-use Rattle.std.proofs.Common.{sym, ap, ◌∙◌}
+use Rattle.{mg_calls_bank.specs.Refusals.opening_refusal, mg_model.specs.{Abbreviations.unless_refused, Bank.{balance_of, credited, opens, owed_by}}}
+use Rattle.mg_model.specs.{Bank.{pages_of, debited}, BankCalls.{balance, open_account, pay}, Limits.{account_limit, draw_limit}, ObjectCalls.drawn}
+use Rattle.mg_model.specs.{ObjectCalls.next_password, Refused.{Answer, first_refusal}, State.{Counters, Object, ObjectRow, State}}
+use Rattle.mg_model.specs.declared.{accounts.AccRow.AccRow, replies.{Refusal.{Refusal, TheVariants.{Account, Credit, Limit}}, Reply.Reply}}
+use Rattle.{mg_model.specs.declared.replies.Reply.TheVariants.{Done, Funds, No, Opened}, mg_rent.specs.PaidLemmas.{paid-through, row_pages}}
+use Rattle.{mg_volume.specs.{Held.VolumeHeld, Meaning.{accounts_in, now_of}, StateLemmas.{now_accounts, now_counters}}, std.proofs.Common.{sym, ap}}
+use Rattle.std.{proofs.Common.◌∙◌, specs.Prelude.{◌≡◌, ◌+◌, ◌||◌, ◌++◌, ◌∷◌, [], ℕ, true, false, nat_le, nat_lt, not, cond, List, Option, None, Some}}
+use Rattle.std.specs.Prelude.{length, map}
 use Rattle.mg_bank.specs.Refusals as bank
-use Rattle.mg_calls_bank.specs.Refusals.{opening_refusal}
-use Rattle.mg_model.specs.declared.accounts.AccRow.{AccRow}
-use Rattle.mg_model.specs.declared.replies.Refusal.{Refusal}
-use Rattle.mg_model.specs.declared.replies.Refusal.TheVariants.{Account, Credit, Limit}
-use Rattle.mg_model.specs.declared.replies.Reply.{Reply}
-use Rattle.mg_model.specs.declared.replies.Reply.TheVariants.{Done, Funds, No, Opened}
-use Rattle.mg_model.specs.Bank.{balance_of, credited, opens, owed_by, pages_of, debited}
-use Rattle.mg_model.specs.BankCalls.{balance, open_account, pay}
-use Rattle.mg_model.specs.Limits.{account_limit, draw_limit}
-use Rattle.mg_model.specs.ObjectCalls.{drawn, next_password}
-use Rattle.mg_model.specs.Abbreviations.{unless_refused}
-use Rattle.mg_model.specs.Refused.{Answer, first_refusal}
-use Rattle.mg_model.specs.State.{Counters, Object, ObjectRow, State}
-use Rattle.mg_rent.specs.PaidLemmas.{paid-through, row_pages}
-use Rattle.mg_volume.specs.Held.{VolumeHeld}
-use Rattle.mg_volume.specs.StateLemmas.{now_accounts, now_counters}
-use Rattle.mg_volume.specs.Meaning.{accounts_in, now_of}
 
 -- the tests, of what they look at
 abbrev opening_of : List AccRow → Counters → ℕ → ℕ → ℕ → Option Refusal

@@ -1,21 +1,10 @@
 -- What `rent` makes of its row.
-use Rattle.std.specs.Prelude.{◌≡◌, ◌≤◌, ◌+◌, ◌^◌, ◌==◌, ℕ, true, false, cond, List, [], None, Some}
-use Rattle.std.proofs.Common.{sym, ap, subst, ◌∙◌, arith}
-use Rattle.std.proofs.lemmas.List.Elements.{All-weaker}
-use Rattle.mg_model.specs.declared.accounts.AccRow.{AccRow}
-use Rattle.mg_model.specs.declared.replies.Refusal.TheVariants.{Calendar}
-use Rattle.mg_model.specs.declared.replies.Reply.TheVariants.{Collected, No}
-use Rattle.mg_model.specs.Bank.{rate_now, rent_accounts, rent_paid}
-use Rattle.mg_model.specs.BankCalls.{rent}
-use Rattle.mg_model.specs.Limits.{period_limit}
-use Rattle.mg_model.specs.Abbreviations.{unless_refused}
-use Rattle.mg_model.specs.Refused.{Answer}
-use Rattle.mg_model.specs.State.{Counters, State}
-use Rattle.mg_model.specs.WellFormed.{IsAccount, IsWellFormed}
-use Rattle.mg_rent.specs.Charging.{OweAtMost}
-use Rattle.mg_volume.specs.Held.{VolumeHeld}
-use Rattle.mg_volume.specs.Meaning.{accounts_in, counters_in, now_of}
-use Rattle.mg_volume.specs.StateLemmas.{now_accounts, now_counters}
+use Rattle.mg_model.specs.{Abbreviations.unless_refused, Bank.{rate_now, rent_accounts, rent_paid}, BankCalls.rent, Limits.period_limit}
+use Rattle.mg_model.specs.{Refused.Answer, State.{Counters, State}, WellFormed.{IsAccount, IsWellFormed}, declared.accounts.AccRow.AccRow}
+use Rattle.{mg_model.specs.declared.replies.{Refusal.TheVariants.Calendar, Reply.TheVariants.{Collected, No}}, mg_rent.specs.Charging.OweAtMost}
+use Rattle.mg_volume.specs.{Held.VolumeHeld, Meaning.{accounts_in, counters_in, now_of}, StateLemmas.{now_accounts, now_counters}}
+use Rattle.std.{proofs.{Common.{sym, ap, subst, ◌∙◌, arith}, lemmas.List.Elements.All-weaker}, specs.Prelude.{◌≡◌, ◌≤◌, ◌+◌, ◌^◌, ◌==◌, ℕ, true}}
+use Rattle.std.specs.Prelude.{false, cond, List, [], None, Some}
 
 -- what it does before the last period
 abbrev rented_of : State → Answer

@@ -1,13 +1,9 @@
 -- When an account may be opened, by what is held.
 use Rattle.std.specs.Prelude.{◌≡◌, ◌<◌, ◌||◌, ◌∷◌, [], ℕ, nat_le, nat_lt, not, length, Option, None}
+use Rattle.mg_model.specs.{Bank.{balance_of, opens}, Limits.{account_limit, draw_limit}, Refused.first_refusal}
+use Rattle.mg_model.specs.declared.replies.Refusal.{Refusal, TheVariants.{Account, Credit, Limit}}
+use Rattle.mg_volume.specs.{Held.VolumeHeld, Meaning.{accounts_in, counters_in}}
 use Rattle.mg_bank.specs.Refusals as bank
-use Rattle.mg_model.specs.declared.replies.Refusal.{Refusal}
-use Rattle.mg_model.specs.declared.replies.Refusal.TheVariants.{Account, Credit, Limit}
-use Rattle.mg_model.specs.Bank.{balance_of, opens}
-use Rattle.mg_model.specs.Limits.{account_limit, draw_limit}
-use Rattle.mg_model.specs.Refused.{first_refusal}
-use Rattle.mg_volume.specs.Held.{VolumeHeld}
-use Rattle.mg_volume.specs.Meaning.{accounts_in, counters_in}
 
 -- the first reason against an account more
 abbrev pub opening_refusal : VolumeHeld → ℕ → ℕ → ℕ → Option Refusal

@@ -1,40 +1,18 @@
 -- What `pdx` and `ret` make of their rows, by their tests.
-use Rattle.std.proofs.Common.{ℕ, ◌+◌, ◌-◌, ◌≡◌, ◌++◌, Bool, not, true, false, List, [], ◌∷◌, if◌then◌else◌, length, take, Option, Some, None, refl, sym, ap, subst, ◌∙◌}
-use Rattle.std.specs.Prelude.{nat_le, nat_lt, option_map}
-use Rattle.std.specs.Option.{option_map_or, option_to_list}
-use Rattle.std.proofs.lemmas.Bool.{and_from}
-use Rattle.mg_access.specs.ThreadLemmas.{slots-of}
-use Rattle.mg_access.specs.RefusalLemmas.{access_passed, access_stopped}
-use Rattle.mg_access.specs.Searching.{access_refusal}
-use Rattle.mg_apd.specs.Refusals.{leaving_refusal}
+use Rattle.mg_access.specs.{RefusalLemmas.{access_passed, access_stopped}, Searching.access_refusal, ThreadLemmas.slots-of}
+use Rattle.{mg_apd.specs.Refusals.leaving_refusal, mg_calls_dom.{proofs.Words.lives-ok, specs.Entering.pdx_refusal}}
+use Rattle.{mg_laws.specs.Backing.CallsKeepBacked, mg_model.specs.{Abbreviations.{entered_slots, unless_refused}, Access.{allowed, last_slots}}}
+use Rattle.mg_model.specs.{Access.thread_of, Accesses.line_words, Backed.{KeepsBacked, by_thread}, Domains.{frames_of, kept_from, last_back, pdx}}
+use Rattle.mg_model.specs.{Domains.{ret, with_thread}, Limits.{frame_limit, slot_limit}, ObjectCalls.{is_aligned, is_entry, row_at}, Refused.Answer}
+use Rattle.mg_model.specs.{Refused.first_refusal, State.{CallFrame, ObjectRow, State, Thread, ThreadRow}, Step.step, Threads.is_thread}
+use Rattle.mg_model.specs.{Turn.thread_call, Warmth.{is_disturbing, is_ok}, WellFormed.IsWellFormed, declared.calls.Line.Line}
+use Rattle.mg_model.specs.declared.replies.Refusal.{Refusal, TheVariants.{Align, Denied, Depth, NoEntry, NoFrame, SlotFull}}
+use Rattle.mg_model.specs.declared.{replies.Reply.TheVariants.{Count, No}, rights.Right.TheVariants.P, seats.Seat.Seat, slots.Slot.Slot}
+use Rattle.{mg_vcache.specs.{SeatLemmas.backed_without, Seats.{AllBacked, without}}, std.proofs.Common.{ℕ, ◌+◌, ◌-◌, ◌≡◌, ◌++◌, Bool, not, true}}
+use Rattle.std.proofs.Common.{false, List, [], ◌∷◌, if◌then◌else◌, length, take, Option, Some, None, refl, sym, ap, subst, ◌∙◌}
+use Rattle.std.{proofs.lemmas.Bool.and_from, specs.{Option.{option_map_or, option_to_list}, Prelude.{nat_le, nat_lt, option_map}}}
 use Rattle.mg_apd.specs.Refusals as apd
-use Rattle.mg_calls_dom.proofs.Words.{lives-ok}
-use Rattle.mg_calls_dom.specs.Entering.{pdx_refusal}
-use Rattle.mg_laws.specs.Backing.{CallsKeepBacked}
 use Rattle.mg_model.specs.declared.calls.Call.TheVariants as call
-use Rattle.mg_model.specs.declared.calls.Line.{Line}
-use Rattle.mg_model.specs.declared.replies.Refusal.{Refusal}
-use Rattle.mg_model.specs.declared.replies.Refusal.TheVariants.{Align, Denied, Depth, NoEntry, NoFrame, SlotFull}
-use Rattle.mg_model.specs.declared.replies.Reply.TheVariants.{Count, No}
-use Rattle.mg_model.specs.declared.rights.Right.TheVariants.{P}
-use Rattle.mg_model.specs.declared.seats.Seat.{Seat}
-use Rattle.mg_model.specs.declared.slots.Slot.{Slot}
-use Rattle.mg_model.specs.Abbreviations.{entered_slots, unless_refused}
-use Rattle.mg_model.specs.Access.{allowed, last_slots, thread_of}
-use Rattle.mg_model.specs.Accesses.{line_words}
-use Rattle.mg_model.specs.Backed.{KeepsBacked, by_thread}
-use Rattle.mg_model.specs.Domains.{frames_of, kept_from, last_back, pdx, ret, with_thread}
-use Rattle.mg_model.specs.Limits.{frame_limit, slot_limit}
-use Rattle.mg_model.specs.ObjectCalls.{is_aligned, is_entry, row_at}
-use Rattle.mg_model.specs.Refused.{Answer, first_refusal}
-use Rattle.mg_model.specs.State.{CallFrame, ObjectRow, State, Thread, ThreadRow}
-use Rattle.mg_model.specs.Step.{step}
-use Rattle.mg_model.specs.Threads.{is_thread}
-use Rattle.mg_model.specs.Turn.{thread_call}
-use Rattle.mg_model.specs.Warmth.{is_disturbing, is_ok}
-use Rattle.mg_model.specs.WellFormed.{IsWellFormed}
-use Rattle.mg_vcache.specs.SeatLemmas.{backed_without}
-use Rattle.mg_vcache.specs.Seats.{AllBacked, without}
 
 -- the frames of a thread, by its row
 frames-in : (found : Option Thread) (thread : ThreadRow) → option_map (λ (x : Thread). x.row) found ≡ Some thread → option_map_or (λ (x : Thread). x.row.frames) found [] ≡ thread.frames

@@ -1,17 +1,8 @@
 -- The fetch of a word, by what was reached.
-use Rattle.std.specs.Prelude.{ℕ, ◌≡◌, ◌≤◌, ◌+◌, ◌-◌, Bool, if◌then◌else◌, Some, None}
-use Rattle.std.proofs.Common.{arith, sym, ap, ◌∙◌}
-use Rattle.mg_access.specs.ReachedLemmas.{reached_allowed, reached_none}
-use Rattle.mg_access.specs.Searching.{allowed_row}
-use Rattle.mg_calls_dom.specs.Fetching.{Fetches, fetch_limit}
-use Rattle.mg_model.specs.declared.rights.Right.TheVariants.{X}
-use Rattle.mg_model.specs.Abbreviations.{is_allowed}
-use Rattle.mg_model.specs.Access.{allowed}
-use Rattle.mg_model.specs.Accesses.{Access}
-use Rattle.mg_model.specs.Kept.{Validates, access_limit}
-use Rattle.mg_model.specs.Keys.{Key}
-use Rattle.mg_model.specs.Objects.{word_at}
-use Rattle.mg_model.specs.State.{ObjectRow, State}
+use Rattle.{mg_access.specs.{ReachedLemmas.{reached_allowed, reached_none}, Searching.allowed_row}, mg_calls_dom.specs.Fetching.Fetches}
+use Rattle.{mg_calls_dom.specs.Fetching.fetch_limit, mg_model.specs.{Abbreviations.is_allowed, Access.allowed, Accesses.Access, Kept.Validates}}
+use Rattle.mg_model.specs.{Kept.access_limit, Keys.Key, Objects.word_at, State.{ObjectRow, State}, declared.rights.Right.TheVariants.X}
+use Rattle.std.{proofs.Common.{arith, sym, ap, ◌∙◌}, specs.Prelude.{ℕ, ◌≡◌, ◌≤◌, ◌+◌, ◌-◌, Bool, if◌then◌else◌, Some, None}}
 
 module _ (state : State) (t a : ℕ) where
   abbrev count : Bool → ℕ

@@ -1,20 +1,11 @@
 -- What a call on slots makes of its row, by why it is refused, and how a list of slots is shown.
-use Rattle.std.specs.Prelude.{◌≡◌, ◌≤◌, ◌<◌, ◌+◌, ◌-◌, ◌++◌, ◌∷◌, [], ℕ, suc, nat_le, List, drop, length, map, option_map, replicate, slice_set, take, Option, Some}
-use Rattle.std.proofs.Common.{get_or, sym, ap, ◌∙◌, arith}
-use Rattle.std.proofs.Math.Seq.{set-append_seam}
-use Rattle.std.proofs.lemmas.List.{append_assoc, length-map, length-take-le, map_more}
-use Rattle.mg_access.specs.ThreadLemmas.{slots-of}
-use Rattle.mg_apd.specs.Refusals.{dropping_refusal, pushing_refusal}
-use Rattle.mg_model.specs.declared.replies.Refusal.{Refusal}
-use Rattle.mg_model.specs.declared.replies.Refusal.TheVariants.{NoSlot, SlotFull}
-use Rattle.mg_model.specs.declared.replies.Reply.TheVariants.{Count, Done}
-use Rattle.mg_model.specs.declared.slots.Slot.{Slot}
-use Rattle.mg_model.specs.Access.{last_slots, thread_of}
-use Rattle.mg_model.specs.Domains.{apdadd, apddel, with_last_slots, with_slots}
-use Rattle.mg_model.specs.Limits.{slot_limit}
-use Rattle.mg_model.specs.Abbreviations.{unless_refused}
-use Rattle.mg_model.specs.Refused.{first_refusal}
-use Rattle.mg_model.specs.State.{State, Thread, ThreadRow}
+use Rattle.{mg_access.specs.ThreadLemmas.slots-of, mg_apd.specs.Refusals.{dropping_refusal, pushing_refusal}}
+use Rattle.mg_model.specs.{Abbreviations.unless_refused, Access.{last_slots, thread_of}, Domains.{apdadd, apddel, with_last_slots, with_slots}}
+use Rattle.mg_model.specs.{Limits.slot_limit, Refused.first_refusal, State.{State, Thread, ThreadRow}, declared.replies.Refusal.Refusal}
+use Rattle.mg_model.specs.declared.{replies.{Refusal.TheVariants.{NoSlot, SlotFull}, Reply.TheVariants.{Count, Done}}, slots.Slot.Slot}
+use Rattle.std.proofs.{Common.{get_or, sym, ap, ◌∙◌, arith}, Math.Seq.set-append_seam, lemmas.List.{append_assoc, length-map, length-take-le}}
+use Rattle.std.{proofs.lemmas.List.map_more, specs.Prelude.{◌≡◌, ◌≤◌, ◌<◌, ◌+◌, ◌-◌, ◌++◌, ◌∷◌, [], ℕ, suc, nat_le, List, drop, length, map}}
+use Rattle.std.specs.Prelude.{option_map, replicate, slice_set, take, Option, Some}
 
 -- other slots in the present frame
 abbrev pub slotted : List Slot → ThreadRow → ThreadRow

@@ -1,35 +1,15 @@
 -- The word of a load or a store, and what a store leaves of the seats.
-use Rattle.std.proofs.Common.{ℕ, ◌≡◌, ◌+◌, ◌*◌, ◌/◌, ◌%◌, ◌&&◌, Bool, not, true, false, List, [], ◌∷◌, if◌then◌else◌, Option, Some, None, refl, sym, ap, subst, ◌∙◌, arith}
+use Rattle.mg_access.specs.{FoundLemmas.{found-any, found-passes}, ReachedLemmas.reached_lives, Searching.{access_refusal, allowed_row}}
+use Rattle.{mg_laws.specs.Backing.{CallsKeepBacked, EndsOneList}, mg_model.specs.{Access.{allowed, at, covers}, Accesses.{Access, word_under}}}
+use Rattle.mg_model.specs.{Backed.{KeepsBacked, by_given, by_list, by_none, by_word}, Kept.KeepsKeys, Keys.Key, Limits.page_size}
+use Rattle.mg_model.specs.{ObjectCalls.{is_aligned, store}, Refused.{Answer, first_refusal}, State.{Object, ObjectRow, State}, Step.step}
+use Rattle.mg_model.specs.{Threads.is_thread, Turn.thread_call, Warmth.{in_first_page, is_disturbing, is_ok}, WellFormed.IsWellFormed}
+use Rattle.mg_model.specs.declared.{calls.Line.Line, replies.{Refusal.{Refusal, TheVariants.{Align, Denied, NoThread}}, Reply.TheVariants.{Done, No}}}
+use Rattle.{mg_model.specs.declared.{rights.Right.{Right, TheVariants.W}, seats.Seat.Seat}, mg_vcache.specs.SeatLemmas.{backed_still, backed_without}}
+use Rattle.{mg_vcache.specs.Seats.{AllBacked, is_kept, without}, std.proofs.Common.{ℕ, ◌≡◌, ◌+◌, ◌*◌, ◌/◌, ◌%◌, ◌&&◌, Bool, not, true, false, List}}
+use Rattle.std.proofs.{Common.{[], ◌∷◌, if◌then◌else◌, Option, Some, None, refl, sym, ap, subst, ◌∙◌, arith}, lemmas.Bool.{and_from, and_parts}}
 use Rattle.std.specs.Prelude.{nat_le, nat_lt, option_map}
-use Rattle.std.proofs.lemmas.Bool.{and_from, and_parts}
-use Rattle.mg_access.specs.FoundLemmas.{found-any, found-passes}
-use Rattle.mg_access.specs.ReachedLemmas.{reached_lives}
-use Rattle.mg_access.specs.Searching.{access_refusal, allowed_row}
-use Rattle.mg_laws.specs.Backing.{CallsKeepBacked, EndsOneList}
 use Rattle.mg_model.specs.declared.calls.Call.TheVariants as call
-use Rattle.mg_model.specs.declared.calls.Line.{Line}
-use Rattle.mg_model.specs.declared.replies.Refusal.{Refusal}
-use Rattle.mg_model.specs.declared.replies.Refusal.TheVariants.{Align, Denied, NoThread}
-use Rattle.mg_model.specs.declared.replies.Reply.TheVariants.{Done, No}
-use Rattle.mg_model.specs.declared.rights.Right.{Right}
-use Rattle.mg_model.specs.declared.rights.Right.TheVariants.{W}
-use Rattle.mg_model.specs.declared.seats.Seat.{Seat}
-use Rattle.mg_model.specs.Access.{allowed, at, covers}
-use Rattle.mg_model.specs.Accesses.{Access, word_under}
-use Rattle.mg_model.specs.Backed.{KeepsBacked, by_given, by_list, by_none, by_word}
-use Rattle.mg_model.specs.Kept.{KeepsKeys}
-use Rattle.mg_model.specs.Keys.{Key}
-use Rattle.mg_model.specs.Limits.{page_size}
-use Rattle.mg_model.specs.ObjectCalls.{is_aligned, store}
-use Rattle.mg_model.specs.Refused.{Answer, first_refusal}
-use Rattle.mg_model.specs.State.{Object, ObjectRow, State}
-use Rattle.mg_model.specs.Step.{step}
-use Rattle.mg_model.specs.Threads.{is_thread}
-use Rattle.mg_model.specs.Turn.{thread_call}
-use Rattle.mg_model.specs.Warmth.{in_first_page, is_disturbing, is_ok}
-use Rattle.mg_model.specs.WellFormed.{IsWellFormed}
-use Rattle.mg_vcache.specs.Seats.{AllBacked, is_kept, without}
-use Rattle.mg_vcache.specs.SeatLemmas.{backed_still, backed_without}
 
 module _ (state : State) (t a : ℕ) (right : Right) where
   own-when : (v on may : Bool) → v ≡ true → first_refusal ((not on, Align) ∷ (not may, Denied) ∷ []) ≡ None → (let n : ℕ = if v then (if on && may then 1 else 0) else 0 in n) ≡ 1

@@ -1,9 +1,6 @@
 -- What the fetch of a word keeps and counts.
 use Rattle.std.specs.Prelude.{ℕ, ◌≡◌, ◌+◌, Bool, if◌then◌else◌}
-use Rattle.mg_model.specs.Abbreviations.{is_allowed}
-use Rattle.mg_model.specs.Accesses.{Access}
-use Rattle.mg_model.specs.Kept.{Validates, access_limit}
-use Rattle.mg_model.specs.Keys.{Key}
+use Rattle.mg_model.specs.{Abbreviations.is_allowed, Accesses.Access, Kept.{Validates, access_limit}, Keys.Key}
 use Rattle.mg_model.specs.State.{State}
 
 -- A word is fetched with X: the words of the search are counted, and one more if the access is allowed.

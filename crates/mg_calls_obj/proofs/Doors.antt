@@ -1,31 +1,15 @@
 -- What a call on an object keeps and costs, after one search.
-use Rattle.std.specs.Prelude.{◌≡◌, ◌≤◌, ◌+◌, ◌-◌, ◌&&◌, ℕ, Bool, true, false, List, [], ◌∷◌, if◌then◌else◌, Option}
-use Rattle.std.proofs.Common.{refl, sym, ap, arith, subst, ◌∙◌}
-use Rattle.mg_access.specs.LineLemmas.{drops_line, limit_line, one_limit, thread_limit, thread_rules}
-use Rattle.mg_calls_obj.specs.Door.{EndsBy, asked, is_on_object, named}
-use Rattle.mg_laws.specs.Costs.{SearchesKeepRules}
-use Rattle.mg_model.specs.declared.calls.Call.{Call}
+use Rattle.{mg_access.specs.LineLemmas.{drops_line, limit_line, one_limit, thread_limit, thread_rules}, mg_calls_obj.specs.Door.{EndsBy, asked}}
+use Rattle.{mg_calls_obj.specs.Door.{is_on_object, named}, mg_laws.specs.Costs.SearchesKeepRules, mg_model.specs.{Access.allowed, Accesses.Access}}
+use Rattle.mg_model.specs.{Accesses.{accesses, line_words}, Backed.{KeepsBacked, by_via, ended_by_call}, Kept.{KeepsKeys, KeepsLine, KeepsRules}}
+use Rattle.mg_model.specs.{Kept.{Searches, Validates, access_limit, line_limit, searches_limit}, Keys.Key, ObjectCalls.row_at, Refused.Answer}
+use Rattle.mg_model.specs.{Refused.IsRefusal, State.{ObjectRow, State}, Step.{of_thread, step}, Threads.is_thread, Turn.thread_call, Warmth.disturbs}
+use Rattle.mg_model.specs.{Warmth.{is_disturbing, is_ok}, declared.{calls.{Call.Call, Line.Line}, replies.Refusal.TheVariants.{Denied, NoThread}}}
+use Rattle.mg_model.specs.declared.{replies.Reply.{Reply, TheVariants.No}, rights.Right.Right, seats.Seat.Seat}
+use Rattle.{mg_vcache.specs.{SeatLemmas.{drops_backed, drops_none, same_backed}, Seats.{AllBacked, is_kept}}, std.proofs.Common.{refl, sym, ap}}
+use Rattle.std.{proofs.Common.{arith, subst, ◌∙◌}, specs.Prelude.{◌≡◌, ◌≤◌, ◌+◌, ◌-◌, ◌&&◌, ℕ, Bool, true, false, List, [], ◌∷◌, if◌then◌else◌}}
+use Rattle.std.specs.Prelude.{Option}
 use Rattle.mg_model.specs.declared.calls.Call.TheVariants as call
-use Rattle.mg_model.specs.declared.calls.Line.{Line}
-use Rattle.mg_model.specs.declared.replies.Refusal.TheVariants.{Denied, NoThread}
-use Rattle.mg_model.specs.declared.replies.Reply.{Reply}
-use Rattle.mg_model.specs.declared.replies.Reply.TheVariants.{No}
-use Rattle.mg_model.specs.declared.rights.Right.{Right}
-use Rattle.mg_model.specs.declared.seats.Seat.{Seat}
-use Rattle.mg_model.specs.Access.{allowed}
-use Rattle.mg_model.specs.Accesses.{Access, accesses, line_words}
-use Rattle.mg_model.specs.Backed.{KeepsBacked, by_via, ended_by_call}
-use Rattle.mg_model.specs.Kept.{KeepsKeys, KeepsLine, KeepsRules, Searches, Validates, access_limit, line_limit, searches_limit}
-use Rattle.mg_model.specs.Keys.{Key}
-use Rattle.mg_model.specs.ObjectCalls.{row_at}
-use Rattle.mg_model.specs.Refused.{Answer, IsRefusal}
-use Rattle.mg_model.specs.State.{ObjectRow, State}
-use Rattle.mg_model.specs.Step.{of_thread, step}
-use Rattle.mg_model.specs.Threads.{is_thread}
-use Rattle.mg_model.specs.Turn.{thread_call}
-use Rattle.mg_model.specs.Warmth.{disturbs, is_disturbing, is_ok}
-use Rattle.mg_vcache.specs.Seats.{AllBacked, is_kept}
-use Rattle.mg_vcache.specs.SeatLemmas.{drops_backed, drops_none, same_backed}
 
 -- the access that such a call makes
 abbrev pub access_of : ℕ → Call → Access

@@ -1,19 +1,8 @@
 -- What a call on an object that ends rights leaves of them, by the law on what a change of one object ends.
-use Rattle.std.specs.Prelude.{◌≡◌, ℕ, List, Option}
-use Rattle.std.proofs.Common.{ap, subst, sym}
-use Rattle.mg_access.specs.Backing.{StayBacked}
-use Rattle.mg_calls_obj.specs.Based.{KeepsOthers}
-use Rattle.mg_laws.specs.Backing.{ChangeKeepsOthers, GoneKeepsOthers}
-use Rattle.mg_model.specs.declared.replies.Reply.{Reply}
-use Rattle.mg_model.specs.declared.seats.Seat.{Seat}
-use Rattle.mg_model.specs.Backed.{KeepsBacked, by_via}
-use Rattle.mg_model.specs.Objects.{with_row, without_object}
-use Rattle.mg_model.specs.Refused.{IsRefusal}
-use Rattle.mg_model.specs.State.{ObjectRow, State}
-use Rattle.mg_vcache.specs.Drops.{Drops}
-use Rattle.mg_vcache.specs.SeatLemmas.{drops_backed}
-use Rattle.mg_volume.specs.Held.{VolumeHeld}
-use Rattle.mg_volume.specs.Meaning.{now_of}
+use Rattle.{mg_access.specs.Backing.StayBacked, mg_calls_obj.specs.Based.KeepsOthers, mg_laws.specs.Backing.{ChangeKeepsOthers, GoneKeepsOthers}}
+use Rattle.mg_model.specs.{Backed.{KeepsBacked, by_via}, Objects.{with_row, without_object}, Refused.IsRefusal, State.{ObjectRow, State}}
+use Rattle.{mg_model.specs.declared.{replies.Reply.Reply, seats.Seat.Seat}, mg_vcache.specs.{Drops.Drops, SeatLemmas.drops_backed}}
+use Rattle.{mg_volume.specs.{Held.VolumeHeld, Meaning.now_of}, std.{proofs.Common.{ap, subst, sym}, specs.Prelude.{◌≡◌, ℕ, List, Option}}}
 
 -- the object is gone
 pub gone_keeps : GoneKeepsOthers → (state new : State) (base own : ℕ) → base ≡ own → new ≡ record state { objects = without_object base state.objects } → KeepsBacked (by_via own) state new

@@ -1,14 +1,8 @@
 -- What `info` answers, by what was found.
-use Rattle.std.proofs.Common.{ℕ, ◌≡◌, Bool, true, false, not, [], ◌∷◌, Some, ap, ◌∙◌}
-use Rattle.mg_access.specs.ReachedLemmas.{reached_at}
-use Rattle.mg_access.specs.Searching.{allowed_row}
-use Rattle.mg_model.specs.declared.replies.Refusal.TheVariants.{Denied}
-use Rattle.mg_model.specs.declared.replies.Reply.TheVariants.{No}
-use Rattle.mg_model.specs.declared.rights.Right.{Right}
-use Rattle.mg_model.specs.Abbreviations.{any_allowed}
-use Rattle.mg_model.specs.ObjectCalls.{about, info, row_at}
-use Rattle.mg_model.specs.Refused.{checked}
-use Rattle.mg_model.specs.State.{ObjectRow, State}
+use Rattle.{mg_access.specs.{ReachedLemmas.reached_at, Searching.allowed_row}, mg_model.specs.{Abbreviations.any_allowed, ObjectCalls.{about, info}}}
+use Rattle.mg_model.specs.{ObjectCalls.row_at, Refused.checked, State.{ObjectRow, State}, declared.replies.Refusal.TheVariants.Denied}
+use Rattle.{mg_model.specs.declared.{replies.Reply.TheVariants.No, rights.Right.Right}, std.proofs.Common.{ℕ, ◌≡◌, Bool, true, false, not, [], ◌∷◌}}
+use Rattle.std.proofs.Common.{Some, ap, ◌∙◌}
 
 module _ (state : State) (t a : ℕ) where
   by_any : (v : Bool) → any_allowed state t a ≡ v → info state t a ≡ checked state ((not v, Denied) ∷ []) (state, about (row_at state a))

@@ -1,26 +1,13 @@
 -- What `create` makes of its row, by its tests.
-use Rattle.std.specs.Prelude.{◌≡◌, ◌+◌, ◌*◌, ◌==◌, ◌||◌, ◌∷◌, [], ℕ, nat_le, nat_lt, not, List, Option, length, map, sum_by}
-use Rattle.std.proofs.Common.{refl, sym, ap, arith, ◌∙◌}
-use Rattle.std.proofs.lemmas.List.{length-map}
-use Rattle.std.proofs.lemmas.List.Sums.{sum_by-cons}
-use Rattle.mg_calls_obj.specs.Creating.{creating_refusal, used_in}
-use Rattle.mg_disk.specs.Disk.{Image}
-use Rattle.mg_model.specs.declared.accounts.AccRow.{AccRow}
-use Rattle.mg_model.specs.declared.replies.Refusal.{Refusal}
-use Rattle.mg_model.specs.declared.replies.Refusal.TheVariants.{Account, Debt, Full, Limit, Size}
-use Rattle.mg_model.specs.declared.replies.Reply.TheVariants.{Made}
-use Rattle.mg_model.specs.Bank.{opens, owed_by, used}
-use Rattle.mg_model.specs.Limits.{draw_limit, object_limit, object_page_limit}
-use Rattle.mg_model.specs.ObjectCalls.{create, drawn, next_password}
-use Rattle.mg_model.specs.Objects.{lowest_free, new_object, with_object}
-use Rattle.mg_model.specs.Abbreviations.{unless_refused}
-use Rattle.mg_model.specs.Refused.{Answer, first_refusal}
-use Rattle.mg_model.specs.Settings.{Settings}
-use Rattle.mg_model.specs.State.{Counters, Object, ObjectRow, State}
-use Rattle.mg_volume.specs.Held.{VolumeHeld}
-use Rattle.mg_volume.specs.StateLemmas.{now_accounts, now_counters, now_rows, now_settings}
-use Rattle.mg_volume.specs.Meaning.{accounts_in, counters_in, now_of, objects_in, settings_in}
-use Rattle.mg_volume.specs.Staging.{blank}
+use Rattle.{mg_calls_obj.specs.Creating.{creating_refusal, used_in}, mg_disk.specs.Disk.Image, mg_model.specs.Abbreviations.unless_refused}
+use Rattle.mg_model.specs.{Bank.{opens, owed_by, used}, Limits.{draw_limit, object_limit, object_page_limit}, ObjectCalls.{create, drawn}}
+use Rattle.mg_model.specs.{ObjectCalls.next_password, Objects.{lowest_free, new_object, with_object}, Refused.{Answer, first_refusal}}
+use Rattle.mg_model.specs.{Settings.Settings, State.{Counters, Object, ObjectRow, State}, declared.{accounts.AccRow.AccRow, replies.Refusal.Refusal}}
+use Rattle.mg_model.specs.declared.replies.{Refusal.TheVariants.{Account, Debt, Full, Limit, Size}, Reply.TheVariants.Made}
+use Rattle.mg_volume.specs.{Held.VolumeHeld, Meaning.{accounts_in, counters_in, now_of, objects_in, settings_in}, Staging.blank}
+use Rattle.{mg_volume.specs.StateLemmas.{now_accounts, now_counters, now_rows, now_settings}, std.proofs.Common.{refl, sym, ap, arith, ◌∙◌}}
+use Rattle.std.{proofs.lemmas.List.{length-map, Sums.sum_by-cons}, specs.Prelude.{◌≡◌, ◌+◌, ◌*◌, ◌==◌, ◌||◌, ◌∷◌, [], ℕ, nat_le, nat_lt, not, List}}
+use Rattle.std.specs.Prelude.{Option, length, map, sum_by}
 
 -- the tests, of what they look at
 abbrev refusal_of : ℕ → ℕ → ℕ → List AccRow → ℕ → Counters → Settings → ℕ → Option Refusal

@@ -1,24 +1,12 @@
 -- Rights that are tried in turn, and what their accesses keep and cost.
-use Rattle.std.proofs.Common.{ℕ, suc, ◌≡◌, ◌≤◌, ◌<◌, ◌+◌, ◌-◌, Bool, true, false, List, [], ◌∷◌, ◌++◌, length, get_or, take, drop, if◌then◌else◌, refl, sym, ap, subst, ◌∙◌, arith}
-use Rattle.std.specs.Prelude.{◌==◌, find, map, Option, None}
-use Rattle.std.proofs.Math.Seq.{drop-cons, take-suc}
-use Rattle.std.proofs.lemmas.List.{append-nil, append_assoc, drop_all, map-append}
-use Rattle.mg_access.specs.LineLemmas.{as_if, failed_access, limit_append}
-use Rattle.mg_access.specs.ReachedLemmas.{same_threads}
-use Rattle.mg_laws.specs.Costs.{SearchesGoOn, SearchesKeepRules}
+use Rattle.{mg_access.specs.{LineLemmas.{as_if, failed_access, limit_append}, ReachedLemmas.same_threads}, mg_laws.specs.Costs.SearchesGoOn}
+use Rattle.{mg_laws.specs.Costs.SearchesKeepRules, mg_model.specs.{Access.allowed, Accesses.{Access, tried, line_words}, Kept.{Searches, Validates}}}
+use Rattle.mg_model.specs.{Kept.{access_limit, searches_limit}, Keys.Key, State.{State, Thread}, Threads.is_thread, declared.calls.Line.Line}
+use Rattle.{mg_model.specs.declared.{rights.Right.Right, seats.Seat.Seat}, mg_vcache.specs.Seats.is_kept, mg_volume.specs.Held.VolumeHeld}
+use Rattle.{mg_volume.specs.Meaning.{Keeps, threads_in}, std.proofs.Common.{ℕ, suc, ◌≡◌, ◌≤◌, ◌<◌, ◌+◌, ◌-◌, Bool, true, false, List, [], ◌∷◌, ◌++◌}}
+use Rattle.std.proofs.{Common.{length, get_or, take, drop, if◌then◌else◌, refl, sym, ap, subst, ◌∙◌, arith}, Math.Seq.{drop-cons, take-suc}}
+use Rattle.std.{proofs.lemmas.List.{append-nil, append_assoc, drop_all, map-append}, specs.Prelude.{◌==◌, find, map, Option, None}}
 use Rattle.mg_model.specs.declared.calls.Call.TheVariants as call
-use Rattle.mg_model.specs.declared.calls.Line.{Line}
-use Rattle.mg_model.specs.declared.rights.Right.{Right}
-use Rattle.mg_model.specs.declared.seats.Seat.{Seat}
-use Rattle.mg_model.specs.Access.{allowed}
-use Rattle.mg_model.specs.Accesses.{Access, tried, line_words}
-use Rattle.mg_model.specs.Kept.{Searches, Validates, access_limit, searches_limit}
-use Rattle.mg_model.specs.Keys.{Key}
-use Rattle.mg_model.specs.State.{State, Thread}
-use Rattle.mg_model.specs.Threads.{is_thread}
-use Rattle.mg_vcache.specs.Seats.{is_kept}
-use Rattle.mg_volume.specs.Held.{VolumeHeld}
-use Rattle.mg_volume.specs.Meaning.{Keeps, threads_in}
 
 module _ (state : State) (t a : ℕ) where
   -- the access with a right

@@ -1,24 +1,13 @@
 -- What a call on an object makes of its row, by its tests.
-use Rattle.std.specs.Prelude.{◌≡◌, ◌+◌, ◌==◌, ◌||◌, ◌++◌, ◌∷◌, [], ℕ, nat_le, nat_lt, Bool, true, false, not, if◌then◌else◌, List, Option, Some, IfSome, IsSomeAnd, filter, find, length, unwrap_or}
-use Rattle.std.specs.List.{list_any}
-use Rattle.std.proofs.Common.{refl, sym, ap, subst, ◌∙◌}
-use Rattle.mg_calls_obj.specs.Altering.{is_crowded, is_outside, paying_refusal}
-use Rattle.mg_model.specs.declared.replies.Refusal.{Refusal}
-use Rattle.mg_model.specs.declared.replies.Refusal.TheVariants.{Account, Debt, Denied, Limit, NoPassword, Past, Range}
-use Rattle.mg_model.specs.declared.replies.Reply.{Reply}
-use Rattle.mg_model.specs.declared.replies.Reply.TheVariants.{Done, Value}
-use Rattle.mg_model.specs.declared.rights.Right.TheVariants.{D, O}
-use Rattle.mg_model.specs.Access.{allowed}
-use Rattle.mg_model.specs.Bank.{opens, owed_by}
-use Rattle.mg_model.specs.Limits.{never, password_limit}
-use Rattle.mg_model.specs.ObjectCalls.{all_drawn, delete, drawn, entry, ext, extension_of, has_password, is_entry, is_past, next_password, pwadd, pwdel, recharge, row_at, with_entry}
-use Rattle.mg_model.specs.Objects.{with_row, without_object}
-use Rattle.mg_model.specs.Abbreviations.{unless_refused}
-use Rattle.mg_model.specs.Refused.{Answer, first_refusal, checked}
-use Rattle.mg_model.specs.State.{ObjectRow, State}
-use Rattle.mg_volume.specs.Held.{VolumeHeld}
-use Rattle.mg_volume.specs.Meaning.{accounts_in}
-use Rattle.mg_volume.specs.Staging.{MayChange, has_base}
+use Rattle.{mg_calls_obj.specs.Altering.{is_crowded, is_outside, paying_refusal}, mg_model.specs.{Abbreviations.unless_refused, Access.allowed}}
+use Rattle.mg_model.specs.{Bank.{opens, owed_by}, Limits.{never, password_limit}, ObjectCalls.{all_drawn, delete, drawn, entry, ext, extension_of}}
+use Rattle.mg_model.specs.{ObjectCalls.{has_password, is_entry, is_past, next_password, pwadd, pwdel, recharge, row_at, with_entry}, Objects.with_row}
+use Rattle.mg_model.specs.{Objects.without_object, Refused.{Answer, first_refusal, checked}, State.{ObjectRow, State}}
+use Rattle.mg_model.specs.declared.replies.{Refusal.{Refusal, TheVariants.{Account, Debt, Denied, Limit, NoPassword, Past, Range}}, Reply.Reply}
+use Rattle.{mg_model.specs.declared.{replies.Reply.TheVariants.{Done, Value}, rights.Right.TheVariants.{D, O}}, mg_volume.specs.Held.VolumeHeld}
+use Rattle.{mg_volume.specs.{Meaning.accounts_in, Staging.{MayChange, has_base}}, std.proofs.Common.{refl, sym, ap, subst, ◌∙◌}}
+use Rattle.std.specs.{List.list_any, Prelude.{◌≡◌, ◌+◌, ◌==◌, ◌||◌, ◌++◌, ◌∷◌, [], ℕ, nat_le, nat_lt, Bool, true, false, not, if◌then◌else◌, List}}
+use Rattle.std.specs.Prelude.{Option, Some, IfSome, IsSomeAnd, filter, find, length, unwrap_or}
 
 -- a state with a change of the row of an object
 abbrev pub changed : State → ObjectRow → (ObjectRow → ObjectRow) → State

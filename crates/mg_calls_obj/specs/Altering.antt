@@ -1,13 +1,8 @@
 -- When an object may get an entry, or another account.
 use Rattle.std.specs.Prelude.{◌*◌, ◌&&◌, ◌||◌, ◌∷◌, [], ℕ, nat_le, nat_lt, Bool, not, length, Option}
-use Rattle.mg_model.specs.declared.replies.Refusal.{Refusal}
-use Rattle.mg_model.specs.declared.replies.Refusal.TheVariants.{Account, Debt}
-use Rattle.mg_model.specs.Bank.{opens, owed_by}
-use Rattle.mg_model.specs.Limits.{entry_point_limit}
-use Rattle.mg_model.specs.ObjectCalls.{is_aligned, is_entry}
-use Rattle.mg_model.specs.Refused.{first_refusal}
-use Rattle.mg_model.specs.State.{ObjectRow}
-use Rattle.mg_volume.specs.Held.{VolumeHeld}
+use Rattle.mg_model.specs.{Bank.{opens, owed_by}, Limits.entry_point_limit, ObjectCalls.{is_aligned, is_entry}}
+use Rattle.mg_model.specs.{Refused.first_refusal, State.ObjectRow, declared.replies.Refusal.Refusal}
+use Rattle.{mg_model.specs.declared.replies.Refusal.TheVariants.{Account, Debt}, mg_volume.specs.Held.VolumeHeld}
 use Rattle.mg_volume.specs.Meaning.{accounts_in}
 
 -- whether an offset is that of no word of the object

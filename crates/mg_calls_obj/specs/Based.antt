@@ -1,10 +1,7 @@
 -- Calls on the object with a base.
 use Rattle.std.specs.Prelude.{◌==◌, ℕ, Bool, Option, IfSome, find, is_some}
-use Rattle.mg_disk.specs.Disk.{Image}
-use Rattle.mg_model.specs.Backed.{KeepsBacked, by_via}
-use Rattle.mg_model.specs.State.{ObjectRow}
-use Rattle.mg_volume.specs.Held.{VolumeHeld}
-use Rattle.mg_volume.specs.Meaning.{now_of, objects_in}
+use Rattle.{mg_disk.specs.Disk.Image, mg_model.specs.{Backed.{KeepsBacked, by_via}, State.ObjectRow}}
+use Rattle.mg_volume.specs.{Held.VolumeHeld, Meaning.{now_of, objects_in}}
 
 -- the row of the object with this base
 abbrev pub based : VolumeHeld → ℕ → Option ObjectRow

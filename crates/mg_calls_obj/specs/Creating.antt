@@ -1,13 +1,9 @@
 -- When an object may be made, by what is held.
 use Rattle.std.specs.Prelude.{◌+◌, ◌<◌, ◌≤◌, ◌==◌, ◌||◌, ◌∷◌, [], ℕ, nat_le, nat_lt, not, length, sum_by, Option}
-use Rattle.mg_model.specs.declared.replies.Refusal.{Refusal}
+use Rattle.mg_model.specs.{Bank.{opens, owed_by}, Limits.{account_limit, draw_limit, object_limit, object_page_limit}}
+use Rattle.mg_model.specs.{Refused.first_refusal, State.ObjectRow, declared.replies.Refusal.Refusal}
 use Rattle.mg_model.specs.declared.replies.Refusal.TheVariants.{Account, Debt, Full, Limit, Size}
-use Rattle.mg_model.specs.Bank.{opens, owed_by}
-use Rattle.mg_model.specs.Limits.{account_limit, draw_limit, object_limit, object_page_limit}
-use Rattle.mg_model.specs.Refused.{first_refusal}
-use Rattle.mg_model.specs.State.{ObjectRow}
-use Rattle.mg_volume.specs.Held.{VolumeHeld}
-use Rattle.mg_volume.specs.Meaning.{accounts_in, counters_in, objects_in, settings_in}
+use Rattle.mg_volume.specs.{Held.VolumeHeld, Meaning.{accounts_in, counters_in, objects_in, settings_in}}
 
 -- how many pages the objects have
 abbrev pub used_in : VolumeHeld → ℕ

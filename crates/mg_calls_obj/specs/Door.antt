@@ -1,21 +1,10 @@
 -- Calls that act on the object which an address names.
 use Rattle.std.specs.Prelude.{◌≡◌, ℕ, Bool, true, false, List, Option}
-use Rattle.mg_disk.specs.Disk.{Image}
-use Rattle.mg_model.specs.declared.calls.Call.{Call}
+use Rattle.{mg_disk.specs.Disk.Image, mg_model.specs.{Access.allowed, Backed.by_via, ObjectCalls.row_at}}
+use Rattle.mg_model.specs.{State.ObjectRow, Turn.thread_call, WellFormed.IsWellFormed, declared.calls.Call.Call}
+use Rattle.mg_model.specs.declared.{replies.Reply.Reply, rights.Right.{Right, TheVariants.{D, O}}, seats.Seat.Seat}
+use Rattle.{mg_vcache.specs.Drops.Drops, mg_volume.specs.{Held.VolumeHeld, Meaning.{IsSpelledBy, now_of}}}
 use Rattle.mg_model.specs.declared.calls.Call.TheVariants as call
-use Rattle.mg_model.specs.declared.replies.Reply.{Reply}
-use Rattle.mg_model.specs.declared.rights.Right.{Right}
-use Rattle.mg_model.specs.declared.rights.Right.TheVariants.{D, O}
-use Rattle.mg_model.specs.declared.seats.Seat.{Seat}
-use Rattle.mg_model.specs.Access.{allowed}
-use Rattle.mg_model.specs.Backed.{by_via}
-use Rattle.mg_model.specs.ObjectCalls.{row_at}
-use Rattle.mg_model.specs.State.{ObjectRow}
-use Rattle.mg_model.specs.Turn.{thread_call}
-use Rattle.mg_model.specs.WellFormed.{IsWellFormed}
-use Rattle.mg_vcache.specs.Drops.{Drops}
-use Rattle.mg_volume.specs.Held.{VolumeHeld}
-use Rattle.mg_volume.specs.Meaning.{IsSpelledBy, now_of}
 
 -- whether a call is one of them, the address that it names, and the right that it wants there
 abbrev pub is_on_object : Call → Bool

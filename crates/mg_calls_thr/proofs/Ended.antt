@@ -1,16 +1,9 @@
 -- What `end` and `resume` make of their rows, by their tests.
-use Rattle.std.proofs.Common.{ℕ, ◌≡◌, ◌||◌, ◌==◌, Bool, not, true, false, List, [], ◌∷◌, Option, Some, None, refl, ap, ◌∙◌}
-use Rattle.std.specs.Prelude.{filter, is_some}
-use Rattle.mg_calls_thr.specs.Owning.{is_own_among, own_refusal, thread_among}
-use Rattle.mg_model.specs.declared.replies.Refusal.{Refusal}
-use Rattle.mg_model.specs.declared.replies.Refusal.TheVariants.{NoThread, NotYours}
-use Rattle.mg_model.specs.declared.replies.Reply.TheVariants.{Done, No}
-use Rattle.mg_model.specs.declared.threads.ThrState.TheVariants.{Ready}
-use Rattle.mg_model.specs.Domains.{with_thread}
-use Rattle.mg_model.specs.Abbreviations.{unless_refused}
-use Rattle.mg_model.specs.Refused.{Answer, first_refusal}
-use Rattle.mg_model.specs.State.{State, Thread, ThreadRow}
-use Rattle.mg_model.specs.Threads.{end_thread, resume}
+use Rattle.{mg_calls_thr.specs.Owning.{is_own_among, own_refusal, thread_among}, mg_model.specs.{Abbreviations.unless_refused, Domains.with_thread}}
+use Rattle.mg_model.specs.{Refused.{Answer, first_refusal}, State.{State, Thread, ThreadRow}, Threads.{end_thread, resume}}
+use Rattle.mg_model.specs.declared.replies.{Refusal.{Refusal, TheVariants.{NoThread, NotYours}}, Reply.TheVariants.{Done, No}}
+use Rattle.{mg_model.specs.declared.threads.ThrState.TheVariants.Ready, std.proofs.Common.{ℕ, ◌≡◌, ◌||◌, ◌==◌, Bool, not, true, false, List, [], ◌∷◌}}
+use Rattle.std.{proofs.Common.{Option, Some, None, refl, ap, ◌∙◌}, specs.Prelude.{filter, is_some}}
 
 -- the tests of `end`, of what they look at
 abbrev by_tests : Bool → Bool → Bool → Option Refusal

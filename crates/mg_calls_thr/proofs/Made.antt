@@ -1,40 +1,16 @@
 -- What `thread` makes of its row, by its tests.
-use Rattle.std.proofs.Common.{ℕ, ◌+◌, ◌≡◌, ◌≤◌, ◌||◌, ◌==◌, Bool, not, true, false, List, [], ◌∷◌, if◌then◌else◌, length, Option, Some, None, refl, sym, ap, subst, ◌∙◌}
-use Rattle.std.specs.Prelude.{All, find, map, min, nat_le, option_map}
-use Rattle.std.specs.List.{list_any}
-use Rattle.std.proofs.Math.Nat.{min-eq_left}
-use Rattle.std.proofs.lemmas.List.Elements.{All-head, All-tail}
-use Rattle.mg_access.specs.RefusalLemmas.{access_passed, access_stopped}
-use Rattle.mg_access.specs.Searching.{access_refusal}
-use Rattle.mg_access.specs.ThreadLemmas.{slots-of}
-use Rattle.mg_calls_thr.proofs.Owned.{birth-of}
-use Rattle.mg_calls_thr.specs.Making.{first_row}
-use Rattle.mg_laws.specs.Backing.{CallsKeepBacked}
+use Rattle.mg_access.specs.{RefusalLemmas.{access_passed, access_stopped}, Searching.access_refusal, ThreadLemmas.slots-of}
+use Rattle.{mg_calls_thr.{proofs.Owned.birth-of, specs.Making.first_row}, mg_laws.specs.Backing.CallsKeepBacked}
+use Rattle.mg_model.specs.{Abbreviations.{free_number, unless_refused}, Access.{allowed, domain_of, last_slots, thread_of}, Accesses.line_words}
+use Rattle.mg_model.specs.{Backed.{KeepsBacked, by_none}, Limits.{birth_limit, thread_limit}, ObjectCalls.is_aligned, Refused.Answer, State.Counters}
+use Rattle.mg_model.specs.{State.{State, Thread, ThreadRow}, Threads.{birth_of, is_thread, make_thread, new_thread, with_new_thread}}
+use Rattle.mg_model.specs.{Turn.thread_call, WellFormed.{IsThread, IsWellFormed}, declared.replies.Refusal.{Refusal, TheVariants.Limit}}
+use Rattle.mg_model.specs.declared.{replies.Reply.{Reply, TheVariants.{Count, No}}, rights.Right.TheVariants.X, seats.Seat.Seat, slots.Slot.Slot}
+use Rattle.{mg_vcache.specs.{SeatLemmas.backed_still, Seats.AllBacked}, mg_volume.specs.{Held.VolumeHeld, Meaning.{now_of, threads_in}}}
+use Rattle.{mg_volume.specs.{Staging.threads_with, StateLemmas.now_threads}, std.proofs.Common.{ℕ, ◌+◌, ◌≡◌, ◌≤◌, ◌||◌, ◌==◌, Bool, not, true, false}}
+use Rattle.std.proofs.{Common.{List, [], ◌∷◌, if◌then◌else◌, length, Option, Some, None, refl, sym, ap, subst, ◌∙◌}, Math.Nat.min-eq_left}
+use Rattle.std.{proofs.lemmas.List.Elements.{All-head, All-tail}, specs.{List.list_any, Prelude.{All, find, map, min, nat_le, option_map}}}
 use Rattle.mg_model.specs.declared.calls.Call.TheVariants as call
-use Rattle.mg_model.specs.declared.replies.Refusal.{Refusal}
-use Rattle.mg_model.specs.declared.replies.Refusal.TheVariants.{Limit}
-use Rattle.mg_model.specs.declared.replies.Reply.{Reply}
-use Rattle.mg_model.specs.declared.replies.Reply.TheVariants.{Count, No}
-use Rattle.mg_model.specs.declared.rights.Right.TheVariants.{X}
-use Rattle.mg_model.specs.declared.seats.Seat.{Seat}
-use Rattle.mg_model.specs.declared.slots.Slot.{Slot}
-use Rattle.mg_model.specs.Abbreviations.{free_number, unless_refused}
-use Rattle.mg_model.specs.Access.{allowed, domain_of, last_slots, thread_of}
-use Rattle.mg_model.specs.Accesses.{line_words}
-use Rattle.mg_model.specs.Backed.{KeepsBacked, by_none}
-use Rattle.mg_model.specs.Limits.{birth_limit, thread_limit}
-use Rattle.mg_model.specs.ObjectCalls.{is_aligned}
-use Rattle.mg_model.specs.Refused.{Answer}
-use Rattle.mg_model.specs.State.{Counters, State, Thread, ThreadRow}
-use Rattle.mg_model.specs.Threads.{birth_of, is_thread, make_thread, new_thread, with_new_thread}
-use Rattle.mg_model.specs.Turn.{thread_call}
-use Rattle.mg_model.specs.WellFormed.{IsThread, IsWellFormed}
-use Rattle.mg_vcache.specs.SeatLemmas.{backed_still}
-use Rattle.mg_vcache.specs.Seats.{AllBacked}
-use Rattle.mg_volume.specs.Held.{VolumeHeld}
-use Rattle.mg_volume.specs.StateLemmas.{now_threads}
-use Rattle.mg_volume.specs.Meaning.{now_of, threads_in}
-use Rattle.mg_volume.specs.Staging.{threads_with}
 
 -- whether there may be no more threads
 abbrev pub is_full : List Thread → Counters → Bool

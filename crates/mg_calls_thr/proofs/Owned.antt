@@ -1,11 +1,7 @@
 -- What the row of a thread says of it, if it is held.
+use Rattle.mg_model.specs.{Refused.first_refusal, State.{Thread, ThreadRow}, declared.replies.Refusal.TheVariants.{NoThread, NotYours}}
 use Rattle.std.proofs.Common.{ℕ, ◌≡◌, ◌||◌, ◌==◌, Bool, not, true, false, List, [], ◌∷◌, if◌then◌else◌, Option, Some, None, refl, ap}
-use Rattle.std.specs.Prelude.{find, is_some, option_map}
-use Rattle.std.specs.List.{list_any}
-use Rattle.std.specs.Option.{option_map_or}
-use Rattle.mg_model.specs.declared.replies.Refusal.TheVariants.{NoThread, NotYours}
-use Rattle.mg_model.specs.Refused.{first_refusal}
-use Rattle.mg_model.specs.State.{Thread, ThreadRow}
+use Rattle.std.specs.{List.list_any, Option.option_map_or, Prelude.{find, is_some, option_map}}
 
 pub birth-of : (found : Option Thread) (row : ThreadRow) → option_map (λ (x : Thread). x.row) found ≡ Some row → option_map_or (λ (x : Thread). x.row.birth) found 0 ≡ row.birth
 birth-of None row h = cc

@@ -1,16 +1,9 @@
 -- What a new thread is, by the row of its maker.
 use Rattle.std.specs.Prelude.{ℕ, ◌≡◌, ◌+◌, min, [], ◌∷◌, replicate, None}
-use Rattle.mg_access.specs.Searching.{access_refusal}
-use Rattle.mg_disk.specs.Disk.{Image}
-use Rattle.mg_model.specs.declared.replies.Reply.{Reply}
-use Rattle.mg_model.specs.declared.rights.Right.TheVariants.{X}
-use Rattle.mg_model.specs.declared.threads.ThrState.TheVariants.{Ready}
-use Rattle.mg_model.specs.Access.{last_slots}
-use Rattle.mg_model.specs.State.{CallFrame, ThreadRow}
-use Rattle.mg_model.specs.Threads.{make_thread}
-use Rattle.mg_model.specs.WellFormed.{IsWellFormed}
-use Rattle.mg_volume.specs.Held.{VolumeHeld}
-use Rattle.mg_volume.specs.Meaning.{IsSpelledBy, now_of}
+use Rattle.{mg_access.specs.Searching.access_refusal, mg_disk.specs.Disk.Image, mg_model.specs.Access.last_slots}
+use Rattle.mg_model.specs.{State.{CallFrame, ThreadRow}, Threads.make_thread, WellFormed.IsWellFormed}
+use Rattle.mg_model.specs.declared.{replies.Reply.Reply, rights.Right.TheVariants.X, threads.ThrState.TheVariants.Ready}
+use Rattle.mg_volume.specs.{Held.VolumeHeld, Meaning.{IsSpelledBy, now_of}}
 
 -- its one frame: the slots of its maker's present frame
 abbrev pub first_frame : ThreadRow → CallFrame

@@ -1,10 +1,7 @@
 -- Whose a thread is, by the threads that are held.
-use Rattle.std.specs.Prelude.{ℕ, ◌==◌, ◌||◌, Bool, not, List, [], ◌∷◌, find, is_some, Option}
-use Rattle.std.specs.Option.{option_map_or}
-use Rattle.mg_model.specs.declared.replies.Refusal.{Refusal}
+use Rattle.std.specs.{Option.option_map_or, Prelude.{ℕ, ◌==◌, ◌||◌, Bool, not, List, [], ◌∷◌, find, is_some, Option}}
+use Rattle.mg_model.specs.{Refused.first_refusal, State.Thread, declared.replies.Refusal.Refusal}
 use Rattle.mg_model.specs.declared.replies.Refusal.TheVariants.{NoThread, NotYours}
-use Rattle.mg_model.specs.Refused.{first_refusal}
-use Rattle.mg_model.specs.State.{Thread}
 
 abbrev pub thread_among : List Thread → ℕ → Option Thread
 thread_among threads i = find (λ (thread : Thread). thread.number == i) threads

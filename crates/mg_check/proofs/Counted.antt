@@ -1,15 +1,8 @@
 -- What the rows of a volume say of it.
-use Rattle.std.proofs.Common.{arith}
-use Rattle.std.specs.Prelude.{◌≡◌, ◌+◌, ℕ, length, sum_by}
-use Rattle.std.proofs.lemmas.List.{length-map}
-use Rattle.mg_check.specs.declared.examining.Summary.{Summary}
-use Rattle.mg_rules.specs.declared.volume_rows.VolumeRows.{VolumeRows}
-use Rattle.mg_rules.specs.RowsRead.{objects_of, state_in}
-use Rattle.mg_check.specs.Summaries.{summary_of}
-use Rattle.mg_rules.specs.ObjectOrderLemmas.{spelled-count, spelled-used}
-use Rattle.mg_rules.specs.ToldLemmas.{accounts-placed}
-use Rattle.mg_disk.specs.Disk.{Image}
-use Rattle.mg_model.specs.State.{ObjectRow, Thread, ThreadRow}
+use Rattle.{mg_check.specs.{Summaries.summary_of, declared.examining.Summary.Summary}, mg_disk.specs.Disk.Image, mg_model.specs.State.ObjectRow}
+use Rattle.{mg_model.specs.State.{Thread, ThreadRow}, mg_rules.specs.{ObjectOrderLemmas.{spelled-count, spelled-used}, RowsRead.objects_of}}
+use Rattle.{mg_rules.specs.{RowsRead.state_in, ToldLemmas.accounts-placed, declared.volume_rows.VolumeRows.VolumeRows}, std.proofs.Common.arith}
+use Rattle.std.{proofs.lemmas.List.length-map, specs.Prelude.{◌≡◌, ◌+◌, ℕ, length, sum_by}}
 
 -- a record of these parts
 abbrev summary_with : ℕ → ℕ → ℕ → ℕ → ℕ → ℕ → ℕ → Summary

@@ -1,10 +1,6 @@
 -- A block of the contents among those that were read together.
-use Rattle.std.specs.Prelude.{Result, Err, IsErrAnd}
-use Rattle.std.proofs.lemmas.Result.{err_from_is_err_and}
-use Rattle.std.specs.Prelude.{◌≡◌, ◌+◌, ◌-◌, ℕ, List}
-use Rattle.std.proofs.Common.{ap, sym, ◌∙◌, arith}
-use Rattle.mg_disk.specs.Disk.{Image, InRange, block_at}
-use Rattle.mg_check.specs.Reads.{IsRun}
+use Rattle.{mg_check.specs.Reads.IsRun, mg_disk.specs.Disk.{Image, InRange, block_at}, std.proofs.Common.{ap, sym, ◌∙◌, arith}}
+use Rattle.std.{proofs.lemmas.Result.err_from_is_err_and, specs.Prelude.{Result, Err, IsErrAnd, ◌≡◌, ◌+◌, ◌-◌, ℕ, List}}
 
 pub here : (first count : ℕ) (blocks r : Image) (i : ℕ) (block : List ℕ) → IsRun first count blocks r → InRange first count i → block ≡ block_at blocks (i - first) → block ≡ block_at r i
 here first count blocks r i block run among is =

@@ -1,15 +1,10 @@
 -- Lemmas on how runs of reads join.
-use Rattle.std.specs.Prelude.{◌≡◌, ℕ, length, OnErr, Option, Result, Err, Some}
-use Rattle.std.specs.Option.{ForSome}
-use Rattle.std.proofs.Common.{refl, sym, ap, subst, ◌∙◌, arith}
-use Rattle.mg_disk.specs.Disk.{Image}
-use Rattle.mg_disk.specs.declared.disk.Disk.{Ghosts}
-use Rattle.mg_disk.specs.PlaceLemmas.{HasFirst}
-use Rattle.mg_disk.specs.Runs.{nothing_none, nothing_then}
-use Rattle.mg_disk.specs.Stops.{CountRose, OnlyRead, OnlyReads, OnlyReadsBy}
-use Rattle.mg_faults.specs.Faults.{count_none, count_then, then_rose}
+use Rattle.std.{proofs.Common.{refl, sym, ap, subst, ◌∙◌, arith}, specs.{Option.ForSome, Prelude.{◌≡◌, ℕ, length}}}
+use Rattle.std.specs.Prelude.{OnErr, Option, Result, Err, Some}
+use Rattle.{mg_check.specs.Reads.{CanRead, contents}, mg_disk.specs.{Disk.Image, PlaceLemmas.HasFirst}}
+use Rattle.mg_disk.specs.{Runs.{nothing_none, nothing_then}, Stops.{CountRose, OnlyRead, OnlyReads, OnlyReadsBy}}
+use Rattle.{mg_disk.specs.declared.disk.Disk.Ghosts, mg_faults.specs.Faults.{count_none, count_then, then_rose}}
 use Rattle.mg_model.specs.Words.{and_then}
-use Rattle.mg_check.specs.Reads.{CanRead, contents}
 
 -- what was read, without the answer
 pub only_of : {D T E : Type 0} {facts : Ghosts D} {old new : D} {result : Result T E} → OnlyReads facts old new result → OnlyRead facts old new

@@ -1,9 +1,6 @@
 -- What is read of a volume, by calls that write nothing.
-use Rattle.std.specs.Prelude.{◌≡◌, ◌+◌, ◌<◌, ℕ, ◌≤◌, Option}
-use Rattle.std.specs.Option.{ForSome}
-use Rattle.mg_disk.specs.declared.disk.Disk.{Ghosts}
-use Rattle.mg_disk.specs.Disk.{Image, block_at}
-use Rattle.mg_model.specs.Words.{and_then}
+use Rattle.std.specs.{Option.ForSome, Prelude.{◌≡◌, ◌+◌, ◌<◌, ℕ, ◌≤◌, Option}}
+use Rattle.{mg_disk.specs.{Disk.{Image, block_at}, declared.disk.Disk.Ghosts}, mg_model.specs.Words.and_then}
 
 -- the contents that what reads give has
 abbrev pub contents : {D : Type 0} → Ghosts D → (Image → Option Image) → D → Option Image

@@ -1,12 +1,8 @@
 -- What is reported of a volume.
 use Rattle.std.specs.Prelude.{◌≡◌, length}
-use Rattle.mg_check.specs.declared.examining.Summary.{Summary}
+use Rattle.{mg_check.specs.declared.examining.Summary.Summary, mg_disk.specs.Disk.Image, mg_model.specs.Bank.used}
+use Rattle.{mg_model.specs.{State.State, Volume.{Is, volume}}, mg_rules.specs.RowsRead.state_in}
 use Rattle.mg_rules.specs.declared.volume_rows.VolumeRows.{VolumeRows}
-use Rattle.mg_rules.specs.RowsRead.{state_in}
-use Rattle.mg_disk.specs.Disk.{Image}
-use Rattle.mg_model.specs.Bank.{used}
-use Rattle.mg_model.specs.State.{State}
-use Rattle.mg_model.specs.Volume.{Is, volume}
 
 abbrev pub summary_of : State → Summary
 summary_of state = record {

@@ -1,9 +1,7 @@
 -- A seed is read byte by byte.
-use Rattle.std.proofs.Common.{ℕ, suc, ◌+◌, ◌*◌, ◌<◌, ◌≡◌, List, [], ◌∷◌, ◌++◌, length, get_or, take, drop, Option, Some, None, refl, sym, ap, ◌∙◌, append_assoc, arith}
-use Rattle.std.proofs.Math.ListN.{set, length-set}
+use Rattle.{mg_commands.specs.{Commands.{byte_of, bytes_of}, Forms.byte_before}, std.proofs.Common.{ℕ, suc, ◌+◌, ◌*◌, ◌<◌, ◌≡◌, List, [], ◌∷◌, ◌++◌}}
+use Rattle.std.proofs.{Common.{length, get_or, take, drop, Option, Some, None, refl, sym, ap, ◌∙◌, append_assoc, arith}, Math.ListN.{set, length-set}}
 use Rattle.std.proofs.Math.Seq.{drop-cons, take-suc-set}
-use Rattle.mg_commands.specs.Commands.{byte_of, bytes_of}
-use Rattle.mg_commands.specs.Forms.{byte_before}
 
 -- bytes go before others
 abbrev pub bytes_then : List ℕ → Option (List ℕ) → Option (List ℕ)

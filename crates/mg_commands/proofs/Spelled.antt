@@ -1,12 +1,8 @@
 -- Words by their number.
+use Rattle.mg_commands.specs.{Commands.{dry_of, format_of, gen_of, is_check, run_of, tariff_of}, Forms.{dry_words, format_usual, format_with}}
+use Rattle.{mg_commands.specs.Forms.{gen_with, run_alone, run_with}, mg_io.specs.Arguments.arguments, mg_model.specs.Words.same_bytes}
 use Rattle.std.proofs.Common.{ℕ, zero, false, ◌<◌, ◌≡◌, List, [], ◌∷◌, length, get_or, suc, Option, None, refl, sym, ap, ◌∙◌, arith}
-use Rattle.std.specs.Prelude.{String, codes}
-use Rattle.std.specs.String.{string_bytes}
-use Rattle.std.specs.declared.alloc.Global.{Global}
-use Rattle.mg_model.specs.Words.{same_bytes}
-use Rattle.mg_commands.specs.Commands.{dry_of, format_of, gen_of, is_check, run_of, tariff_of}
-use Rattle.mg_io.specs.Arguments.{arguments}
-use Rattle.mg_commands.specs.Forms.{dry_words, format_usual, format_with, gen_with, run_alone, run_with}
+use Rattle.std.specs.{Prelude.{String, codes}, String.string_bytes, declared.alloc.Global.Global}
 
 not_five : (words : List (List ℕ)) → (length words ≡ 5 → ⊥) → dry_of words ≡ None
 not_five [] h = refl

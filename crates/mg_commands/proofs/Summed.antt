@@ -1,14 +1,7 @@
 -- What is said of the rows of a volume is said of the state that they spell.
-use Rattle.std.specs.Prelude.{◌≡◌, [], Option, Some, None}
-use Rattle.std.specs.Option.{ForSome}
-use Rattle.std.proofs.Common.{refl, subst}
-use Rattle.mg_check.specs.declared.examining.Summary.{Summary}
-use Rattle.mg_rules.specs.declared.volume_rows.VolumeRows.{VolumeRows}
-use Rattle.mg_rules.specs.RowsRead.{IsReadAs, state_in}
-use Rattle.mg_check.specs.Summaries.{TellsOf}
-use Rattle.mg_disk.specs.Disk.{Image}
-use Rattle.mg_model.specs.Volume.{Is, volume}
-use Rattle.mg_commands.specs.Unopened.{TellsState}
+use Rattle.{mg_check.specs.{Summaries.TellsOf, declared.examining.Summary.Summary}, mg_commands.specs.Unopened.TellsState, mg_disk.specs.Disk.Image}
+use Rattle.{mg_model.specs.Volume.{Is, volume}, mg_rules.specs.{RowsRead.{IsReadAs, state_in}, declared.volume_rows.VolumeRows.VolumeRows}}
+use Rattle.std.{proofs.Common.{refl, subst}, specs.{Option.ForSome, Prelude.{◌≡◌, [], Option, Some, None}}}
 
 same_image : (a b : Image) → Some a ≡ Some b → a ≡ b
 same_image a b is = cc

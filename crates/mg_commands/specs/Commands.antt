@@ -1,14 +1,10 @@
 -- The commands, and the words that spell each.
-use Rattle.std.specs.Prelude.{ℕ, ◌+◌, ◌*◌, ◌==◌, ◌&&◌, Bool, false, nat_le, List, [], ◌∷◌, length, if◌then◌else◌, Option, Some, None, codes, drop, not, option_map, take, String}
-use Rattle.std.specs.List.{prefix_len}
-use Rattle.std.specs.Option.{option_or}
-use Rattle.std.specs.declared.alloc.Global.{Global}
-use Rattle.mg_io.specs.Arguments.{arguments}
-use Rattle.mg_model.specs.Settings.{Settings, within_limits}
-use Rattle.mg_model.specs.Tariff.{is_tariff, usual_tariff}
-use Rattle.mg_model.specs.Words.{and_then, digit_of, number_of, same_bytes}
-use Rattle.mg_commands.specs.declared.words.Command.{Command}
-use Rattle.mg_commands.specs.declared.words.Command.TheVariants.{Check, Dry, Format, Gen, Run}
+use Rattle.std.specs.{List.prefix_len, Option.option_or, Prelude.{ℕ, ◌+◌, ◌*◌, ◌==◌, ◌&&◌, Bool, false, nat_le, List}}
+use Rattle.std.specs.Prelude.{[], ◌∷◌, length, if◌then◌else◌, Option, Some, None, codes, drop, not, option_map, take}
+use Rattle.std.specs.{Prelude.String, declared.alloc.Global.Global}
+use Rattle.mg_commands.specs.declared.words.Command.{Command, TheVariants.{Check, Dry, Format, Gen, Run}}
+use Rattle.{mg_io.specs.Arguments.arguments, mg_model.specs.{Settings.{Settings, within_limits}, Tariff.is_tariff}}
+use Rattle.mg_model.specs.{Tariff.usual_tariff, Words.{and_then, digit_of, number_of, same_bytes}}
 
 -- the byte of two hexadecimal digits, the high one first
 abbrev pub byte_of : ℕ → ℕ → Option ℕ

@@ -1,19 +1,13 @@
 -- What `dry` keeps is what a run keeps of a fresh volume on a disk that never fails.
-use Rattle.std.specs.Prelude.{ℕ, ◌≡◌, ◌≢◌, ◌⊎◌, ◌<◌, false, IsTrue, Option, Some, None}
-use Rattle.std.proofs.Common.{arith, refl, sym, subst, ◌∙◌, ⊎_elim}
-use Rattle.mg_disk.specs.Disk.{Image}
-use Rattle.mg_disk.specs.Stops.{CountRose}
-use Rattle.mg_disk.specs.declared.disk.Disk.{Ghosts}
+use Rattle.std.{proofs.Common.{arith, refl, sym, subst, ◌∙◌, ⊎_elim}, specs.Prelude.{ℕ, ◌≡◌, ◌≢◌, ◌⊎◌, ◌<◌, false}}
+use Rattle.std.specs.Prelude.{IsTrue, Option, Some, None}
+use Rattle.{mg_commands.specs.Headline.{DryKeeps, EndsRun, RunKeeps, session_of}, mg_disk.specs.Disk.Image}
+use Rattle.{mg_disk.specs.{Stops.CountRose, declared.disk.Disk.Ghosts}, mg_layout.specs.MayFormat.IsNoState}
+use Rattle.{mg_layout.specs.MayFormat.ReadsFresh, mg_model.specs.{Fresh.fresh, Settings.Settings, Volume.{Is, volume}}}
+use Rattle.mg_serve.specs.{Sessions.use_of, declared.status.Status.Status}
 use Rattle.mg_io.specs.declared.traits.Sink as sinks
 use Rattle.mg_io.specs.declared.traits.Source as sources
-use Rattle.mg_layout.specs.MayFormat.{IsNoState, ReadsFresh}
-use Rattle.mg_model.specs.Fresh.{fresh}
-use Rattle.mg_model.specs.Settings.{Settings}
-use Rattle.mg_model.specs.Volume.{Is, volume}
-use Rattle.mg_serve.specs.declared.status.Status.{Status}
 use Rattle.mg_serve.specs.declared.status.Status.TheVariants as status
-use Rattle.mg_serve.specs.Sessions.{use_of}
-use Rattle.mg_commands.specs.Headline.{DryKeeps, EndsRun, RunKeeps, session_of}
 
 fresh_image : (settings : Settings) (told told' : Option Image) (image : Image) → told ≡ Some image → ReadsFresh settings told told' → (c : Image) × (told' ≡ Some c) × (volume c ≡ Is (fresh settings))
 fresh_image settings None told' image is made = absurd (cc)

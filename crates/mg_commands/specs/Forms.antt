@@ -1,8 +1,7 @@
 -- What the words of a command spell, whatever the volume is called, and parts of them: what the functions that read them promise.
 use Rattle.std.specs.Prelude.{ℕ, ◌&&◌, nat_le, List, [], ◌∷◌, if◌then◌else◌, Option, Some, None, codes}
-use Rattle.mg_model.specs.Settings.{Settings}
-use Rattle.mg_model.specs.Words.{and_then, same_bytes}
 use Rattle.mg_commands.specs.Commands.{dry_of, format_of, gen_of, run_of, settings_of}
+use Rattle.mg_model.specs.{Settings.Settings, Words.{and_then, same_bytes}}
 
 -- a byte, if there is one, goes before the others
 abbrev pub byte_before : Option ℕ → Option (List ℕ) → Option (List ℕ)

@@ -1,26 +1,15 @@
 -- The lines of a generated run and the replies to them, and a run whose counts were printed.
-use Rattle.std.specs.Prelude.{ℕ, ◌≡◌, ◌⊎◌, ◌≤◌, ◌+◌, List, [], ◌∷◌, ◌++◌, filter_map, length, map, Some}
-use Rattle.std.specs.Io.KnownBytes.{Appends}
-use Rattle.std.specs.List.{range_with_len}
 use Rattle.std.proofs.Common.{refl, sym, ap, ◌∙◌, ⊎_elim, inl, inr, suc, arith, subst}
 use Rattle.std.proofs.lemmas.List.FromFn.{length-map-range_with_len, map-range_with_len_more}
-use Rattle.mg_commands.specs.Headline.{GenKeeps, replies_from, run_lines}
-use Rattle.mg_faults.specs.Faults.{Rose}
-use Rattle.mg_gen.specs.Asked.{LinesAreCalls, line_asked}
-use Rattle.mg_gen.specs.Generated.{line_text, run_settings}
-use Rattle.mg_gen.specs.Summary.{summary_text}
-use Rattle.mg_gen.specs.Tallies.{CountsAreTold, tally_of, tally_text}
-use Rattle.mg_io.specs.Known.{AppendsPrefix}
+use Rattle.std.specs.{Io.KnownBytes.Appends, List.range_with_len, Prelude.{ℕ, ◌≡◌, ◌⊎◌, ◌≤◌, ◌+◌, List, [], ◌∷◌, ◌++◌}}
+use Rattle.std.specs.Prelude.{filter_map, length, map, Some}
+use Rattle.{mg_commands.specs.Headline.{GenKeeps, replies_from, run_lines}, mg_faults.specs.Faults.Rose}
+use Rattle.mg_gen.specs.{Asked.{LinesAreCalls, line_asked}, Generated.{line_text, run_settings}, Summary.summary_text}
+use Rattle.{mg_gen.specs.Tallies.{CountsAreTold, tally_of, tally_text}, mg_io.specs.Known.AppendsPrefix}
+use Rattle.mg_model.specs.{Fresh.fresh, Lines.line_of, State.State, Step.{after, step}, Warmth.cost}
+use Rattle.{mg_model.specs.declared.calls.Line.Line, mg_serve.specs.{Sessions.use_of, declared.status.Status.Status}}
 use Rattle.mg_io.specs.declared.traits.Sink as sinks
-use Rattle.mg_model.specs.declared.calls.Line.{Line}
-use Rattle.mg_model.specs.Fresh.{fresh}
-use Rattle.mg_model.specs.Lines.{line_of}
-use Rattle.mg_model.specs.State.{State}
-use Rattle.mg_model.specs.Step.{after, step}
-use Rattle.mg_model.specs.Warmth.{cost}
-use Rattle.mg_serve.specs.declared.status.Status.{Status}
 use Rattle.mg_serve.specs.declared.status.Status.TheVariants as status
-use Rattle.mg_serve.specs.Sessions.{use_of}
 
 -- the replies to a line more
 pub replies-more : (s : State) (ls : List Line) (line : Line) → replies_from s (ls ++ line ∷ []) ≡ replies_from s ls ++ (step (after s ls) line).1 ∷ []

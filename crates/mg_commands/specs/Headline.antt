@@ -1,36 +1,22 @@
 -- What the program promises: the words and the records of the clauses of `top` and of `serve`, in the order in which
 -- docs/PROMISES.md states them. An object that does not tell its content has None for it; a promise on content is then empty.
-use Rattle.std.specs.Prelude.{ℕ, ◌+◌, ◌<◌, ◌≤◌, ◌≡◌, ◌≢◌, ◌⊎◌, List, [], ◌∷◌, ◌++◌, codes, filter_map, length, Option, IfSome, IsSomeAnd}
-use Rattle.std.specs.Fmt.{decimal}
-use Rattle.std.specs.Io.KnownBytes.{Appends}
-use Rattle.std.specs.List.{range_with_len}
-use Rattle.std.specs.Option.{ForSome}
-use Rattle.mg_disk.specs.Disk.{Image}
-use Rattle.mg_disk.specs.Stops.{FromLeft, LeftOr, MightHaveLeft, NothingPending, WritesNothing}
+use Rattle.std.specs.{Fmt.decimal, Io.KnownBytes.Appends, List.range_with_len, Option.ForSome, Prelude.{ℕ, ◌+◌, ◌<◌}}
+use Rattle.std.specs.Prelude.{◌≤◌, ◌≡◌, ◌≢◌, ◌⊎◌, List, [], ◌∷◌, ◌++◌, codes, filter_map, length, Option, IfSome}
+use Rattle.std.specs.Prelude.{IsSomeAnd}
+use Rattle.mg_disk.specs.{Disk.Image, Stops.{FromLeft, LeftOr, MightHaveLeft, NothingPending, WritesNothing}}
+use Rattle.{mg_faults.specs.Faults.Rose, mg_gen.specs.{Generated.{line_text, run_settings}, Summary.summary_text}}
+use Rattle.{mg_io.specs.{Arguments.PutsUsage, Known.AppendsPrefix}, mg_layout.specs.MayFormat.{IsNoState, MayFormat}}
+use Rattle.{mg_layout.specs.MayFormat.ReadsFresh, mg_model.specs.{Bank.used, Draw.password_drawn, Ended.ended_lines}}
+use Rattle.mg_model.specs.{Fresh.{fresh, root_base}, Layout.total_blocks, Lines.{line_of, lines}, Print.hex_text}
+use Rattle.mg_model.specs.{Print.{ok_text, replies_text, spaced}, Settings.Settings, State.State, Step.{after, step}}
+use Rattle.mg_model.specs.{Volume.{Damaged, Is, NotVolume, OldVolume, VolumeRead, volume}, Warmth.cost}
+use Rattle.{mg_model.specs.declared.{calls.Line.Line, replies.Reply.Reply}, mg_serve.specs.Sessions.AlwaysLeft}
+use Rattle.mg_serve.specs.Sessions.{Answers, AreHeld, DiskRose, DiskUse, Ends, EndsSession, HoldsExactly, IfShort}
+use Rattle.mg_serve.specs.Sessions.{IsCut, IsDoneOrMemory, MayLeave, OfInput, OfRest, Puts, PutsPrefix, SinkRose}
+use Rattle.mg_serve.specs.Sessions.{SinkUse, SourceRose, SourceUse, SpellsFirst, SpellsNow, input_limit, left_at}
+use Rattle.mg_serve.specs.{Sessions.{left_now, consumed}, declared.status.Status.Status}
 use Rattle.mg_disk.specs.declared.disk.Disk as disks
-use Rattle.mg_faults.specs.Faults.{Rose}
-use Rattle.mg_gen.specs.Generated.{line_text, run_settings}
-use Rattle.mg_gen.specs.Summary.{summary_text}
-use Rattle.mg_io.specs.Arguments.{PutsUsage}
-use Rattle.mg_io.specs.Known.{AppendsPrefix}
 use Rattle.mg_io.specs.declared.traits.Sink as sinks
-use Rattle.mg_layout.specs.MayFormat.{IsNoState, MayFormat, ReadsFresh}
-use Rattle.mg_model.specs.declared.calls.Line.{Line}
-use Rattle.mg_model.specs.declared.replies.Reply.{Reply}
-use Rattle.mg_model.specs.Bank.{used}
-use Rattle.mg_model.specs.Draw.{password_drawn}
-use Rattle.mg_model.specs.Ended.{ended_lines}
-use Rattle.mg_model.specs.Fresh.{fresh, root_base}
-use Rattle.mg_model.specs.Layout.{total_blocks}
-use Rattle.mg_model.specs.Lines.{line_of, lines}
-use Rattle.mg_model.specs.Print.{hex_text, ok_text, replies_text, spaced}
-use Rattle.mg_model.specs.Settings.{Settings}
-use Rattle.mg_model.specs.State.{State}
-use Rattle.mg_model.specs.Step.{after, step}
-use Rattle.mg_model.specs.Volume.{Damaged, Is, NotVolume, OldVolume, VolumeRead, volume}
-use Rattle.mg_model.specs.Warmth.{cost}
-use Rattle.mg_serve.specs.Sessions.{AlwaysLeft, Answers, AreHeld, DiskRose, DiskUse, Ends, EndsSession, HoldsExactly, IfShort, IsCut, IsDoneOrMemory, MayLeave, OfInput, OfRest, Puts, PutsPrefix, SinkRose, SinkUse, SourceRose, SourceUse, SpellsFirst, SpellsNow, input_limit, left_at, left_now, consumed}
-use Rattle.mg_serve.specs.declared.status.Status.{Status}
 use Rattle.mg_serve.specs.declared.status.Status.TheVariants as status
 
 -- A session

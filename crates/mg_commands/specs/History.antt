@@ -1,16 +1,11 @@
 -- Runs of lines one after another on one disk, with kills and stops between and within them, and what they keep together.
 use Rattle.std.specs.Prelude.{ℕ, ◌≡◌, ◌≤◌, List, [], length, take, IsSome, IsSomeAnd}
-use Rattle.mg_disk.specs.Disk.{Image}
+use Rattle.{mg_commands.specs.Headline.{LinesKeep, Session, session_of}, mg_disk.specs.Disk.Image}
+use Rattle.mg_model.specs.{Lines.lines, State.State, Volume.{Is, volume}, declared.calls.Line.Line}
+use Rattle.mg_serve.specs.{Sessions.{AreHeld, OfInput, OfRest, use_of}, declared.status.Status.Status}
 use Rattle.mg_disk.specs.declared.disk.Disk as disks
 use Rattle.mg_io.specs.declared.traits.Sink as sinks
 use Rattle.mg_io.specs.declared.traits.Source as sources
-use Rattle.mg_model.specs.declared.calls.Line.{Line}
-use Rattle.mg_model.specs.Lines.{lines}
-use Rattle.mg_model.specs.State.{State}
-use Rattle.mg_model.specs.Volume.{Is, volume}
-use Rattle.mg_serve.specs.Sessions.{AreHeld, OfInput, OfRest, use_of}
-use Rattle.mg_serve.specs.declared.status.Status.{Status}
-use Rattle.mg_commands.specs.Headline.{LinesKeep, Session, session_of}
 
 -- A run: what its machine says and keeps of lines from a state on, which for `run` are `replies_text` and `after`; its disk, its
 -- source and its sink as it found them and as it left them; and the rest of a session.

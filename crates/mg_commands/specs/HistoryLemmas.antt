@@ -1,16 +1,13 @@
 -- What runs keep together, by induction over them.
-use Rattle.std.specs.Prelude.{ℕ, ◌≡◌, ◌≤◌, List, length, take, Option, Some, None, IfSome, IsSome, IsSomeAnd}
-use Rattle.std.proofs.Common.{refl, sym, ⊎_elim, arith}
-use Rattle.mg_disk.specs.Disk.{Image}
+use Rattle.std.{proofs.Common.{refl, sym, ⊎_elim, arith}, specs.Prelude.{ℕ, ◌≡◌, ◌≤◌, List, length, take, Option, Some}}
+use Rattle.std.specs.Prelude.{None, IfSome, IsSome, IsSomeAnd}
+use Rattle.mg_commands.specs.{Headline.HoldsSince, History.{Finds, Follow, LeftBy, Reaches, Run, Runs, RunsHold}}
+use Rattle.{mg_commands.specs.History.{SpellsReached, session}, mg_disk.specs.Disk.Image, mg_model.specs.Lines.lines}
+use Rattle.{mg_model.specs.State.State, mg_serve.specs.Sessions.AreHeld}
 use Rattle.mg_disk.specs.declared.disk.Disk as disks
 use Rattle.mg_io.specs.declared.traits.Sink as sinks
 use Rattle.mg_io.specs.declared.traits.Source as sources
-use Rattle.mg_model.specs.Lines.{lines}
-use Rattle.mg_model.specs.State.{State}
-use Rattle.mg_serve.specs.Sessions.{AreHeld}
-use Rattle.mg_commands.specs.Headline.{HoldsSince}
 use Rattle.mg_commands.specs.History as history
-use Rattle.mg_commands.specs.History.{Finds, Follow, LeftBy, Reaches, Run, Runs, RunsHold, SpellsReached, session}
 
 -- the image that reads give
 of_told : (told : Option Image) (P : Image → Type 0) → IsSomeAnd told P → (a : Image) × (told ≡ Some a) × P a

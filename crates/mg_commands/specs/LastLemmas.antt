@@ -1,16 +1,12 @@
 -- What follows of how lines ended, and of the lines after their replies.
-use Rattle.std.specs.Prelude.{ℕ, ◌≡◌, ◌≢◌, ◌⊎◌, List, [], ◌++◌, Option, Some, None, IfSome}
-use Rattle.std.specs.Io.KnownBytes.{Appends}
 use Rattle.std.proofs.Common.{refl, sym, ap, subst, ◌∙◌, inl, inr, ⊎_elim, append_assoc, append-nil}
-use Rattle.mg_faults.specs.Faults.{CountGoesOn, Rose, then_rose}
+use Rattle.std.specs.{Io.KnownBytes.Appends, Prelude.{ℕ, ◌≡◌, ◌≢◌, ◌⊎◌, List, [], ◌++◌, Option, Some, None, IfSome}}
+use Rattle.{mg_commands.specs.Headline.{EndsRun, PutsLast}, mg_faults.specs.Faults.{CountGoesOn, Rose, then_rose}}
 use Rattle.mg_io.specs.Known.{Appends-then, AppendsPrefix, AppendsPrefix-longer}
+use Rattle.{mg_model.specs.declared.calls.Line.Line, mg_serve.specs.{Parts.replies, Sessions.{Answers, IsDoneOrMemory}}}
+use Rattle.mg_serve.specs.{Sessions.{SourceUse, left_at, left_now, use_of}, declared.status.Status.Status}
 use Rattle.mg_io.specs.declared.traits.Sink as sinks
-use Rattle.mg_model.specs.declared.calls.Line.{Line}
-use Rattle.mg_serve.specs.Parts.{replies}
-use Rattle.mg_serve.specs.Sessions.{Answers, IsDoneOrMemory, SourceUse, left_at, left_now, use_of}
-use Rattle.mg_serve.specs.declared.status.Status.{Status}
 use Rattle.mg_serve.specs.declared.status.Status.TheVariants as status
-use Rattle.mg_commands.specs.Headline.{EndsRun, PutsLast}
 
 if_some_then : {T : Type 0} (o : Option T) (P Q : T → Type 0) → ((x : T) → P x → Q x) → IfSome o P → IfSome o Q
 if_some_then None P Q then h = h

@@ -1,36 +1,26 @@
 -- An opening and a session after it: from what each of them keeps to the record of a command.
-use Rattle.std.specs.Prelude.{ℕ, ◌≡◌, ◌≢◌, ◌⊎◌, ◌<◌, ◌≤◌, ◌+◌, List, [], ◌++◌, length, take, Option, Some, None, IfSome, IsSomeAnd, Result, Err}
-use Rattle.std.specs.Io.KnownBytes.{Appends}
-use Rattle.std.specs.Option.{ForSome}
-use Rattle.std.proofs.Common.{refl, sym, ap, ◌∙◌, arith, inl, inr, subst, ⊎_elim}
-use Rattle.std.proofs.lemmas.List.{drop_all}
-use Rattle.mg_check.specs.declared.examining.OpenFault.{OpenFault}
-use Rattle.mg_check.specs.declared.examining.OpenFault.TheVariants as fault
-use Rattle.mg_check.specs.declared.examining.Summary.{Summary}
-use Rattle.mg_disk.specs.Disk.{Image}
-use Rattle.mg_disk.specs.Runs.{leaves_then, leaves_wider}
-use Rattle.mg_disk.specs.Stops.{CountGoes, CountRose, Leaves, LeftOr, WritesNothing}
-use Rattle.mg_disk.specs.declared.disk.Disk.{Ghosts}
-use Rattle.mg_faults.specs.Faults.{Rose, then_rose}
+use Rattle.std.proofs.{Common.{refl, sym, ap, ◌∙◌, arith, inl, inr, subst, ⊎_elim}, lemmas.List.drop_all}
+use Rattle.std.specs.{Io.KnownBytes.Appends, Option.ForSome, Prelude.{ℕ, ◌≡◌, ◌≢◌, ◌⊎◌, ◌<◌, ◌≤◌, ◌+◌, List, [], ◌++◌}}
+use Rattle.std.specs.Prelude.{length, take, Option, Some, None, IfSome, IsSomeAnd, Result, Err}
+use Rattle.mg_check.specs.declared.examining.{OpenFault.OpenFault, Summary.Summary}
+use Rattle.mg_commands.specs.Headline.{EndsRun, EndsUnopened, HoldsSince, IsWithinCost, LinesKeep, OnVolume, TellsLine}
+use Rattle.mg_commands.specs.{Headline.{TellsOfNone, check_line, session_of}, Unopened.{EndsUnopenedBy, FaultTells}}
+use Rattle.{mg_commands.specs.Unopened.{TellsNothing, TellsState, fault_line, summary_line}, mg_disk.specs.Disk.Image}
+use Rattle.mg_disk.specs.{Runs.{leaves_then, leaves_wider}, Stops.{CountGoes, CountRose, Leaves, LeftOr, WritesNothing}}
+use Rattle.{mg_disk.specs.declared.disk.Disk.Ghosts, mg_faults.specs.Faults.{Rose, then_rose}}
 use Rattle.mg_io.specs.Known.{Appends-none, AppendsPrefix, AppendsPrefix-longer, AppendsPrefix-none, TakesAtMost}
+use Rattle.{mg_layout.specs.MayFormat.IsNoState, mg_model.specs.{Ended.ended_lines, Lines.lines, Print.answered}}
+use Rattle.mg_model.specs.{State.State, Volume.{Damaged, Is, NotVolume, OldVolume, VolumeRead, volume}, Warmth.cost}
+use Rattle.{mg_model.specs.declared.calls.Line.Line, mg_serve.specs.Parts.{AnswersLines, AnswersPrefix, AreAnswered}}
+use Rattle.mg_serve.specs.{Parts.{IsPrefix, KeepsAnswered, SpellsAfter, replies}, Serving.{IsWithin, Serves, Traces}}
+use Rattle.mg_serve.specs.Sessions.{Answers, AreHeld, DiskUse, EndsSession, EndsTaking, Holds, HoldsExactly}
+use Rattle.mg_serve.specs.Sessions.{IsDoneOrMemory, SinkUse, SourceUse, SpellsFirst, use_of, input_limit, left_at}
+use Rattle.mg_serve.specs.{Sessions.{left_now, consumed}, declared.status.Status.Status}
+use Rattle.mg_check.specs.declared.examining.OpenFault.TheVariants as fault
 use Rattle.mg_io.specs.declared.traits.Sink as sinks
 use Rattle.mg_io.specs.declared.traits.Source as sources
-use Rattle.mg_layout.specs.MayFormat.{IsNoState}
-use Rattle.mg_model.specs.declared.calls.Line.{Line}
-use Rattle.mg_model.specs.Ended.{ended_lines}
-use Rattle.mg_model.specs.Lines.{lines}
-use Rattle.mg_model.specs.Print.{answered}
-use Rattle.mg_model.specs.State.{State}
-use Rattle.mg_model.specs.Volume.{Damaged, Is, NotVolume, OldVolume, VolumeRead, volume}
-use Rattle.mg_model.specs.Warmth.{cost}
 use Rattle.mg_serve.specs.declared.machine.Machine as machines
-use Rattle.mg_serve.specs.declared.status.Status.{Status}
 use Rattle.mg_serve.specs.declared.status.Status.TheVariants as status
-use Rattle.mg_serve.specs.Serving.{IsWithin, Serves, Traces}
-use Rattle.mg_serve.specs.Parts.{AnswersLines, AnswersPrefix, AreAnswered, IsPrefix, KeepsAnswered, SpellsAfter, replies}
-use Rattle.mg_serve.specs.Sessions.{Answers, AreHeld, DiskUse, EndsSession, EndsTaking, Holds, HoldsExactly, IsDoneOrMemory, SinkUse, SourceUse, SpellsFirst, use_of, input_limit, left_at, left_now, consumed}
-use Rattle.mg_commands.specs.Headline.{EndsRun, EndsUnopened, HoldsSince, IsWithinCost, LinesKeep, OnVolume, TellsLine, TellsOfNone, check_line, session_of}
-use Rattle.mg_commands.specs.Unopened.{EndsUnopenedBy, FaultTells, TellsNothing, TellsState, fault_line, summary_line}
 
 -- before the first call
 none_put : (said : List Line → List ℕ) (left taken : Option (List ℕ)) → AnswersPrefix said left taken taken

@@ -1,10 +1,9 @@
 -- Words that give `run` a batch spell the command `run`.
-use Rattle.std.proofs.Common.{◌≡◌, ℕ, ◌==◌, Bool, true, false, List, [], ◌∷◌, if◌then◌else◌, Option, Some, None, codes, option_map, ap, refl, arith}
+use Rattle.std.proofs.Common.{◌≡◌, ℕ, ◌==◌, Bool, true, false, List, [], ◌∷◌, if◌then◌else◌, Option, Some, None, codes}
+use Rattle.std.proofs.{Common.{option_map, ap, refl, arith}, lemmas.Bool.{and_parts, eqb-true}}
 use Rattle.std.specs.Option.{option_or}
-use Rattle.std.proofs.lemmas.Bool.{and_parts, eqb-true}
+use Rattle.mg_commands.specs.{Commands.{command_of, run_of}, declared.words.Command.TheVariants.{Check, Run}}
 use Rattle.mg_model.specs.Words.{same_bytes}
-use Rattle.mg_commands.specs.Commands.{command_of, run_of}
-use Rattle.mg_commands.specs.declared.words.Command.TheVariants.{Check, Run}
 
 -- no word is both `check` and `run`
 not_both : (word : List ℕ) → same_bytes word (codes "check") ≡ true → same_bytes word (codes "run") ≡ true → ⊥

@@ -1,18 +1,11 @@
 -- What a fault of the opening of a volume says, and how a command ends with it; and what is reported of a volume.
-use Rattle.std.specs.Prelude.{ℕ, ◌≡◌, ◌⊎◌, List, [], ◌∷◌, ◌++◌, Option}
-use Rattle.std.specs.Fmt.{decimal}
-use Rattle.std.specs.Option.{ForSome}
-use Rattle.mg_check.specs.declared.examining.OpenFault.{OpenFault}
-use Rattle.mg_check.specs.declared.examining.OpenFault.TheVariants as fault
-use Rattle.mg_check.specs.declared.examining.Summary.{Summary}
-use Rattle.mg_check.specs.Summaries.{summary_of}
-use Rattle.mg_disk.specs.Disk.{Image}
-use Rattle.mg_model.specs.Print.{ok_text}
-use Rattle.mg_model.specs.State.{State}
-use Rattle.mg_model.specs.Volume.{Damaged, Is, NotVolume, OldVolume, volume}
+use Rattle.std.specs.{Fmt.decimal, Option.ForSome, Prelude.{ℕ, ◌≡◌, ◌⊎◌, List, [], ◌∷◌, ◌++◌, Option}}
+use Rattle.mg_check.specs.{Summaries.summary_of, declared.examining.{OpenFault.OpenFault, Summary.Summary}}
+use Rattle.{mg_commands.specs.Headline.check_line, mg_disk.specs.Disk.Image, mg_model.specs.Print.ok_text}
+use Rattle.mg_model.specs.{State.State, Volume.{Damaged, Is, NotVolume, OldVolume, volume}}
 use Rattle.mg_serve.specs.declared.status.Status.{Status}
+use Rattle.mg_check.specs.declared.examining.OpenFault.TheVariants as fault
 use Rattle.mg_serve.specs.declared.status.Status.TheVariants as status
-use Rattle.mg_commands.specs.Headline.{check_line}
 
 -- the line of a fault of the opening, if it has one
 abbrev pub fault_line : OpenFault → List ℕ

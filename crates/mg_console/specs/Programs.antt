@@ -1,7 +1,6 @@
 -- What a program did, from its words to its exit status: how a command ended, and that its disks were only read before it and after it.
 use Rattle.std.specs.Prelude.{ℕ, ◌≡◌}
-use Rattle.mg_disk.specs.Stops.{WritesNothing}
-use Rattle.mg_disk.specs.declared.disk.Disk.{Ghosts}
+use Rattle.mg_disk.specs.{Stops.WritesNothing, declared.disk.Disk.Ghosts}
 
 -- A command ended with some status, of which this holds, and the exit status is the number of that one.
 pub record EndsAs {T : Type 0} (code_of : T → ℕ) (Did : T → Type 0) (code : ℕ) : Type 0 where

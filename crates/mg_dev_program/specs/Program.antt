@@ -2,18 +2,12 @@
 -- command.
 use Rattle.std.specs.Prelude.{ℕ, ◌≡◌, Bool, false, true, List, ◌∷◌, IfSome, IsTrue, None, Option, codes, String}
 use Rattle.std.specs.declared.alloc.Global.{Global}
-use Rattle.mg_console.specs.Programs.{AfterReads}
-use Rattle.mg_mirror.specs.declared.mirror.Side.{Side}
-use Rattle.mg_mirror_session.specs.Commands.{mirror_of}
-use Rattle.mg_mirror_session.specs.Headline.{MirrorKeeps, NoMirrorKeeps, session_over}
-use Rattle.mg_model.specs.Words.{same_bytes}
-use Rattle.mg_serve.specs.declared.status.Status.{Status}
-use Rattle.mg_serve.specs.Sessions.{DiskUse, SinkUse, SourceUse, use_of}
-use Rattle.mg_io.specs.Arguments.{arguments}
-use Rattle.mg_commands.specs.Headline.{Session, session_of}
-use Rattle.mg_window.specs.Attached.{Attached}
-use Rattle.mg_window_session.specs.Commands.{asks_for}
-use Rattle.mg_window_session.specs.Headline.{DevKeeps, NoDevKeeps}
+use Rattle.{mg_commands.specs.Headline.{Session, session_of}, mg_console.specs.Programs.AfterReads}
+use Rattle.{mg_io.specs.Arguments.arguments, mg_mirror.specs.declared.mirror.Side.Side}
+use Rattle.mg_mirror_session.specs.{Commands.mirror_of, Headline.{MirrorKeeps, NoMirrorKeeps, session_over}}
+use Rattle.{mg_model.specs.Words.same_bytes, mg_serve.specs.Sessions.{DiskUse, SinkUse, SourceUse, use_of}}
+use Rattle.{mg_serve.specs.declared.status.Status.Status, mg_window.specs.Attached.Attached}
+use Rattle.mg_window_session.specs.{Commands.asks_for, Headline.{DevKeeps, NoDevKeeps}}
 
 -- whether the second word is `mirror`
 abbrev pub is_mirror : List (List ℕ) → Bool

@@ -1,10 +1,6 @@
 -- What lasts while blocks are read or written next to each other, one call for each block.
-use Rattle.std.specs.Prelude.{◌≡◌, ℕ, length}
-use Rattle.std.specs.Option.{ForSome}
-use Rattle.mg_disk.specs.Disk.{Image, InRange, SeenBut, TornAt, no_image}
-use Rattle.mg_disk.specs.PlaceLemmas.{HasFirst}
-use Rattle.mg_disk.specs.Stops.{CountGoes, TimeGoes}
-use Rattle.mg_disk.specs.declared.disk.Disk.{Ghosts}
+use Rattle.mg_disk.specs.{Disk.{Image, InRange, SeenBut, TornAt, no_image}, PlaceLemmas.HasFirst, Stops.{CountGoes, TimeGoes}}
+use Rattle.{mg_disk.specs.declared.disk.Disk.Ghosts, std.specs.{Option.ForSome, Prelude.{◌≡◌, ℕ, length}}}
 
 module _ {D : Type 0} (facts : Ghosts D) where
   -- the first n blocks were written, and no other place was

@@ -1,12 +1,7 @@
 -- Only the first of some blocks were written or read. Also a run of writes that failed, when the run has all the blocks.
-use Rattle.std.specs.Prelude.{◌≡◌, ℕ, ◌<◌, ◌≤◌, ◌++◌, drop, length, min, take, Option, Some, None}
-use Rattle.std.proofs.Common.{ap, arith, ◌∙◌}
-use Rattle.std.proofs.Math.Nat.{le-min, min-eq_left, min-le_right}
-use Rattle.std.proofs.lemmas.List.{drop_at, length-take, length-take-le, take_at}
-use Rattle.mg_disk.specs.Disk.{Image, InRange, SameBut, SeenBut, TornAt}
-use Rattle.mg_disk.specs.Runs.{time_wider}
-use Rattle.mg_disk.specs.Stops.{TimeGoes}
-use Rattle.mg_disk.specs.declared.disk.Disk.{Ghosts}
+use Rattle.mg_disk.specs.{Disk.{Image, InRange, SameBut, SeenBut, TornAt}, Runs.time_wider, Stops.TimeGoes, declared.disk.Disk.Ghosts}
+use Rattle.std.proofs.{Common.{ap, arith, ◌∙◌}, Math.Nat.{le-min, min-eq_left, min-le_right}, lemmas.List.{drop_at, length-take, length-take-le}}
+use Rattle.std.{proofs.lemmas.List.take_at, specs.Prelude.{◌≡◌, ℕ, ◌<◌, ◌≤◌, ◌++◌, drop, length, min, take, Option, Some, None}}
 
 -- how many of some calls pass
 pub all_pass : (left calls passing : ℕ) → passing ≡ min left calls → calls ≤ left → calls ≤ passing

@@ -1,20 +1,10 @@
 -- A run of calls of a `MemDisk`, call by call.
-use Rattle.std.proofs.lemmas.Bool.Decides.{nat_tests}
-use Rattle.std.specs.Prelude.{◌≡◌, ◌+◌, ◌<◌, ◌≤◌, ℕ, Contains, Ok, Err, IsErr, Some, length, slice_set, true}
-use Rattle.std.specs.Vec.{vec_len}
-use Rattle.std.proofs.Common.{ap, arith, inl, inr, refl, subst, sym, ◌∙◌, ⊎_elim}
-use Rattle.std.proofs.lemmas.Bool.{cases_lt}
-use Rattle.std.proofs.lemmas.List.{get_or-set_same}
-use Rattle.mg_faults.specs.Faults.{is_last}
-use Rattle.mg_disk.proofs.BlockByBlock.{ArePutSoFar}
-use Rattle.mg_disk.specs.Blocks.{gates_block}
-use Rattle.mg_disk.specs.Disk.{At, Image, InRange, SameBut, block_at, only_place}
-use Rattle.mg_disk.specs.Held.{BeenIn, LeftIn}
-use Rattle.mg_disk.specs.Memory.{FailsAt, FailsFirst, IsCutAt, Numbered, NumberedRun, content_of, counts_of, fails_of, more_reads, more_writes, calls_made, one_read, one_write, room_of}
-use Rattle.mg_disk.specs.PlaceLemmas.{same_after, same_as, same_set}
-use Rattle.mg_disk.specs.declared.disk.Disk.{Ghosts}
-use Rattle.mg_disk.specs.declared.memory.Counts.{Counts}
-use Rattle.mg_disk.specs.declared.memory.MemDisk.{MemDisk}
+use Rattle.mg_disk.{proofs.BlockByBlock.ArePutSoFar, specs.{Blocks.gates_block, Disk.{At, Image, InRange, SameBut, block_at, only_place}}}
+use Rattle.mg_disk.specs.{Held.{BeenIn, LeftIn}, Memory.{FailsAt, FailsFirst, IsCutAt, Numbered, NumberedRun, content_of, counts_of, fails_of}}
+use Rattle.mg_disk.specs.{Memory.{more_reads, more_writes, calls_made, one_read, one_write, room_of}, PlaceLemmas.{same_after, same_as, same_set}}
+use Rattle.{mg_disk.specs.declared.{disk.Disk.Ghosts, memory.{Counts.Counts, MemDisk.MemDisk}}, mg_faults.specs.Faults.is_last, std.proofs.Common.ap}
+use Rattle.std.proofs.{Common.{arith, inl, inr, refl, subst, sym, ◌∙◌, ⊎_elim}, lemmas.{Bool.{cases_lt, Decides.nat_tests}, List.get_or-set_same}}
+use Rattle.std.specs.{Prelude.{◌≡◌, ◌+◌, ◌<◌, ◌≤◌, ℕ, Contains, Ok, Err, IsErr, Some, length, slice_set, true}, Vec.vec_len}
 
 -- one call of a kind more
 pub one_more_read : (a b : Counts) (n : ℕ) → b ≡ more_reads a n → one_read b ≡ more_reads a (n + 1)

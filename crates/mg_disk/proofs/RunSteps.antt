@@ -1,18 +1,10 @@
 -- One call more of a run of calls, one block for each call.
-use Rattle.std.proofs.lemmas.Bool.Decides.{nat_tests}
-use Rattle.std.specs.Prelude.{◌≡◌, ◌+◌, ◌<◌, ◌≤◌, ℕ, zero, suc, List, [], ◌∷◌, get_or, length, option_map, slice_set, Option, Some, None, Ok, Err}
-use Rattle.std.specs.Option.{ForSome}
-use Rattle.std.proofs.Common.{arith, refl, subst, sym, ◌∙◌, ⊎_elim}
-use Rattle.std.proofs.lemmas.Bool.{cases_lt}
-use Rattle.std.proofs.lemmas.List.{get_or-set_other, get_or-set_same, length-set}
-use Rattle.mg_disk.proofs.BlockByBlock.{ArePutSoFar, AreReadSoFar}
-use Rattle.mg_disk.specs.Calls.{IsRead, IsReadRun, IsWrite, IsWriteRun}
-use Rattle.mg_disk.specs.Disk.{Image, InRange, SeenBut, TornAt, block_at, no_image, only_place}
-use Rattle.mg_disk.specs.PlaceLemmas.{HasFirst, same_after, same_set}
-use Rattle.mg_disk.specs.Runs.{time_then}
-use Rattle.mg_disk.specs.Stops.{TimeGoes}
-use Rattle.mg_disk.specs.declared.disk.Disk.{Ghosts}
-use Rattle.mg_faults.specs.Faults.{count_then, then_rose}
+use Rattle.mg_disk.{proofs.BlockByBlock.{ArePutSoFar, AreReadSoFar}, specs.{Calls.{IsRead, IsReadRun, IsWrite, IsWriteRun}, Disk.{Image, InRange}}}
+use Rattle.mg_disk.specs.{Disk.{SeenBut, TornAt, block_at, no_image, only_place}, PlaceLemmas.{HasFirst, same_after, same_set}, Runs.time_then}
+use Rattle.{mg_disk.specs.{Stops.TimeGoes, declared.disk.Disk.Ghosts}, mg_faults.specs.Faults.{count_then, then_rose}, std.proofs.Common.arith}
+use Rattle.std.proofs.{Common.{refl, subst, sym, ◌∙◌, ⊎_elim}, lemmas.{Bool.{cases_lt, Decides.nat_tests}, List.{get_or-set_other, get_or-set_same}}}
+use Rattle.std.{proofs.lemmas.List.length-set, specs.{Option.ForSome, Prelude.{◌≡◌, ◌+◌, ◌<◌, ◌≤◌, ℕ, zero, suc, List, [], ◌∷◌, get_or, length}}}
+use Rattle.std.specs.Prelude.{option_map, slice_set, Option, Some, None, Ok, Err}
 
 -- what reads give differs at some places, and then at others
 but_then : (p q r : ℕ → Type 0) (a b c : Option Image) → ((k : ℕ) → p k → r k) → ((k : ℕ) → q k → r k) → SeenBut p a b → SeenBut q b c → SeenBut r a c

@@ -1,8 +1,6 @@
 -- Lemmas on what reads give before and after.
-use Rattle.std.specs.Prelude.{◌≡◌, ℕ, Option, None, Some, option_map}
-use Rattle.std.proofs.Common.{refl, subst, sym}
-use Rattle.mg_disk.specs.Disk.{Image, SameBut, SeenBut}
-use Rattle.mg_disk.specs.Stops.{Becomes}
+use Rattle.std.{proofs.Common.{refl, subst, sym}, specs.Prelude.{◌≡◌, ℕ, Option, None, Some, option_map}}
+use Rattle.mg_disk.specs.{Disk.{Image, SameBut, SeenBut}, Stops.Becomes}
 
 some_inj : (a b : Image) → Some a ≡ Some b → a ≡ b
 some_inj a b is = cc

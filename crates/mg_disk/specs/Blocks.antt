@@ -1,7 +1,6 @@
 -- Images of a kind, and changes of one.
-use Rattle.std.specs.Prelude.{◌≡◌, ℕ, List, length, replicate, Contains, Some, Vec}
-use Rattle.std.specs.Vec.{vec_len}
-use Rattle.std.proofs.Common.{sym, ap, ◌∙◌, subst}
+use Rattle.std.{proofs.Common.{sym, ap, ◌∙◌, subst}, specs.Prelude.{◌≡◌, ℕ, List, length, replicate, Contains, Some}}
+use Rattle.std.specs.{Prelude.Vec, Vec.vec_len}
 use Rattle.mg_disk.specs.Disk.{Image, block_at, SameBut, AreBytes}
 
 -- a block of zeros

@@ -1,9 +1,7 @@
 -- The calls of the trait, each as one word: what a disk's own method says, besides what it says of the disk's kind.
-use Rattle.std.specs.Prelude.{◌≡◌, ℕ, List, Result, OnOk, OnErr, length, option_map, slice_set}
-use Rattle.std.specs.Option.{ForSome}
+use Rattle.std.specs.{Option.ForSome, Prelude.{◌≡◌, ℕ, List, Result, OnOk, OnErr, length, option_map, slice_set}}
 use Rattle.mg_disk.specs.Disk.{HasBlocks, Image, InRange, block_at, SeenBut, only_place, no_image, TornAt}
-use Rattle.mg_disk.specs.Stops.{NothingPending, TimeGoes, CountGoes, CountRose}
-use Rattle.mg_disk.specs.declared.disk.Disk.{Ghosts}
+use Rattle.mg_disk.specs.{Stops.{NothingPending, TimeGoes, CountGoes, CountRose}, declared.disk.Disk.Ghosts}
 
 module _ {D T E : Type 0} (facts : Ghosts D) (old new : D) where
   -- whatever a call answers

@@ -1,9 +1,6 @@
 -- What a `Fuse` shows.
 use Rattle.std.specs.Prelude.{◌≡◌, ◌-◌, ◌<◌, ◌≤◌, ℕ, length, take, drop, Result, IsErr, OnErr}
-use Rattle.mg_disk.specs.Calls.{IsReadRun, IsWriteRun}
-use Rattle.mg_disk.specs.Disk.{Image}
-use Rattle.mg_disk.specs.Stops.{CountRose}
-use Rattle.mg_disk.specs.declared.disk.Disk.{Ghosts}
+use Rattle.mg_disk.specs.{Calls.{IsReadRun, IsWriteRun}, Disk.Image, Stops.CountRose, declared.disk.Disk.Ghosts}
 use Rattle.mg_disk.specs.declared.fuse.Fuse.{Fuse}
 
 -- the disk that it passes calls on to

@@ -1,7 +1,6 @@
 -- The replay by which a `MemDisk` knows what a stop at each of its moments may leave.
 use Rattle.std.specs.Prelude.{◌≤◌, ℕ, List, [], ◌∷◌, ◌++◌, length, take, slice_set, Contains}
-use Rattle.mg_disk.specs.Disk.{Image, Moment, At, Both, Alone, SameBut}
-use Rattle.mg_disk.specs.declared.memory.Event.{Event}
+use Rattle.mg_disk.specs.{Disk.{Image, Moment, At, Both, Alone, SameBut}, declared.memory.Event.Event}
 use Rattle.mg_disk.specs.declared.memory.Event.TheVariants.{Wrote, Synced}
 
 -- what the last good sync left, what reads give, and the places written since

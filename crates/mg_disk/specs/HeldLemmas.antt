@@ -1,13 +1,12 @@
 -- Lemmas on that replay: how one event more changes what a stop may leave, and the laws of the trait that follow.
-use Rattle.std.specs.Prelude.{◌≡◌, ◌≢◌, ◌⊎◌, ◌<◌, ◌≤◌, ℕ, List, [], ◌∷◌, ◌++◌, length, slice_set, Contains, Some}
-use Rattle.std.proofs.Common.{refl, inl, inr, ⊎_elim, sym, ap, subst, ◌∙◌, arith}
-use Rattle.std.proofs.Math.Nat.{eq-or-lt_of_le}
-use Rattle.std.proofs.lemmas.List.{take-append-le, take_all, length-append, length-set, get_or-set_same, get_or-set_other}
-use Rattle.mg_disk.specs.Disk.{Image, block_at, Moment, At, Both, Alone, SameBut, only_place, GoesOn, no_image, OnlySeen, TornAt}
-use Rattle.mg_disk.specs.Held.{BeenIn, Held, LeftIn, MayLeave, after, run, start}
+use Rattle.std.proofs.{Common.{refl, inl, inr, ⊎_elim, sym, ap, subst, ◌∙◌, arith}, Math.Nat.eq-or-lt_of_le}
+use Rattle.std.proofs.lemmas.List.{take-append-le, take_all, length-append, length-set, get_or-set_same}
+use Rattle.std.{proofs.lemmas.List.get_or-set_other, specs.Prelude.{◌≡◌, ◌≢◌, ◌⊎◌, ◌<◌, ◌≤◌, ℕ, List, [], ◌∷◌, ◌++◌}}
+use Rattle.std.specs.Prelude.{length, slice_set, Contains, Some}
+use Rattle.mg_disk.specs.Disk.{Image, block_at, Moment, At, Both, Alone, SameBut, only_place, GoesOn, no_image}
+use Rattle.mg_disk.specs.{Disk.{OnlySeen, TornAt}, Held.{BeenIn, Held, LeftIn, MayLeave, after, run, start}}
 use Rattle.mg_disk.specs.PlaceLemmas.{same_or_not, none_in_none, not_in_longer, nothing_differs}
-use Rattle.mg_disk.specs.declared.memory.Event.{Event}
-use Rattle.mg_disk.specs.declared.memory.Event.TheVariants.{Wrote, Synced}
+use Rattle.mg_disk.specs.declared.memory.Event.{Event, TheVariants.{Wrote, Synced}}
 
 run-append : (h : Held) (es : List Event) (e : Event) → run h (es ++ e ∷ []) ≡ after (run h es) e
 run-append h [] e = refl

@@ -1,15 +1,9 @@
 -- What a `MemDisk` shows, and how it numbers its calls.
-use Rattle.std.specs.Prelude.{◌≡◌, ◌⊎◌, ◌↔◌, ◌+◌, ◌<◌, ◌≤◌, ℕ, List, length, Contains, Result, IsErr, OnErr, OnOk}
-use Rattle.std.proofs.Common.{sym, subst, arith}
-use Rattle.mg_disk.specs.Blocks.{IsGated, gates_block}
-use Rattle.mg_disk.specs.Disk.{Image, InRange, SameBut, At, block_at}
-use Rattle.mg_disk.specs.Held.{MayLeave, LeftIn}
-use Rattle.mg_disk.specs.HeldLemmas.{since}
-use Rattle.mg_disk.specs.PlaceLemmas.{same_as}
-use Rattle.mg_disk.specs.declared.memory.Counts.{Counts}
-use Rattle.mg_disk.specs.declared.memory.Left.{Left}
-use Rattle.mg_disk.specs.declared.memory.Left.TheVariants.{Old, New, Gates}
-use Rattle.mg_disk.specs.declared.memory.MemDisk.{MemDisk}
+use Rattle.std.{proofs.Common.{sym, subst, arith}, specs.Prelude.{◌≡◌, ◌⊎◌, ◌↔◌, ◌+◌, ◌<◌, ◌≤◌, ℕ, List, length}}
+use Rattle.std.specs.Prelude.{Contains, Result, IsErr, OnErr, OnOk}
+use Rattle.mg_disk.specs.{Blocks.{IsGated, gates_block}, Disk.{Image, InRange, SameBut, At, block_at}, Held.MayLeave}
+use Rattle.mg_disk.specs.{Held.LeftIn, HeldLemmas.since, PlaceLemmas.same_as, declared.memory.Counts.Counts}
+use Rattle.mg_disk.specs.declared.memory.{Left.{Left, TheVariants.{Old, New, Gates}}, MemDisk.MemDisk}
 
 -- the calls that were made and recorded
 abbrev pub counts_of : MemDisk → Counts

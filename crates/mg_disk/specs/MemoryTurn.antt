@@ -1,7 +1,6 @@
 -- The result of a call of a `MemDisk`, by its number.
 use Rattle.std.specs.Prelude.{◌<◌, ◌≤◌, ℕ, List, Contains}
-use Rattle.mg_disk.specs.declared.memory.Turn.{Turn}
-use Rattle.mg_disk.specs.declared.memory.Turn.TheVariants.{Passes, Fails, Past}
+use Rattle.mg_disk.specs.declared.memory.Turn.{Turn, TheVariants.{Passes, Fails, Past}}
 
 abbrev pub IsTurn : Turn → ℕ → List ℕ → ℕ → Type 0
 IsTurn Passes room fails number = (number < room) × (Contains fails number → ⊥)

@@ -1,10 +1,8 @@
 -- How a proof follows what a stop may leave over a run of calls of a disk, one short line for each call.
-use Rattle.std.specs.Prelude.{◌≡◌, ◌⊎◌, ℕ, Some}
-use Rattle.std.proofs.Common.{refl, inl, inr, ⊎_elim, sym, subst, ◌∙◌}
-use Rattle.mg_disk.specs.Disk.{Image, SameBut, no_image, only_place, TornAt}
-use Rattle.mg_disk.specs.PlaceLemmas.{same_as, same_after}
-use Rattle.mg_disk.specs.Stops.{FromLeft, LeftOr, MightHaveLeft, NothingPending, StandsAt, TimeGoes, Leaves, WritesNothing}
-use Rattle.mg_disk.specs.declared.disk.Disk.{Ghosts}
+use Rattle.std.{proofs.Common.{refl, inl, inr, ⊎_elim, sym, subst, ◌∙◌}, specs.Prelude.{◌≡◌, ◌⊎◌, ℕ, Some}}
+use Rattle.mg_disk.specs.{Disk.{Image, SameBut, no_image, only_place, TornAt}, PlaceLemmas.{same_as, same_after}}
+use Rattle.mg_disk.specs.Stops.{FromLeft, LeftOr, MightHaveLeft, NothingPending, StandsAt, TimeGoes, Leaves}
+use Rattle.mg_disk.specs.{Stops.WritesNothing, declared.disk.Disk.Ghosts}
 
 -- Over a run of calls: what a stop left since it began has P, and what it may leave now has Q.
 pub record Tracks {D : Type 0} (facts : Ghosts D) (old new : D) (P Q : Image → Type 0) : Type 0 where

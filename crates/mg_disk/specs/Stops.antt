@@ -1,8 +1,7 @@
 -- What the layers above say of a disk, each in one word. The trait's members are one value, `D.Disk` in a clause.
 use Rattle.std.specs.Prelude.{◌≡◌, ◌⊎◌, OnErr, Option, Result, None, Some}
+use Rattle.mg_disk.specs.{Disk.{Image, GoesOn, no_image, OnlySeen}, declared.disk.Disk.Ghosts}
 use Rattle.mg_faults.specs.Faults.{CountGoesOn, Rose}
-use Rattle.mg_disk.specs.Disk.{Image, GoesOn, no_image, OnlySeen}
-use Rattle.mg_disk.specs.declared.disk.Disk.{Ghosts}
 
 -- What reads give is told before and after and the two images are related, or it is told neither before nor after.
 abbrev pub Becomes : (Image → Image → Type 0) → Option Image → Option Image → Type 0

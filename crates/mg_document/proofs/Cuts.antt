@@ -1,9 +1,6 @@
 -- The first reply of bytes, and the bytes after its newline.
-use Rattle.std.proofs.Common.{◌≡◌, ℕ, ◌<◌, Bool, not, List, [], ◌∷◌, length, take, drop, refl, ap, ◌∙◌}
-use Rattle.std.specs.List.{prefix_len, slice_split}
-use Rattle.mg_asm.specs.CutLemmas.{cut-none, cut-some}
-use Rattle.mg_model.specs.Ended.{all_but_last}
-use Rattle.mg_document.specs.EndedLemmas.{not_last}
+use Rattle.{mg_asm.specs.CutLemmas.{cut-none, cut-some}, mg_document.specs.EndedLemmas.not_last, mg_model.specs.Ended.all_but_last}
+use Rattle.std.{proofs.Common.{◌≡◌, ℕ, ◌<◌, Bool, not, List, [], ◌∷◌, length, take, drop, refl, ap, ◌∙◌}, specs.List.{prefix_len, slice_split}}
 
 pub ended-none : (cuts : ℕ → Bool) (xs rest : List ℕ) (n : ℕ) → n ≡ prefix_len (λ b. not (cuts b)) xs → rest ≡ drop n xs → rest ≡ []
     → all_but_last (slice_split cuts xs) ≡ []

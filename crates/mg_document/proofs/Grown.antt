@@ -1,7 +1,6 @@
 -- How lines of loads grow at their end.
-use Rattle.std.proofs.Common.{◌≡◌, ℕ, zero, suc, ◌+◌, ◌*◌, ◌++◌, ap, sym, ◌∙◌, append_assoc, arith}
+use Rattle.{mg_document.specs.Asked.{load_line, load_lines}, std.proofs.Common.{◌≡◌, ℕ, zero, suc, ◌+◌, ◌*◌, ◌++◌, ap, sym, ◌∙◌, append_assoc, arith}}
 use Rattle.std.proofs.lemmas.List.{append-nil}
-use Rattle.mg_document.specs.Asked.{load_line, load_lines}
 
 -- one line more
 pub loads_more : (thread address n : ℕ) → load_lines thread address n ++ load_line thread (address + 8 * n) ≡ load_lines thread address (n + 1)

@@ -1,8 +1,7 @@
 -- The words of bytes, one after another.
-use Rattle.std.proofs.Common.{◌≡◌, ℕ, zero, suc, ◌+◌, ◌-◌, ◌*◌, ◌<◌, List, [], ◌∷◌, ◌++◌, length, get_or, take, drop, replicate, refl, ap, sym, ◌∙◌, arith}
+use Rattle.{mg_model.specs.Bytes.{number_at, numbers_at, padded_to}, std.proofs.Common.{◌≡◌, ℕ, zero, suc, ◌+◌, ◌-◌, ◌*◌, ◌<◌, List, [], ◌∷◌, ◌++◌}}
+use Rattle.std.proofs.{Common.{length, get_or, take, drop, replicate, refl, ap, sym, ◌∙◌, arith}, lemmas.List.{get_or-drop, get_or-take}}
 use Rattle.std.specs.Int.{from_le_bytes, w64}
-use Rattle.std.proofs.lemmas.List.{get_or-drop, get_or-take}
-use Rattle.mg_model.specs.Bytes.{number_at, numbers_at, padded_to}
 
 -- one number more
 pub numbers_at-more : (bytes : List ℕ) (o n : ℕ) → numbers_at bytes o (n + 1) ≡ numbers_at bytes o n ++ number_at bytes (o + 8 * n) ∷ []

@@ -1,9 +1,7 @@
 -- The bytes that replies give, with one reply more.
-use Rattle.std.proofs.Common.{◌≡◌, ℕ, ◌+◌, ◌-◌, ◌<◌, suc, List, [], ◌∷◌, ◌++◌, Some, None, Err, ap, sym, ◌∙◌, arith}
-use Rattle.mg_document.specs.declared.faults.ReplyFault.TheVariants.{At}
-use Rattle.mg_document.specs.declared.faults.ReplyKind.TheVariants.{Missing, NoWord}
-use Rattle.mg_document.specs.Replies.{bytes_behind, with_told, word_told}
-use Rattle.mg_model.specs.Abbreviations.{word_bytes}
+use Rattle.mg_document.specs.{Replies.{bytes_behind, with_told, word_told}, declared.faults.ReplyFault.TheVariants.At}
+use Rattle.{mg_document.specs.declared.faults.ReplyKind.TheVariants.{Missing, NoWord}, mg_model.specs.Abbreviations.word_bytes, std.proofs.Common.◌≡◌}
+use Rattle.std.proofs.Common.{ℕ, ◌+◌, ◌-◌, ◌<◌, suc, List, [], ◌∷◌, ◌++◌, Some, None, Err, ap, sym, ◌∙◌, arith}
 
 -- a count that is not at its end
 left_more : (count k : ℕ) → k < count → count - k ≡ suc (count - (k + 1))

@@ -1,11 +1,8 @@
 -- The calls that store a document, and those that load one; and their lines.
-use Rattle.std.specs.Prelude.{ℕ, zero, suc, ◌+◌, List, [], ◌∷◌, ◌++◌, codes}
-use Rattle.std.specs.Fmt.{decimal}
-use Rattle.mg_asm.specs.Stored.{store_calls, store_lines}
-use Rattle.mg_document.specs.Documents.{document, words_for}
+use Rattle.std.specs.{Fmt.decimal, Prelude.{ℕ, zero, suc, ◌+◌, List, [], ◌∷◌, ◌++◌, codes}}
+use Rattle.{mg_asm.specs.Stored.{store_calls, store_lines}, mg_document.specs.Documents.{document, words_for}}
+use Rattle.mg_model.specs.{Print.{hex_text, spaced}, declared.calls.Line.Line}
 use Rattle.mg_model.specs.declared.calls.Call.TheVariants as call
-use Rattle.mg_model.specs.declared.calls.Line.{Line}
-use Rattle.mg_model.specs.Print.{hex_text, spaced}
 
 -- a thread stores the words of a document from an address on
 abbrev pub put_calls : ℕ → ℕ → List ℕ → List Line

@@ -1,7 +1,6 @@
 -- A document is bytes; these are the words that hold it.
 use Rattle.std.specs.Prelude.{ℕ, ◌+◌, ◌-◌, ◌*◌, ◌/◌, List, ◌∷◌, length}
-use Rattle.mg_model.specs.Bytes.{numbers_at, padded_to}
-use Rattle.mg_model.specs.Limits.{object_page_limit, page_size}
+use Rattle.mg_model.specs.{Bytes.{numbers_at, padded_to}, Limits.{object_page_limit, page_size}}
 
 -- the number of words that this number of bytes fills, the last of them maybe in part
 abbrev pub words_for : ℕ → ℕ

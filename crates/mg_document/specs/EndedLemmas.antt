@@ -1,7 +1,7 @@
 -- Lemmas that a crate above cites too. None of them is part of a statement.
-use Rattle.std.proofs.Common.{◌≡◌, ℕ, Bool, true, false, if◌then◌else◌, List, [], ◌∷◌, refl}
+use Rattle.std.{proofs.Common.{◌≡◌, ℕ, Bool, true, false, if◌then◌else◌, List, [], ◌∷◌, refl}, specs.List.onto_first}
+use Rattle.std.specs.List.{slice_split}
 use Rattle.mg_model.specs.Ended.{all_but_last}
-use Rattle.std.specs.List.{onto_first, slice_split}
 
 -- there is always a piece, so one before it is not the last
 pub not_last : (cuts : ℕ → Bool) (piece bytes : List ℕ) → all_but_last (piece ∷ slice_split cuts bytes) ≡ piece ∷ all_but_last (slice_split cuts bytes)

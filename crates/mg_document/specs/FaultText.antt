@@ -1,9 +1,6 @@
 -- The text of a fault.
-use Rattle.std.specs.Prelude.{ℕ, List, [], ◌∷◌, ◌++◌, codes}
-use Rattle.std.specs.Fmt.{decimal}
-use Rattle.mg_document.specs.declared.faults.ReplyFault.{ReplyFault}
-use Rattle.mg_document.specs.declared.faults.ReplyFault.TheVariants.{At, Memory}
-use Rattle.mg_document.specs.declared.faults.ReplyKind.{ReplyKind}
+use Rattle.std.specs.{Fmt.decimal, Prelude.{ℕ, List, [], ◌∷◌, ◌++◌, codes}}
+use Rattle.mg_document.specs.declared.faults.{ReplyFault.{ReplyFault, TheVariants.{At, Memory}}, ReplyKind.ReplyKind}
 use Rattle.mg_document.specs.declared.faults.ReplyKind.TheVariants.{Missing, NoWord}
 
 abbrev pub kind_name : ReplyKind → List ℕ

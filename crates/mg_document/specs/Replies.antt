@@ -1,13 +1,10 @@
 -- The document that replies give.
-use Rattle.std.specs.Prelude.{ℕ, zero, suc, ◌+◌, ◌==◌, ◌&&◌, List, [], ◌∷◌, ◌++◌, take, if◌then◌else◌, is_some, Option, Some, None, Result, Ok, Err}
-use Rattle.mg_document.specs.declared.faults.ReplyFault.{ReplyFault}
-use Rattle.mg_document.specs.declared.faults.ReplyFault.TheVariants.{At}
+use Rattle.std.specs.{List.slice_split, Prelude.{ℕ, zero, suc, ◌+◌, ◌==◌, ◌&&◌, List, [], ◌∷◌, ◌++◌, take}}
+use Rattle.std.specs.Prelude.{if◌then◌else◌, is_some, Option, Some, None, Result, Ok, Err}
+use Rattle.mg_document.specs.{Documents.words_for, declared.faults.ReplyFault.{ReplyFault, TheVariants.At}}
 use Rattle.mg_document.specs.declared.faults.ReplyKind.TheVariants.{Missing, NoWord}
-use Rattle.mg_document.specs.Documents.{words_for}
-use Rattle.mg_model.specs.Abbreviations.{word_bytes}
-use Rattle.mg_model.specs.Ended.{all_but_last}
-use Rattle.std.specs.List.{slice_split}
-use Rattle.mg_model.specs.Words.{and_then, hex_part, is_newline, number_of}
+use Rattle.mg_model.specs.{Abbreviations.word_bytes, Ended.all_but_last, Words.{and_then, hex_part, is_newline}}
+use Rattle.mg_model.specs.Words.{number_of}
 
 -- the replies that a newline ends
 abbrev pub ended : List ℕ → List (List ℕ)

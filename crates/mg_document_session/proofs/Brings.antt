@@ -1,12 +1,8 @@
 -- What `bytes` writes for replies to the loads of a document.
-use Rattle.std.proofs.Common.{◌≡◌, List, ℕ, Option, Some, None, Ok, ap, ◌∙◌, subst}
-use Rattle.mg_document.specs.Replies.{bytes_told}
-use Rattle.mg_document_session.specs.Headline.{BringsBack, OfInput, PutsFault, PutsText, became}
-use Rattle.mg_filter.specs.declared.status.Status.{Status}
+use Rattle.{mg_document.specs.Replies.bytes_told, mg_document_session.{proofs.RepliesTold.comes-back, specs.Headline.{BringsBack, OfInput}}}
+use Rattle.mg_document_session.specs.{Headline.{PutsFault, PutsText, became}, declared.words.Command.{Command, TheVariants.Bytes}}
+use Rattle.{mg_filter.specs.declared.status.Status.Status, std.proofs.Common.{◌≡◌, List, ℕ, Option, Some, None, Ok, ap, ◌∙◌, subst}}
 use Rattle.mg_filter.specs.declared.status.Status.TheVariants as status
-use Rattle.mg_document_session.specs.declared.words.Command.{Command}
-use Rattle.mg_document_session.specs.declared.words.Command.TheVariants.{Bytes}
-use Rattle.mg_document_session.proofs.RepliesTold.{comes-back}
 
 bytes-bring : (result : Status) (left left' taken taken' aside aside' : Option (List ℕ)) (Rest Other : Type 0)
     → (result ≡ status.Done → OfInput Bytes left left' (λ input. PutsText Bytes input (became Bytes input) taken taken') × Rest)

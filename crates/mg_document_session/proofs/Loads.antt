@@ -1,17 +1,10 @@
 -- A line that loads a word is read as the call `load`.
-use Rattle.std.proofs.Common.{◌≡◌, ℕ, suc, zero, ◌+◌, ◌*◌, ◌^◌, ◌<◌, ◌≤◌, true, List, [], ◌∷◌, ◌++◌, length, slice_index, Some, codes, refl, ap, ◌∙◌, arith, append_assoc, length-append}
-use Rattle.std.specs.Fmt.{decimal}
-use Rattle.std.specs.Option.{option_map_or}
-use Rattle.std.proofs.lemmas.Fmt.{length-decimal-le}
-use Rattle.mg_document.specs.Asked.{load_calls, load_lines}
-use Rattle.mg_asm.specs.LineLemmas.{AreWords, length-hex_text, lines-read}
-use Rattle.mg_text.specs.NumberLemmas.{High, hex-high, hex-some, number_of-hex}
+use Rattle.{mg_asm.specs.LineLemmas.{AreWords, length-hex_text, lines-read}, mg_document.specs.Asked.{load_calls, load_lines}}
+use Rattle.mg_model.specs.{Lines.{exactly, line_with, lines}, Print.{hex_text, spaced}, Ranges.IsWord, Words.{is_some_word, numbers_of}}
+use Rattle.{mg_model.specs.declared.calls.Line.Line, mg_text.specs.NumberLemmas.{High, hex-high, hex-some, number_of-hex}, std.proofs.Common.{◌≡◌, ℕ}}
+use Rattle.std.proofs.Common.{suc, zero, ◌+◌, ◌*◌, ◌^◌, ◌<◌, ◌≤◌, true, List, [], ◌∷◌, ◌++◌, length, slice_index, Some, codes, refl, ap, ◌∙◌, arith}
+use Rattle.std.{proofs.{Common.{append_assoc, length-append}, lemmas.Fmt.length-decimal-le}, specs.{Fmt.decimal, Option.option_map_or}}
 use Rattle.mg_model.specs.declared.calls.Call.TheVariants as call
-use Rattle.mg_model.specs.declared.calls.Line.{Line}
-use Rattle.mg_model.specs.Lines.{exactly, line_with, lines}
-use Rattle.mg_model.specs.Print.{hex_text, spaced}
-use Rattle.mg_model.specs.Ranges.{IsWord}
-use Rattle.mg_model.specs.Words.{is_some_word, numbers_of}
 
 -- the words after the thread's number
 abbrev parts : ℕ → List (List ℕ)

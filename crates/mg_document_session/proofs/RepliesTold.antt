@@ -1,28 +1,16 @@
 -- The document that the replies to its loads give.
-use Rattle.std.proofs.Common.{◌≡◌, ℕ, zero, suc, ◌+◌, ◌-◌, ◌*◌, ◌^◌, ◌<◌, ◌≤◌, List, [], ◌∷◌, ◌++◌, length, get_or, take, drop, replicate, All, Some, Ok, refl, ap, sym, ◌∙◌, subst, arith, append_assoc}
+use Rattle.{mg_asm.specs.LineLemmas.{high-misses, misses-append, newline_low, split-before}, mg_document.specs.Asked.{load_calls, put_calls}}
+use Rattle.mg_document.specs.{Documents.{document, packed, words_for}, EndedLemmas.not_last, Replies.{bytes_behind, bytes_of, bytes_told, ended}}
+use Rattle.{mg_document.specs.Replies.{first_bytes, with_told, word_told}, mg_document_session.proofs.Stored.{IsRoomy, loads-tell, stores-hold}}
+use Rattle.{mg_document_session.{proofs.Stored.value_lines, specs.Trips.{AllOk, ComesBack, IsByte, replies}}, mg_model.specs.Abbreviations.word_bytes}
+use Rattle.mg_model.specs.{Bytes.{number_at, numbers_at, padded_to, words_bytes}, BytesLemmas.length-padded_to, Ended.all_but_last, Print.hex_text}
+use Rattle.mg_model.specs.{Print.{replies_text, reply_line, reply_text}, Ranges.IsWord, State.Object, Step.after, WellFormed.IsObject}
+use Rattle.{mg_model.specs.{Words.{is_newline, number_of}, declared.replies.Reply.TheVariants.Value}, mg_text.specs.NumberLemmas.hex-high}
+use Rattle.{mg_text.specs.NumberLemmas.number_of-hex, std.proofs.Common.{◌≡◌, ℕ, zero, suc, ◌+◌, ◌-◌, ◌*◌, ◌^◌, ◌<◌, ◌≤◌, List, [], ◌∷◌, ◌++◌}}
+use Rattle.std.proofs.Common.{length, get_or, take, drop, replicate, All, Some, Ok, refl, ap, sym, ◌∙◌, subst, arith, append_assoc}
+use Rattle.std.proofs.lemmas.List.{append-nil, drop-drop, length-drop, length-take-le, take_all, take_at, Elements.{All-append, All-cons, All-drop}}
+use Rattle.std.proofs.lemmas.{List.Elements.{All-head, All-nil, All-replicate, All-tail, All-take, All-weaker}, Nat.le_bytes_8}
 use Rattle.std.specs.Int.{from_le_bytes, w64}
-use Rattle.std.proofs.lemmas.List.{append-nil, drop-drop, length-drop, length-take-le, take_all, take_at}
-use Rattle.std.proofs.lemmas.List.Elements.{All-append, All-cons, All-drop, All-head, All-nil, All-replicate, All-tail, All-take, All-weaker}
-use Rattle.std.proofs.lemmas.Nat.{le_bytes_8}
-use Rattle.mg_document.specs.Asked.{load_calls, put_calls}
-use Rattle.mg_document.specs.Documents.{document, packed, words_for}
-use Rattle.mg_document.specs.EndedLemmas.{not_last}
-use Rattle.mg_document.specs.Replies.{bytes_behind, bytes_of, bytes_told, ended, first_bytes, with_told, word_told}
-use Rattle.mg_document_session.specs.Trips.{AllOk, ComesBack, IsByte, replies}
-use Rattle.mg_asm.specs.LineLemmas.{high-misses, misses-append, newline_low, split-before}
-use Rattle.mg_text.specs.NumberLemmas.{hex-high, number_of-hex}
-use Rattle.mg_document_session.proofs.Stored.{IsRoomy, loads-tell, stores-hold, value_lines}
-use Rattle.mg_model.specs.declared.replies.Reply.TheVariants.{Value}
-use Rattle.mg_model.specs.Abbreviations.{word_bytes}
-use Rattle.mg_model.specs.Bytes.{number_at, numbers_at, padded_to, words_bytes}
-use Rattle.mg_model.specs.BytesLemmas.{length-padded_to}
-use Rattle.mg_model.specs.Ended.{all_but_last}
-use Rattle.mg_model.specs.Print.{hex_text, replies_text, reply_line, reply_text}
-use Rattle.mg_model.specs.Ranges.{IsWord}
-use Rattle.mg_model.specs.State.{Object}
-use Rattle.mg_model.specs.Step.{after}
-use Rattle.mg_model.specs.WellFormed.{IsObject}
-use Rattle.mg_model.specs.Words.{is_newline, number_of}
 
 -- objects of a well-formed state
 object-roomy : (object : Object) → IsObject object → IsRoomy object

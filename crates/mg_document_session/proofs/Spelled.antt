@@ -1,9 +1,6 @@
 -- Words that spell no command.
-use Rattle.std.proofs.Common.{◌≡◌, ◌≤◌, List, [], ◌∷◌, length, None, refl, arith}
-use Rattle.std.specs.Prelude.{String}
-use Rattle.std.specs.declared.alloc.Global.{Global}
-use Rattle.mg_document_session.specs.Commands.{command_of}
-use Rattle.mg_io.specs.Arguments.{arguments}
+use Rattle.{mg_document_session.specs.Commands.command_of, mg_io.specs.Arguments.arguments, std.proofs.Common.{◌≡◌, ◌≤◌, List, [], ◌∷◌, length, None}}
+use Rattle.std.{proofs.Common.{refl, arith}, specs.{Prelude.String, declared.alloc.Global.Global}}
 
 pub five_or_more : (words : List (String Global)) → 5 ≤ length words → command_of (arguments words) ≡ None
 five_or_more [] h = absurd (omega (arith, h))

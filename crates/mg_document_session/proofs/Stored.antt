@@ -1,28 +1,14 @@
 -- What is at an address and after it when words were stored there, each answered ok; and what loads give of it.
-use Rattle.std.proofs.Common.{◌≡◌, ◌≢◌, ℕ, ◌+◌, ◌-◌, ◌*◌, ◌/◌, ◌%◌, ◌<◌, ◌≤◌, Bool, true, false, not, if◌then◌else◌, List, [], ◌∷◌, ◌++◌, length, slice_set, All, Option, Some, None, is_some, option_map, refl, ap, sym, ◌∙◌, subst, arith}
-use Rattle.std.specs.Option.{option_map_or}
-use Rattle.std.proofs.lemmas.Bool.{and_parts, eqb-true, leb-true, ltb-true}
-use Rattle.std.proofs.lemmas.List.{get_or-set_other, get_or-set_same, length-set}
-use Rattle.std.proofs.lemmas.List.Elements.{All-cons, All-head, All-nil, All-tail}
-use Rattle.std.proofs.lemmas.Option.{same_Some}
-use Rattle.mg_asm.specs.Stored.{store_calls}
-use Rattle.mg_document.specs.Asked.{load_calls}
-use Rattle.mg_document_session.specs.Trips.{AllOk, IsOk}
+use Rattle.{mg_asm.specs.Stored.store_calls, mg_document.specs.Asked.load_calls, mg_document_session.specs.Trips.{AllOk, IsOk}}
+use Rattle.mg_model.specs.{Abbreviations.word_in, Access.{allowed, at, covers}, ObjectCalls.is_aligned, Objects.{with_word, word_at}}
+use Rattle.mg_model.specs.{Print.{replies_text, reply_line}, Refused.{Answer, checked}, State.{Object, ObjectRow, State}, Step.{after, step}}
+use Rattle.mg_model.specs.{Threads.is_thread, declared.{calls.Line.Line, replies.Refusal.TheVariants.{Align, Denied, NoThread}}}
+use Rattle.{mg_model.specs.declared.{replies.Reply.TheVariants.{Done, No, Value}, rights.Right.{Right, TheVariants.{R, W}}}, std.proofs.Common.◌≡◌}
+use Rattle.std.proofs.Common.{◌≢◌, ℕ, ◌+◌, ◌-◌, ◌*◌, ◌/◌, ◌%◌, ◌<◌, ◌≤◌, Bool, true, false, not, if◌then◌else◌, List, [], ◌∷◌, ◌++◌, length}
+use Rattle.std.proofs.{Common.{slice_set, All, Option, Some, None, is_some, option_map, refl, ap, sym, ◌∙◌, subst, arith}, lemmas.Bool.and_parts}
+use Rattle.std.proofs.lemmas.{Bool.{eqb-true, leb-true, ltb-true}, List.{get_or-set_other, get_or-set_same, length-set, Elements.All-cons}}
+use Rattle.std.{proofs.lemmas.{List.Elements.{All-head, All-nil, All-tail}, Option.same_Some}, specs.Option.option_map_or}
 use Rattle.mg_model.specs.declared.calls.Call.TheVariants as call
-use Rattle.mg_model.specs.declared.calls.Line.{Line}
-use Rattle.mg_model.specs.declared.replies.Refusal.TheVariants.{Align, Denied, NoThread}
-use Rattle.mg_model.specs.declared.replies.Reply.TheVariants.{Done, No, Value}
-use Rattle.mg_model.specs.declared.rights.Right.{Right}
-use Rattle.mg_model.specs.declared.rights.Right.TheVariants.{R, W}
-use Rattle.mg_model.specs.Abbreviations.{word_in}
-use Rattle.mg_model.specs.Access.{allowed, at, covers}
-use Rattle.mg_model.specs.ObjectCalls.{is_aligned}
-use Rattle.mg_model.specs.Objects.{with_word, word_at}
-use Rattle.mg_model.specs.Print.{replies_text, reply_line}
-use Rattle.mg_model.specs.Refused.{Answer, checked}
-use Rattle.mg_model.specs.State.{Object, ObjectRow, State}
-use Rattle.mg_model.specs.Step.{after, step}
-use Rattle.mg_model.specs.Threads.{is_thread}
 
 -- an object begins at a word, and has a word for each eight bytes
 pub record IsRoomy (object : Object) : Type 0 where

@@ -1,9 +1,8 @@
 -- The commands, and the words that spell each.
-use Rattle.std.specs.Prelude.{ℕ, ◌^◌, ◌&&◌, ◌<◌, ◌≤◌, nat_le, Bool, List, [], ◌∷◌, if◌then◌else◌, Option, Some, None, codes}
-use Rattle.mg_asm.specs.Stored.{may_store_at}
-use Rattle.mg_document.specs.Documents.{byte_limit}
-use Rattle.mg_document_session.specs.declared.words.Command.{Command}
-use Rattle.mg_document_session.specs.declared.words.Command.TheVariants.{Bytes, Get, Put}
+use Rattle.std.specs.Prelude.{ℕ, ◌^◌, ◌&&◌, ◌<◌, ◌≤◌, nat_le, Bool, List, [], ◌∷◌, if◌then◌else◌, Option, Some, None}
+use Rattle.std.specs.Prelude.{codes}
+use Rattle.{mg_asm.specs.Stored.may_store_at, mg_document.specs.Documents.byte_limit}
+use Rattle.mg_document_session.specs.declared.words.Command.{Command, TheVariants.{Bytes, Get, Put}}
 use Rattle.mg_model.specs.Words.{and_then, number_of, same_bytes}
 
 -- as many bytes as a document may have

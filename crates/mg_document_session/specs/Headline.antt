@@ -1,22 +1,15 @@
 -- What the program promises. An object that does not tell its content has None for it, and a promise on content is then empty.
-use Rattle.std.specs.Prelude.{ℕ, ◌+◌, ◌^◌, ◌≡◌, ◌≢◌, ◌⊎◌, List, [], ◌++◌, Option, IfSome, Result, Ok, Err}
-use Rattle.std.specs.Io.KnownBytes.{Appends}
-use Rattle.mg_document.specs.declared.faults.ReplyFault.{ReplyFault}
-use Rattle.mg_document.specs.Asked.{get_calls, get_text, put_calls, put_text}
-use Rattle.mg_document.specs.Documents.{byte_limit}
-use Rattle.mg_document.specs.Replies.{bytes_told}
-use Rattle.mg_document.specs.FaultText.{fault_line}
-use Rattle.mg_filter.specs.Whole.{OfWhole, TakesMore}
-use Rattle.mg_document_session.specs.Trips.{Trip, replies}
-use Rattle.mg_filter.specs.declared.status.Status.{Status}
+use Rattle.std.specs.{Io.KnownBytes.Appends, Prelude.{ℕ, ◌+◌, ◌^◌, ◌≡◌, ◌≢◌, ◌⊎◌, List, [], ◌++◌, Option, IfSome}}
+use Rattle.std.specs.Prelude.{Result, Ok, Err}
+use Rattle.mg_document.specs.{Asked.{get_calls, get_text, put_calls, put_text}, Documents.byte_limit}
+use Rattle.mg_document.specs.{FaultText.fault_line, Replies.bytes_told, declared.faults.ReplyFault.ReplyFault}
+use Rattle.mg_document_session.specs.{Trips.{Trip, replies}, declared.words.Command.{Command, TheVariants.{Bytes, Get}}}
+use Rattle.{mg_document_session.specs.declared.words.Command.TheVariants.Put, mg_faults.specs.Faults.Rose}
+use Rattle.mg_filter.specs.{Whole.{OfWhole, TakesMore}, declared.status.Status.Status}
+use Rattle.{mg_io.specs.Known.{AppendsPrefix, TakesAtMost}, mg_model.specs.Lines.lines}
 use Rattle.mg_filter.specs.declared.status.Status.TheVariants as status
-use Rattle.mg_document_session.specs.declared.words.Command.{Command}
-use Rattle.mg_document_session.specs.declared.words.Command.TheVariants.{Bytes, Get, Put}
-use Rattle.mg_faults.specs.Faults.{Rose}
-use Rattle.mg_io.specs.Known.{AppendsPrefix, TakesAtMost}
 use Rattle.mg_io.specs.declared.traits.Sink as sinks
 use Rattle.mg_io.specs.declared.traits.Source as sources
-use Rattle.mg_model.specs.Lines.{lines}
 
 -- the most bytes of an input: those of a document, or of the replies to one; `get` reads none
 abbrev pub limit_of : Command → ℕ

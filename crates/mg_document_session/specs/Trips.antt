@@ -1,16 +1,9 @@
 -- A document that is stored in a state and loaded from the state after that, by the machine's own definition of a step.
 use Rattle.std.specs.Prelude.{ℕ, ◌^◌, ◌<◌, ◌≤◌, ◌≡◌, List, [], ◌∷◌, ◌++◌, length, All, Result, Ok}
-use Rattle.mg_document.specs.declared.faults.ReplyFault.{ReplyFault}
-use Rattle.mg_document.specs.Asked.{get_calls, get_text, put_calls}
-use Rattle.mg_document.specs.Documents.{byte_limit}
-use Rattle.mg_model.specs.declared.calls.Line.{Line}
-use Rattle.mg_model.specs.declared.replies.Reply.{Reply}
-use Rattle.mg_model.specs.declared.replies.Reply.TheVariants.{No}
-use Rattle.mg_model.specs.Lines.{lines}
-use Rattle.mg_model.specs.Print.{replies_text}
-use Rattle.mg_model.specs.State.{State}
-use Rattle.mg_model.specs.Step.{after, step}
-use Rattle.mg_model.specs.WellFormed.{IsWellFormed}
+use Rattle.mg_document.specs.{Asked.{get_calls, get_text, put_calls}, Documents.byte_limit}
+use Rattle.{mg_document.specs.declared.faults.ReplyFault.ReplyFault, mg_model.specs.{Lines.lines, Print.replies_text}}
+use Rattle.mg_model.specs.{State.State, Step.{after, step}, WellFormed.IsWellFormed, declared.calls.Line.Line}
+use Rattle.mg_model.specs.declared.replies.Reply.{Reply, TheVariants.No}
 
 -- a reply that refuses nothing
 abbrev pub IsOk : Reply → Type 0

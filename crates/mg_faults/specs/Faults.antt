@@ -1,6 +1,6 @@
 -- What the count of faults of an outside object says of a call, and of a run of calls.
-use Rattle.std.specs.Prelude.{ℕ, ◌-◌, ◌^◌, ◌==◌, ◌<◌, ◌≤◌, ◌⊎◌, Bool, IsTrue, Result, OnErr}
-use Rattle.std.proofs.Common.{arith, inl, inr, ⊎_elim}
+use Rattle.std.{proofs.Common.{arith, inl, inr, ⊎_elim}, specs.Prelude.{ℕ, ◌-◌, ◌^◌, ◌==◌, ◌<◌, ◌≤◌, ◌⊎◌, Bool, IsTrue}}
+use Rattle.std.specs.Prelude.{Result, OnErr}
 
 -- the count rose, or stands at its last value at the end
 abbrev pub Rose : ℕ → ℕ → Bool → Type 0

@@ -1,8 +1,7 @@
 -- What both filters do if the words spell no command.
 use Rattle.std.specs.Prelude.{◌≡◌}
-use Rattle.mg_filter.specs.declared.status.Status.{Status}
+use Rattle.{mg_filter.specs.declared.status.Status.Status, mg_io.specs.Arguments.PutsUsage}
 use Rattle.mg_filter.specs.declared.status.Status.TheVariants as status
-use Rattle.mg_io.specs.Arguments.{PutsUsage}
 use Rattle.mg_io.specs.declared.traits.Sink as sinks
 
 -- What is kept if the words spell no command: `err` takes the line, and source and `out` are left alone.

@@ -1,20 +1,13 @@
 -- Each kind of line spells its call.
-use Rattle.std.proofs.Common.{◌≡◌, ℕ, ◌+◌, ◌-◌, ◌*◌, ◌/◌, ◌%◌, ◌^◌, ◌<◌, ◌==◌, ◌&&◌, nat_le, nat_lt, Bool, true, false, List, [], ◌∷◌, length, Some, None, if◌then◌else◌, codes, slice_index, refl, ap, ◌∙◌, arith}
-use Rattle.std.specs.Fmt.{decimal}
-use Rattle.std.specs.Option.{option_map_or}
-use Rattle.std.proofs.lemmas.Bool.{and_parts, leb-true, ltb-true}
+use Rattle.mg_gen.proofs.{Numbers.{IsWord, decimal-word, hex-word}, Passwords.password-fits, Spelled.{Spells, call-spells}}
+use Rattle.mg_gen.specs.Asked.{LinesAreCalls, address_of, asked, drawn_line, entry_value, kind_line, kind_of, line_asked, prepared_line, thread_of}
+use Rattle.mg_gen.specs.{Asked.value_of, Generated.{call_text, drawn_text, drawn_word, entry_text, kind_text, line_text, prepared_text}}
+use Rattle.{mg_gen.specs.Generated.{run_object_base, run_password, stored}, mg_model.specs.{Fresh.root_base, Lines.{exactly, line_with, pwadd_of}}}
+use Rattle.mg_model.specs.{Print.hex_text, Words.{and_then, is_some_word, number_of, numbers_of, rights_of}, declared.calls.Line.Line}
+use Rattle.{mg_text.specs.NumberLemmas.{High, number_of-back, number_of-hex}, std.proofs.Common.{◌≡◌, ℕ, ◌+◌, ◌-◌, ◌*◌, ◌/◌, ◌%◌, ◌^◌, ◌<◌, ◌==◌}}
+use Rattle.std.proofs.Common.{◌&&◌, nat_le, nat_lt, Bool, true, false, List, [], ◌∷◌, length, Some, None, if◌then◌else◌, codes, slice_index, refl, ap}
+use Rattle.std.{proofs.{Common.{◌∙◌, arith}, lemmas.Bool.{and_parts, leb-true, ltb-true}}, specs.{Fmt.decimal, Option.option_map_or}}
 use Rattle.mg_model.specs.declared.calls.Call.TheVariants as call
-use Rattle.mg_model.specs.declared.calls.Line.{Line}
-use Rattle.mg_model.specs.Lines.{exactly, line_with, pwadd_of}
-use Rattle.mg_model.specs.Print.{hex_text}
-use Rattle.mg_model.specs.Words.{and_then, is_some_word, number_of, numbers_of, rights_of}
-use Rattle.mg_model.specs.Fresh.{root_base}
-use Rattle.mg_gen.specs.Asked.{LinesAreCalls, address_of, asked, drawn_line, entry_value, kind_line, kind_of, line_asked, prepared_line, thread_of, value_of}
-use Rattle.mg_gen.specs.Generated.{call_text, drawn_text, drawn_word, entry_text, kind_text, line_text, prepared_text, run_object_base, run_password, stored}
-use Rattle.mg_gen.proofs.Passwords.{password-fits}
-use Rattle.mg_gen.proofs.Numbers.{IsWord, decimal-word, hex-word}
-use Rattle.mg_text.specs.NumberLemmas.{High, number_of-back, number_of-hex}
-use Rattle.mg_gen.proofs.Spelled.{Spells, call-spells}
 
 -- call words
 abbrev all_high : List ℕ → Bool

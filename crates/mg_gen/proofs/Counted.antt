@@ -1,13 +1,9 @@
 -- Each reply is counted in one row.
-use Rattle.std.proofs.Common.{◌≡◌, ℕ, zero, suc, ◌+◌, ◌==◌, List, [], ◌∷◌, length, map, sum, cond, count_by, refl, ap, ◌∙◌, arith}
-use Rattle.std.specs.List.{range_with_len}
-use Rattle.std.proofs.lemmas.List.Sums.{sum_by-cons}
-use Rattle.mg_model.specs.declared.replies.Refusal.{Refusal}
+use Rattle.{mg_gen.specs.Tallies.{CountsAddUp, WordsAreInRows, row_of, tally_of}, mg_model.specs.Abbreviations.refusal_number}
+use Rattle.{mg_model.specs.declared.replies.{Refusal.Refusal, Reply.Reply}, std.proofs.Common.{◌≡◌, ℕ, zero, suc, ◌+◌, ◌==◌, List, [], ◌∷◌, length}}
+use Rattle.std.{proofs.{Common.{map, sum, cond, count_by, refl, ap, ◌∙◌, arith}, lemmas.List.Sums.sum_by-cons}, specs.List.range_with_len}
 use Rattle.mg_model.specs.declared.replies.Refusal.TheVariants as refusal
-use Rattle.mg_model.specs.declared.replies.Reply.{Reply}
 use Rattle.mg_model.specs.declared.replies.Reply.TheVariants as reply
-use Rattle.mg_model.specs.Abbreviations.{refusal_number}
-use Rattle.mg_gen.specs.Tallies.{CountsAddUp, WordsAreInRows, row_of, tally_of}
 
 -- the sum over k rows from a on
 abbrev total : (ℕ → ℕ) → ℕ → ℕ → ℕ

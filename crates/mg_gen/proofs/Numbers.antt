@@ -1,10 +1,7 @@
 -- The words of a generated line.
-use Rattle.std.proofs.Common.{◌≡◌, ℕ, ◌^◌, ◌<◌, ◌≤◌, List, [], ◌∷◌, length, true, refl, arith}
-use Rattle.std.specs.Fmt.{decimal}
-use Rattle.std.proofs.lemmas.Fmt.{decimal_nonempty, length-decimal-le}
-use Rattle.mg_model.specs.Print.{hex_text}
-use Rattle.mg_model.specs.Words.{is_some_word}
-use Rattle.mg_text.specs.NumberLemmas.{High, decimal-digits, digits-high, hex-high, hex-some, length-hex}
+use Rattle.{mg_model.specs.{Print.hex_text, Words.is_some_word}, mg_text.specs.NumberLemmas.{High, decimal-digits, digits-high, hex-high, hex-some}}
+use Rattle.{mg_text.specs.NumberLemmas.length-hex, std.proofs.Common.{◌≡◌, ℕ, ◌^◌, ◌<◌, ◌≤◌, List, [], ◌∷◌, length, true, refl, arith}}
+use Rattle.std.{proofs.lemmas.Fmt.{decimal_nonempty, length-decimal-le}, specs.Fmt.decimal}
 
 -- a word of a generated line: some bytes, none of them blank, and few
 pub record IsWord (bytes : List ℕ) : Type 0 where

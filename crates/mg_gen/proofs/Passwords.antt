@@ -1,10 +1,7 @@
 -- The passwords that the seed of the run's machine draws.
-use Rattle.std.proofs.Common.{◌≡◌, ℕ, zero, suc, ◌^◌, ◌<◌, ◌≤◌, get_or, refl, ap, subst, arith}
-use Rattle.std.proofs.lemmas.Bool.Decides.{nat_tests}
-use Rattle.rand_chacha.specs.Block.{block_word, column_round, diagonal_round, double_rounds, quarter_round}
-use Rattle.rand_core.specs.Steps.{u32_at}
-use Rattle.mg_gen.specs.Asked.{PasswordsAreDrawn, password_number}
-use Rattle.mg_gen.specs.Generated.{run_password}
+use Rattle.{mg_gen.specs.{Asked.{PasswordsAreDrawn, password_number}, Generated.run_password}, rand_chacha.specs.Block.{block_word, column_round}}
+use Rattle.{rand_chacha.specs.Block.{diagonal_round, double_rounds, quarter_round}, rand_core.specs.Steps.u32_at, std.proofs.Common.{◌≡◌, ℕ, zero}}
+use Rattle.std.proofs.{Common.{suc, ◌^◌, ◌<◌, ◌≤◌, get_or, refl, ap, subst, arith}, lemmas.Bool.Decides.nat_tests}
 
 pub passwords-drawn : PasswordsAreDrawn
 unfolding run_password block_word double_rounds quarter_round column_round diagonal_round u32_at

@@ -1,10 +1,8 @@
 -- How the lines of the counts grow.
+use Rattle.{mg_gen.specs.{Summary.refusals, Tallies.{count_line, count_lines, row_words}}, mg_model.specs.Abbreviations.refusal_text}
 use Rattle.std.proofs.Common.{◌≡◌, ℕ, zero, suc, ◌+◌, ◌<◌, List, [], ◌∷◌, ◌++◌, length, get_or, take, ap, sym, ◌∙◌, add-one, append_assoc, arith}
 use Rattle.std.proofs.lemmas.List.{append-nil, get_or-map}
 use Rattle.mg_model.specs.declared.replies.Refusal.TheVariants as refusal
-use Rattle.mg_model.specs.Abbreviations.{refusal_text}
-use Rattle.mg_gen.specs.Summary.{refusals}
-use Rattle.mg_gen.specs.Tallies.{count_line, count_lines, row_words}
 
 -- one line more
 pub lines_more : (words : List (List ℕ)) (counts : List ℕ) (i : ℕ) → i < length words → i < length counts

@@ -1,19 +1,10 @@
 -- A call of a thread, as it is written, spells its line.
-use Rattle.std.proofs.Common.{◌≡◌, ℕ, ◌*◌, ◌^◌, ◌<◌, ◌≤◌, ◌==◌, Bool, false, List, [], ◌∷◌, ◌++◌, length, filter, Some, None, if◌then◌else◌, refl, ap, ◌∙◌, arith, length-append}
-use Rattle.std.specs.Fmt.{decimal}
-use Rattle.std.specs.Option.{option_map_or}
-use Rattle.std.proofs.lemmas.Bool.{le-ltb}
-use Rattle.std.proofs.lemmas.Bool.Decides.{nat_tests}
-use Rattle.std.proofs.lemmas.List.{append-nil}
-use Rattle.mg_model.specs.declared.calls.Line.{Line}
-use Rattle.mg_model.specs.Abbreviations.{is_among, lone_words, longest_line}
-use Rattle.mg_model.specs.Lines.{bad_line, call_line, is_note, line_of, line_of_words, spelled_line, thread_line}
-use Rattle.mg_model.specs.Print.{spaced}
-use Rattle.std.specs.List.{slice_split}
-use Rattle.mg_model.specs.Words.{is_blank, is_some_word, number_of, words}
-use Rattle.mg_gen.specs.Generated.{call_text}
-use Rattle.mg_gen.proofs.Numbers.{IsWord, decimal-word}
-use Rattle.mg_text.specs.NumberLemmas.{Digits, High, decimal-digits, number_of-back}
+use Rattle.{mg_gen.{proofs.Numbers.{IsWord, decimal-word}, specs.Generated.call_text}, mg_model.specs.Abbreviations.{is_among, lone_words}}
+use Rattle.mg_model.specs.{Abbreviations.longest_line, Lines.{bad_line, call_line, is_note, line_of, line_of_words, spelled_line, thread_line}}
+use Rattle.mg_model.specs.{Print.spaced, Words.{is_blank, is_some_word, number_of, words}, declared.calls.Line.Line}
+use Rattle.{mg_text.specs.NumberLemmas.{Digits, High, decimal-digits, number_of-back}, std.proofs.Common.{◌≡◌, ℕ, ◌*◌, ◌^◌, ◌<◌, ◌≤◌, ◌==◌, Bool}}
+use Rattle.std.proofs.Common.{false, List, [], ◌∷◌, ◌++◌, length, filter, Some, None, if◌then◌else◌, refl, ap, ◌∙◌, arith, length-append}
+use Rattle.std.{proofs.lemmas.{Bool.{le-ltb, Decides.nat_tests}, List.append-nil}, specs.{Fmt.decimal, List.slice_split, Option.option_map_or}}
 
 blank_low : (b : ℕ) → 45 ≤ b → is_blank b ≡ false
 blank_low b h = grind (arith, nat_tests)

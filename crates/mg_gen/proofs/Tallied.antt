@@ -1,11 +1,8 @@
 -- One reply more is counted in its row.
-use Rattle.std.proofs.Common.{◌≡◌, ℕ, ◌+◌, ◌-◌, ◌^◌, ◌<◌, ◌==◌, Bool, true, false, List, [], ◌∷◌, ◌++◌, length, min, count_by, cond, get_or, slice_set, refl, ap, sym, ◌∙◌, arith}
-use Rattle.std.proofs.lemmas.Bool.Decides.{nat_tests}
-use Rattle.std.proofs.lemmas.List.{ext_get_or, get_or-set_other, get_or-set_same, length-set}
-use Rattle.std.proofs.lemmas.List.FromFn.{get_or-map-range_with_len}
-use Rattle.std.proofs.lemmas.List.Sums.{count_by-le-length, sum_by_push}
-use Rattle.mg_model.specs.declared.replies.Reply.{Reply}
-use Rattle.mg_gen.specs.Tallies.{row_of, tally_of}
+use Rattle.{mg_gen.specs.Tallies.{row_of, tally_of}, mg_model.specs.declared.replies.Reply.Reply, std.proofs.Common.{◌≡◌, ℕ, ◌+◌, ◌-◌, ◌^◌, ◌<◌}}
+use Rattle.std.proofs.Common.{◌==◌, Bool, true, false, List, [], ◌∷◌, ◌++◌, length, min, count_by, cond, get_or, slice_set, refl, ap, sym, ◌∙◌, arith}
+use Rattle.std.proofs.lemmas.{Bool.Decides.nat_tests, List.{ext_get_or, get_or-set_other, get_or-set_same, length-set}}
+use Rattle.std.proofs.lemmas.List.{FromFn.get_or-map-range_with_len, Sums.{count_by-le-length, sum_by_push}}
 
 -- how many of these replies are counted in a row
 abbrev counted : ℕ → List Reply → ℕ

@@ -1,15 +1,10 @@
 -- The lines of the counts say how often each word is among the replies.
+use Rattle.mg_gen.specs.{Summary.{counted_as, word_line}, Tallies.{CountsAreTold, count_line, count_lines, row_of, row_words, tally_of}}
+use Rattle.mg_model.specs.{Abbreviations.{refusal_number, refusal_text}, Words.same_bytes, declared.replies.{Refusal.Refusal, Reply.Reply}}
 use Rattle.std.proofs.Common.{◌≡◌, ℕ, ◌==◌, Bool, List, [], ◌∷◌, ◌++◌, cond, count_by, flat_map, map, drop, get_or, length, true, refl, sym, ap, ◌∙◌}
-use Rattle.std.specs.List.{range_with_len}
-use Rattle.std.proofs.lemmas.List.Sums.{sum_by-cons}
-use Rattle.mg_model.specs.declared.replies.Refusal.{Refusal}
+use Rattle.std.{proofs.lemmas.List.Sums.sum_by-cons, specs.List.range_with_len}
 use Rattle.mg_model.specs.declared.replies.Refusal.TheVariants as refusal
-use Rattle.mg_model.specs.declared.replies.Reply.{Reply}
 use Rattle.mg_model.specs.declared.replies.Reply.TheVariants as reply
-use Rattle.mg_model.specs.Abbreviations.{refusal_number, refusal_text}
-use Rattle.mg_model.specs.Words.{same_bytes}
-use Rattle.mg_gen.specs.Summary.{counted_as, word_line}
-use Rattle.mg_gen.specs.Tallies.{CountsAreTold, count_line, count_lines, row_of, row_words, tally_of}
 
 -- a reply is counted by these words as it is in these rows
 abbrev AreCountedAlike : List (List ℕ) → List ℕ → Type 0

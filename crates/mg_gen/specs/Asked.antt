@@ -1,11 +1,9 @@
 -- The calls that the lines of a generated run make, and the numbers that they are drawn from.
-use Rattle.std.specs.Prelude.{◌≡◌, ℕ, ◌+◌, ◌-◌, ◌*◌, ◌/◌, ◌%◌, ◌^◌, ◌==◌, nat_lt, [], ◌∷◌, if◌then◌else◌, Some, None, map}
-use Rattle.mg_model.specs.declared.calls.Call.{Call}
-use Rattle.mg_model.specs.declared.calls.Call.TheVariants as call
-use Rattle.mg_model.specs.declared.calls.Line.{Line}
-use Rattle.mg_model.specs.Fresh.{root_base}
-use Rattle.mg_model.specs.Lines.{line_of}
+use Rattle.std.specs.Prelude.{◌≡◌, ℕ, ◌+◌, ◌-◌, ◌*◌, ◌/◌, ◌%◌, ◌^◌, ◌==◌, nat_lt, [], ◌∷◌, if◌then◌else◌, Some, None}
+use Rattle.std.specs.Prelude.{map}
 use Rattle.mg_gen.specs.Generated.{drawn_word, line_text, run_object_base, run_password}
+use Rattle.mg_model.specs.{Fresh.root_base, Lines.line_of, declared.calls.{Call.Call, Line.Line}}
+use Rattle.mg_model.specs.declared.calls.Call.TheVariants as call
 
 -- what the word x says of its line: the kind, the thread, the address and the value
 abbrev pub kind_of : ℕ → ℕ

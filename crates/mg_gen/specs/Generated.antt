@@ -1,10 +1,7 @@
 -- The lines of a generated run: the line of a place k, from 0, in the run of a number.
-use Rattle.std.specs.Prelude.{ℕ, ◌+◌, ◌-◌, ◌*◌, ◌/◌, ◌%◌, ◌^◌, ◌==◌, nat_lt, List, [], ◌∷◌, ◌++◌, if◌then◌else◌, codes, bit_xor, replicate}
-use Rattle.std.specs.Fmt.{decimal}
-use Rattle.mg_model.specs.Draw.{password_drawn}
-use Rattle.mg_model.specs.Fresh.{root_base}
-use Rattle.mg_model.specs.Print.{hex_text, spaced}
-use Rattle.mg_model.specs.Settings.{Settings}
+use Rattle.std.specs.{Fmt.decimal, Prelude.{ℕ, ◌+◌, ◌-◌, ◌*◌, ◌/◌, ◌%◌, ◌^◌, ◌==◌, nat_lt, List, [], ◌∷◌, ◌++◌}}
+use Rattle.std.specs.Prelude.{if◌then◌else◌, codes, bit_xor, replicate}
+use Rattle.mg_model.specs.{Draw.password_drawn, Fresh.root_base, Print.{hex_text, spaced}, Settings.Settings}
 use Rattle.mg_model.specs.Tariff.{usual_tariff}
 
 -- The machine that the run is made for is a fresh one with these settings, among them the zero seed.

@@ -1,13 +1,9 @@
 -- The summary of the replies of a run: how many are ok, and how many are refused with each word.
-use Rattle.std.specs.Prelude.{ℕ, List, [], ◌∷◌, ◌++◌, codes, count_by, flat_map, map}
-use Rattle.std.specs.Fmt.{decimal}
-use Rattle.mg_model.specs.declared.replies.Refusal.{Refusal}
-use Rattle.mg_model.specs.declared.replies.Refusal.TheVariants as refusal
+use Rattle.std.specs.{Fmt.decimal, Prelude.{ℕ, List, [], ◌∷◌, ◌++◌, codes, count_by, flat_map, map}}
+use Rattle.mg_model.specs.{Abbreviations.refusal_text, Print.spaced, Words.same_bytes, declared.replies.Refusal.Refusal}
 use Rattle.mg_model.specs.declared.replies.Reply.{Reply}
+use Rattle.mg_model.specs.declared.replies.Refusal.TheVariants as refusal
 use Rattle.mg_model.specs.declared.replies.Reply.TheVariants as reply
-use Rattle.mg_model.specs.Print.{spaced}
-use Rattle.mg_model.specs.Abbreviations.{refusal_text}
-use Rattle.mg_model.specs.Words.{same_bytes}
 
 -- The refusals, in the order of their numbers from 1 on.
 abbrev pub refusals : List Refusal

@@ -1,13 +1,9 @@
 -- The counts of the replies of a run, by rows: row 0 counts those that are ok, and each refusal has the row of its number.
-use Rattle.std.specs.Prelude.{◌≡◌, ℕ, ◌==◌, List, [], ◌∷◌, ◌++◌, codes, count_by, length, map, slice_index_or, sum}
-use Rattle.std.specs.Fmt.{decimal}
-use Rattle.std.specs.List.{range_with_len}
-use Rattle.mg_model.specs.declared.replies.Refusal.{Refusal}
-use Rattle.mg_model.specs.declared.replies.Reply.{Reply}
+use Rattle.std.specs.{Fmt.decimal, List.range_with_len, Prelude.{◌≡◌, ℕ, ◌==◌, List, [], ◌∷◌, ◌++◌, codes, count_by}}
+use Rattle.std.specs.Prelude.{length, map, slice_index_or, sum}
+use Rattle.{mg_gen.specs.Summary.{refusals, summary_text}, mg_model.specs.Abbreviations.{refusal_number, refusal_text}}
+use Rattle.mg_model.specs.{Print.spaced, declared.replies.{Refusal.Refusal, Reply.Reply}}
 use Rattle.mg_model.specs.declared.replies.Reply.TheVariants as reply
-use Rattle.mg_model.specs.Print.{spaced}
-use Rattle.mg_model.specs.Abbreviations.{refusal_number, refusal_text}
-use Rattle.mg_gen.specs.Summary.{refusals, summary_text}
 
 -- the row in which a reply is counted: that of its refusal's number, and 0 if it is ok
 abbrev pub row_of : Reply → ℕ

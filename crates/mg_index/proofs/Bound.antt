@@ -1,19 +1,13 @@
 -- A table and its pairs: a look-up, a number that is bound, and numbers that are released.
-use Rattle.std.specs.Prelude.{◌≡◌, ◌≢◌, ◌+◌, ◌-◌, ◌<◌, ◌≤◌, ◌==◌, ℕ, zero, suc, Bool, true, false, List, [], Some, None, insert, length, replicate, slice_index, slice_set}
-use Rattle.std.specs.List.{AllWithin, Contains, list_any, position}
-use Rattle.std.proofs.Common.{refl, sym, ap, ◌∙◌, subst, cond, ⊎_elim, arith, get_or, drop, length-drop, length-set, get_or-set_other, get_or-set_same}
-use Rattle.std.proofs.lemmas.Bool.{both_ways, cases_eq, cases_lt, eq-eqb, false_from_ne_true, false≢true, ne_eqb, lt-ltb}
-use Rattle.std.proofs.lemmas.List.{get_or-drop, get_or-replicate, length-replicate}
-use Rattle.std.proofs.lemmas.List.Edits.{length-insert}
-use Rattle.std.proofs.lemmas.List.Elements.{All-from_get_or}
-use Rattle.std.proofs.lemmas.List.Folds.{list_any_at, list_any_none}
-use Rattle.std.proofs.lemmas.List.Quantifiers.{position-Some}
-use Rattle.std.proofs.lemmas.List.Sums.{position_or_len_is, sum_by-cons, sum_by-set}
-use Rattle.mg_index.specs.DistinctLemmas.{distinct-free, distinct-put}
-use Rattle.mg_index.specs.ListLemmas.{rises-once}
-use Rattle.mg_index.specs.PlaceLemmas.{nowhere_any}
-use Rattle.mg_index.specs.Pairs.{IsIndexed, Ascends, IsBound, IsExact, NoneFree, free_count}
-use Rattle.mg_index.proofs.Lists.{contains-at, insert-cases, insert-has, insert-keeps, insert-pairs}
+use Rattle.mg_index.{proofs.Lists.{contains-at, insert-cases, insert-has, insert-keeps, insert-pairs}, specs.DistinctLemmas.distinct-free}
+use Rattle.mg_index.specs.{DistinctLemmas.distinct-put, ListLemmas.rises-once, Pairs.{IsIndexed, Ascends, IsBound, IsExact, NoneFree, free_count}}
+use Rattle.{mg_index.specs.PlaceLemmas.nowhere_any, std.proofs.Common.{refl, sym, ap, ◌∙◌, subst, cond, ⊎_elim, arith, get_or, drop, length-drop}}
+use Rattle.std.proofs.{Common.{length-set, get_or-set_other, get_or-set_same}, lemmas.Bool.{both_ways, cases_eq, cases_lt, eq-eqb}}
+use Rattle.std.proofs.lemmas.{Bool.{false_from_ne_true, false≢true, ne_eqb, lt-ltb}, List.{get_or-drop, get_or-replicate, length-replicate}}
+use Rattle.std.proofs.lemmas.List.{Edits.length-insert, Elements.All-from_get_or, Folds.{list_any_at, list_any_none}, Quantifiers.position-Some}
+use Rattle.std.{proofs.lemmas.List.Sums.{position_or_len_is, sum_by-cons, sum_by-set}, specs.List.{AllWithin, Contains, list_any, position}}
+use Rattle.std.specs.Prelude.{◌≡◌, ◌≢◌, ◌+◌, ◌-◌, ◌<◌, ◌≤◌, ◌==◌, ℕ, zero, suc, Bool, true, false, List, [], Some, None, insert, length, replicate}
+use Rattle.std.specs.Prelude.{slice_index, slice_set}
 
 -- a number is in one place
 pub one-place : (numbers : List ℕ) (pairs : List (ℕ × ℕ)) → Ascends pairs → IsExact numbers pairs → (number f g : ℕ) → IsBound numbers (number, f) → IsBound numbers (number, g) → f ≡ g

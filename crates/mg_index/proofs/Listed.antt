@@ -1,21 +1,13 @@
 -- The pairs of a table, listed place by place and then sorted by number.
-use Rattle.std.specs.Prelude.{◌≡◌, ◌≢◌, ◌+◌, ◌-◌, ◌<◌, ◌≤◌, ◌==◌, if◌then◌else◌, ℕ, zero, suc, Bool, true, false, not, List, [], ◌∷◌, ◌++◌, length, map, slice_index, take}
-use Rattle.std.specs.List.{AllPairs, Contains}
-use Rattle.std.specs.List.Sorted.{IsNonDecreasingBy, IsPermutation}
-use Rattle.std.proofs.Common.{refl, sym, ap, ◌∙◌, subst, cond, ⊎_elim, arith, get_or}
-use Rattle.std.proofs.lemmas.Bool.{cases_Bool, cases_eq, cases_lt, eq-eqb, eqb-false, false_from_ne_true, ne_eqb}
-use Rattle.std.proofs.lemmas.Bool.Decides.{nat_tests}
-use Rattle.std.proofs.lemmas.List.{append-nil, get_or_default, get_or_past, length-map, length_push, map-append, take_more}
-use Rattle.std.proofs.lemmas.List.Elements.{Contains-append_left, Contains-get_or, Contains-push, Contains-push_cases, filter-append}
-use Rattle.std.proofs.lemmas.List.Quantifiers.{all_pairs_push}
-use Rattle.std.proofs.lemmas.List.Sorted.{Contains-permutation, IsPermutation-sym, length_permutation}
-use Rattle.std.proofs.lemmas.List.Sums.{sum_by-cons}
-use Rattle.std.proofs.lemmas.Map.Keys.{IsDistinct-IsPermutation, IsDistinct-from_apart, apart_from_distinct}
-use Rattle.mg_model.specs.Tests.{all_distinct}
-use Rattle.mg_index.specs.DistinctLemmas.{distinct-own, own-distinct}
-use Rattle.mg_index.specs.Words.{numbers_in}
-use Rattle.mg_index.specs.Pairs.{Ascends, HasTwice, IsExact, IsSortedTable, free_count}
-use Rattle.mg_index.proofs.Bound.{one-place}
+use Rattle.mg_index.{proofs.Bound.one-place, specs.{DistinctLemmas.{distinct-own, own-distinct}, Pairs.{Ascends, HasTwice, IsExact, IsSortedTable}}}
+use Rattle.{mg_index.specs.{Pairs.free_count, Words.numbers_in}, mg_model.specs.Tests.all_distinct, std.proofs.Common.{refl, sym, ap, ◌∙◌, subst}}
+use Rattle.std.proofs.{Common.{cond, ⊎_elim, arith, get_or}, lemmas.Bool.{cases_Bool, cases_eq, cases_lt, eq-eqb, eqb-false, false_from_ne_true}}
+use Rattle.std.proofs.lemmas.{Bool.{ne_eqb, Decides.nat_tests}, List.{append-nil, get_or_default, get_or_past, length-map, length_push, map-append}}
+use Rattle.std.proofs.lemmas.List.{take_more, Elements.{Contains-append_left, Contains-get_or, Contains-push, Contains-push_cases, filter-append}}
+use Rattle.std.proofs.lemmas.List.{Quantifiers.all_pairs_push, Sorted.{Contains-permutation, IsPermutation-sym, length_permutation}, Sums.sum_by-cons}
+use Rattle.std.{proofs.lemmas.Map.Keys.{IsDistinct-IsPermutation, IsDistinct-from_apart, apart_from_distinct}, specs.List.{AllPairs, Contains}}
+use Rattle.std.specs.{List.Sorted.{IsNonDecreasingBy, IsPermutation}, Prelude.{◌≡◌, ◌≢◌, ◌+◌, ◌-◌, ◌<◌, ◌≤◌, ◌==◌, if◌then◌else◌, ℕ, zero, suc, Bool}}
+use Rattle.std.specs.Prelude.{true, false, not, List, [], ◌∷◌, ◌++◌, length, map, slice_index, take}
 
 -- the bound numbers of the places below n are there with their places, and nothing else
 pub record IsListed (numbers : List ℕ) (n : ℕ) (pairs : List (ℕ × ℕ)) : Type 0 where

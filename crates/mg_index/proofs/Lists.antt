@@ -1,12 +1,10 @@
 -- Lists of which each two elements are in order, and what they contain, after an insertion and once a part is taken out.
-use Rattle.std.specs.Prelude.{◌≡◌, ◌+◌, ◌-◌, ◌<◌, ◌≤◌, ◌⊎◌, ℕ, List, ◌∷◌, ◌++◌, insert, length, drop, take}
-use Rattle.std.specs.List.{AllPairs, Contains, remove_range}
-use Rattle.std.proofs.Common.{sym, ap, ◌∙◌, subst, ⊎_elim, arith, get_or, length-append, length-drop}
-use Rattle.std.proofs.lemmas.Bool.{cases_eq, cases_lt}
-use Rattle.std.proofs.lemmas.List.{append-nil, drop_all, get_or-drop, get_or-take, get_or_append_left, get_or-append_right, get_or_default, length-take-le, take_all}
-use Rattle.std.proofs.lemmas.List.Sorted.{Contains-permutation, IsPermutation-insert, IsPermutation-sym}
-use Rattle.mg_index.specs.ListLemmas.{contains-behind, contains-cases, contains-here}
-use Rattle.std.proofs.lemmas.List.Edits.{get_or-insert_above, get_or-insert_at, get_or-insert_below, length-insert}
+use Rattle.{mg_index.specs.ListLemmas.{contains-behind, contains-cases, contains-here}, std.proofs.Common.{sym, ap, ◌∙◌, subst, ⊎_elim, arith}}
+use Rattle.std.proofs.{Common.{get_or, length-append, length-drop}, lemmas.{Bool.{cases_eq, cases_lt}, List.{append-nil, drop_all, get_or-drop}}}
+use Rattle.std.proofs.lemmas.List.{get_or-take, get_or_append_left, get_or-append_right, get_or_default, length-take-le, take_all}
+use Rattle.std.proofs.lemmas.List.{Edits.{get_or-insert_above, get_or-insert_at, get_or-insert_below, length-insert}, Sorted.Contains-permutation}
+use Rattle.std.{proofs.lemmas.List.Sorted.{IsPermutation-insert, IsPermutation-sym}, specs.{List.{AllPairs, Contains, remove_range}, Prelude.◌≡◌}}
+use Rattle.std.specs.Prelude.{◌+◌, ◌-◌, ◌<◌, ◌≤◌, ◌⊎◌, ℕ, List, ◌∷◌, ◌++◌, insert, length, drop, take}
 
 -- what is at a place is contained
 pub contains-at : {X : Type 0} (xs : List X) (k : ℕ) (d x : X) → k < length xs → get_or xs k d ≡ x → Contains xs x

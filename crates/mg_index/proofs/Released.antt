@@ -1,16 +1,12 @@
 -- A table and its pairs once the numbers of a range are released.
-use Rattle.std.specs.Prelude.{◌≡◌, ◌≢◌, ◌+◌, ◌-◌, ◌<◌, ◌≤◌, ◌⊎◌, if◌then◌else◌, ℕ, zero, suc, Bool, true, false, List, [], ◌∷◌, All, length, map, slice_set}
-use Rattle.std.specs.List.{AllWithin, Contains, between, remove_range}
-use Rattle.std.proofs.Common.{refl, sym, ap, ◌∙◌, subst, inl, inr, ⊎_elim, arith, get_or, length-set, get_or-set_other, get_or-set_same}
-use Rattle.std.proofs.lemmas.Bool.{and_from, cases_Bool, cases_eq, cases_lt, false≢true, le-leb, lt-ltb}
-use Rattle.std.proofs.lemmas.List.{ext_get_or, get_or-map, length-map}
-use Rattle.std.proofs.lemmas.List.Edits.{get_or-between, length-between}
-use Rattle.std.proofs.lemmas.List.Elements.{All-head, All-tail}
-use Rattle.mg_index.specs.DistinctLemmas.{distinct-released, within_or_not, zero-stays}
-use Rattle.mg_index.specs.Pairs.{IsIndexed, Ascends, IsPart, IsBound, IsExact, NoneFree, free_count, freed}
-use Rattle.mg_index.specs.Words.{is_within, unless_within}
-use Rattle.mg_index.proofs.Bound.{free-count}
-use Rattle.mg_index.proofs.Lists.{cut-had, cut-keeps, cut-pairs, contains-at, length-cut}
+use Rattle.mg_index.proofs.{Bound.free-count, Lists.{cut-had, cut-keeps, cut-pairs, contains-at, length-cut}}
+use Rattle.mg_index.specs.{DistinctLemmas.{distinct-released, within_or_not, zero-stays}, Pairs.{IsIndexed, Ascends, IsPart, IsBound, IsExact}}
+use Rattle.{mg_index.specs.{Pairs.{NoneFree, free_count, freed}, Words.{is_within, unless_within}}, std.proofs.Common.{refl, sym, ap, ◌∙◌, subst}}
+use Rattle.std.proofs.{Common.{inl, inr, ⊎_elim, arith, get_or, length-set, get_or-set_other, get_or-set_same}, lemmas.Bool.{and_from, cases_Bool}}
+use Rattle.std.proofs.lemmas.{Bool.{cases_eq, cases_lt, false≢true, le-leb, lt-ltb}, List.{ext_get_or, get_or-map, length-map, Edits.get_or-between}}
+use Rattle.std.{proofs.lemmas.List.{Edits.length-between, Elements.{All-head, All-tail}}, specs.List.{AllWithin, Contains, between, remove_range}}
+use Rattle.std.specs.Prelude.{◌≡◌, ◌≢◌, ◌+◌, ◌-◌, ◌<◌, ◌≤◌, ◌⊎◌, if◌then◌else◌, ℕ, zero, suc, Bool, true, false, List, [], ◌∷◌, All, length, map}
+use Rattle.std.specs.Prelude.{slice_set}
 
 -- places that are freed one after another
 pub length-freed : (numbers : List ℕ) (pairs : List (ℕ × ℕ)) → length (freed numbers pairs) ≡ length numbers

@@ -1,12 +1,10 @@
 -- No number occurs twice in a table after a number is bound, or some are released.
-use Rattle.std.specs.Prelude.{◌≡◌, ◌≢◌, ◌⊎◌, ◌==◌, ℕ, zero, suc, true, false, not, List, [], ◌∷◌, map, replicate, slice_index, slice_set}
-use Rattle.std.specs.List.{list_any}
-use Rattle.std.proofs.Common.{refl, sym, ap, ◌∙◌, inl, inr, ⊎_elim, arith, get_or}
-use Rattle.std.proofs.lemmas.Bool.{and_from, and_parts, both_ways, cases_cond, cond_both, eq-eqb, eqb-false, ne_eqb, not-true, or_left, or_parts, or_right}
-use Rattle.std.proofs.lemmas.List.Elements.{All-filter, All-from_get_or}
-use Rattle.std.proofs.lemmas.List.Folds.{list_any_none}
-use Rattle.mg_index.specs.ListLemmas.{map-at}
-use Rattle.mg_index.specs.Words.{is_within, numbers_in, unless_within}
+use Rattle.std.proofs.{Common.{refl, sym, ap, ◌∙◌, inl, inr, ⊎_elim, arith, get_or}, lemmas.Bool.{and_from, and_parts}}
+use Rattle.std.proofs.lemmas.Bool.{both_ways, cases_cond, cond_both, eq-eqb, eqb-false, ne_eqb, not-true, or_left}
+use Rattle.std.proofs.lemmas.{Bool.{or_parts, or_right}, List.Elements.{All-filter, All-from_get_or}}
+use Rattle.std.{proofs.lemmas.List.Folds.list_any_none, specs.{List.list_any, Prelude.{◌≡◌, ◌≢◌, ◌⊎◌, ◌==◌, ℕ, zero}}}
+use Rattle.std.specs.Prelude.{suc, true, false, not, List, [], ◌∷◌, map, replicate, slice_index, slice_set}
+use Rattle.mg_index.specs.{ListLemmas.map-at, Words.{is_within, numbers_in, unless_within}}
 use Rattle.mg_model.specs.Tests.{all_distinct}
 
 -- numbers are distinct if no two places have one number

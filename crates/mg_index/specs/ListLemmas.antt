@@ -1,10 +1,8 @@
 -- What a list contains, and lists in order.
-use Rattle.std.specs.Prelude.{◌≡◌, ◌<◌, ◌⊎◌, ℕ, zero, suc, List, [], ◌∷◌, map, slice_index}
-use Rattle.std.specs.List.{AllPairs, Contains}
-use Rattle.std.specs.List.Sorted.{IsNonDecreasingBy}
-use Rattle.std.proofs.Common.{refl, sym, ap, ◌∙◌, inl, inr, subst, ⊎_elim, arith, get_or}
-use Rattle.std.proofs.lemmas.Bool.{cases_lt, cases_order}
-use Rattle.std.proofs.lemmas.List.{get_or_default}
+use Rattle.std.proofs.{Common.{refl, sym, ap, ◌∙◌, inl, inr, subst, ⊎_elim, arith, get_or}, lemmas.Bool.cases_lt}
+use Rattle.std.{proofs.lemmas.{Bool.cases_order, List.get_or_default}, specs.List.{AllPairs, Contains}}
+use Rattle.std.specs.{List.Sorted.IsNonDecreasingBy, Prelude.{◌≡◌, ◌<◌, ◌⊎◌, ℕ, zero, suc, List, [], ◌∷◌, map}}
+use Rattle.std.specs.Prelude.{slice_index}
 
 pub contains-here : {X : Type 0} (x : X) (xs : List X) → Contains (x ∷ xs) x
 contains-here x xs = (0, omega arith, refl)

@@ -1,9 +1,8 @@
 -- The numbers of a table with their places, as a list of pairs that ascends by number.
-use Rattle.std.specs.Prelude.{◌≡◌, ◌≢◌, ◌+◌, ◌<◌, ◌≤◌, ◌==◌, ◌↔◌, ℕ, true, List, length, count_by, fold, slice_index, slice_index_or, slice_set}
-use Rattle.std.specs.List.{AllPairs, AllWithin, Contains, IsDistinct}
-use Rattle.std.specs.List.Sorted.{IsNonDecreasingBy}
-use Rattle.mg_model.specs.Tests.{all_distinct}
-use Rattle.mg_index.specs.Words.{numbers_in}
+use Rattle.std.specs.{List.{AllPairs, AllWithin, Contains, IsDistinct, Sorted.IsNonDecreasingBy}, Prelude.{◌≡◌, ◌≢◌}}
+use Rattle.std.specs.Prelude.{◌+◌, ◌<◌, ◌≤◌, ◌==◌, ◌↔◌, ℕ, true, List, length, count_by, fold, slice_index}
+use Rattle.std.specs.Prelude.{slice_index_or, slice_set}
+use Rattle.{mg_index.specs.Words.numbers_in, mg_model.specs.Tests.all_distinct}
 
 -- a number, and the place that holds it
 abbrev pub IsBound : List ℕ → ℕ × ℕ → Type 0

@@ -1,8 +1,7 @@
 -- Where a number is in a table.
-use Rattle.std.specs.Prelude.{◌≡◌, ◌+◌, ℕ, suc, Bool, true, false, cond, List, [], ◌∷◌, length, nat_lt, Option, Some, None, option_map}
-use Rattle.std.specs.List.{list_any, position, position_or_len}
-use Rattle.std.proofs.Common.{refl, sym, ap, ◌∙◌, inl, inr, arith}
-use Rattle.std.proofs.lemmas.Bool.{cases_lt, le-ltb, lt-ltb}
+use Rattle.std.proofs.{Common.{refl, sym, ap, ◌∙◌, inl, inr, arith}, lemmas.Bool.{cases_lt, le-ltb, lt-ltb}}
+use Rattle.std.specs.{List.{list_any, position, position_or_len}, Prelude.{◌≡◌, ◌+◌, ℕ, suc, Bool, true, false, cond}}
+use Rattle.std.specs.Prelude.{List, [], ◌∷◌, length, nat_lt, Option, Some, None, option_map}
 
 -- the place in a list follows from the first entry and the place in the rest
 pub position-here : {X : Type 0} (p : X → Bool) (x : X) (xs : List X) → p x ≡ true → position p (x ∷ xs) ≡ Some 0

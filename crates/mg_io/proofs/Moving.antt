@@ -1,9 +1,7 @@
 -- What a copy to the front of a buffer, and a `put` of a part, do to the bytes that are told.
-use Rattle.std.specs.Prelude.{◌≡◌, ℕ, ◌+◌, ◌-◌, ◌<◌, ◌≤◌, min, List, [], ◌++◌, length, take, drop, Option}
-use Rattle.std.specs.Io.KnownBytes.{Appends}
-use Rattle.std.proofs.Common.{sym, ap, subst, ◌∙◌, append_assoc, arith, take-append-drop, drop-drop, length-append, length-drop, take_all, drop_of_length-le}
-use Rattle.std.proofs.Math.Seq.{take-append_seam}
-use Rattle.mg_io.specs.Known.{Appends-then}
+use Rattle.{mg_io.specs.Known.Appends-then, std.proofs.Common.{sym, ap, subst, ◌∙◌, append_assoc, arith, take-append-drop, drop-drop, length-append}}
+use Rattle.std.{proofs.{Common.{length-drop, take_all, drop_of_length-le}, Math.Seq.take-append_seam}, specs.{Io.KnownBytes.Appends, Prelude.◌≡◌}}
+use Rattle.std.specs.Prelude.{ℕ, ◌+◌, ◌-◌, ◌<◌, ◌≤◌, min, List, [], ◌++◌, length, take, drop, Option}
 
 -- the first bytes that are left, copied to the front of a buffer, are the bytes that the call gives
 pub copied-gives : (at n : ℕ) (items bytes copied after : List ℕ) → drop at items ≡ bytes → copied ≡ take n bytes →

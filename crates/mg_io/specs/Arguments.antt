@@ -1,11 +1,7 @@
 -- The words of a command line, and the line that a program prints if they are no command.
-use Rattle.std.specs.Prelude.{ℕ, ◌⊎◌, List, [], ◌∷◌, ◌++◌, codes, map, String}
-use Rattle.std.specs.Io.KnownBytes.{Appends}
-use Rattle.std.specs.String.{string_bytes}
-use Rattle.std.specs.declared.alloc.Global.{Global}
-use Rattle.mg_faults.specs.Faults.{Rose}
-use Rattle.mg_io.specs.Known.{AppendsPrefix}
-use Rattle.mg_io.specs.declared.traits.Sink.{Ghosts}
+use Rattle.std.specs.{Io.KnownBytes.Appends, Prelude.{ℕ, ◌⊎◌, List, [], ◌∷◌, ◌++◌, codes, map, String}}
+use Rattle.std.specs.{String.string_bytes, declared.alloc.Global.Global}
+use Rattle.{mg_faults.specs.Faults.Rose, mg_io.specs.{Known.AppendsPrefix, declared.traits.Sink.Ghosts}}
 
 -- the words after the program's name, as bytes
 abbrev pub arguments : List (String Global) → List (List ℕ)

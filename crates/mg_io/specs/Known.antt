@@ -1,7 +1,7 @@
 -- What takes and puts do to the bytes left and the bytes taken, if those are told, and how this adds up over a run of calls.
-use Rattle.std.specs.Prelude.{◌≡◌, ◌≤◌, ◌+◌, ℕ, List, [], ◌++◌, length, Option, Some, None, IfSome, IsSomeAnd}
-use Rattle.std.specs.Io.KnownBytes.{Appends, Keeps, Consumes}
-use Rattle.std.proofs.Common.{refl, sym, ap, ◌∙◌, append_assoc, append-nil}
+use Rattle.std.{proofs.Common.{refl, sym, ap, ◌∙◌, append_assoc, append-nil}, specs.Io.KnownBytes.{Appends, Keeps}}
+use Rattle.std.specs.{Io.KnownBytes.Consumes, Prelude.{◌≡◌, ◌≤◌, ◌+◌, ℕ, List, [], ◌++◌, length, Option, Some, None}}
+use Rattle.std.specs.Prelude.{IfSome, IsSomeAnd}
 
 -- some first bytes of the text were taken, and no others
 abbrev pub AppendsPrefix : Option (List ℕ) → Option (List ℕ) → List ℕ → Type 0

@@ -1,10 +1,6 @@
 -- What a stop leaves of calls that only read, and of more calls after them, when nothing was pending.
-use Rattle.std.specs.Option.{ForSome}
-use Rattle.std.proofs.Common.{sym, subst, ◌∙◌}
-use Rattle.mg_disk.specs.Disk.{Image}
-use Rattle.mg_disk.specs.Runs.{leaves_quiet, leaves_then, leaves_yet, only_image}
-use Rattle.mg_disk.specs.Stops.{Leaves, NothingPending, WritesNothing}
-use Rattle.mg_disk.specs.declared.disk.Disk.{Ghosts}
+use Rattle.mg_disk.specs.{Disk.Image, Runs.{leaves_quiet, leaves_then, leaves_yet, only_image}, Stops.{Leaves, NothingPending, WritesNothing}}
+use Rattle.{mg_disk.specs.declared.disk.Disk.Ghosts, std.{proofs.Common.{sym, subst, ◌∙◌}, specs.Option.ForSome}}
 
 module _ {D : Type 0} (facts : Ghosts D) (old mid : D) (R : Image → Image → Type 0) (itself : (a : Image) → R a a) (reads : WritesNothing facts old mid) (pending : NothingPending facts old) where
   pub of_reads : ForSome (facts.seen old) (λ a. Leaves facts old mid (R a))

@@ -1,26 +1,13 @@
 -- Bodies that are read together, and homes that are written together.
-use Rattle.std.proofs.lemmas.Bool.Decides.{nat_tests}
-use Rattle.std.specs.Prelude.{◌≡◌, ◌+◌, ◌-◌, ◌≤◌, ◌<◌, ℕ, zero, suc, true, All, List, [], ◌∷◌, length, option_map, slice_set, take, OnOk, Option, Some, None, Result}
-use Rattle.std.specs.Option.{ForSome}
-use Rattle.std.proofs.Common.{refl, sym, ap, subst, ◌∙◌, ⊎_elim, arith}
-use Rattle.std.proofs.lemmas.Bool.{cases_lt}
-use Rattle.std.proofs.lemmas.Result.{on_ok_weaker}
-use Rattle.std.proofs.lemmas.List.{ext_get_or, get_or_past, get_or-set_other, get_or-set_same}
-use Rattle.std.proofs.lemmas.Simd.{get_or-put_chunk_above, get_or-put_chunk_at, get_or-put_chunk_below, put_chunk_is}
-use Rattle.std.specs.Simd.Lanes.{put_chunk}
-use Rattle.mg_disk.specs.BecomesLemmas.{becomes-kept, becomes-seen, becomes-then}
-use Rattle.mg_disk.specs.Disk.{HasBlocks, Image, InRange, SameBut, SeenBut, block_at, no_image}
-use Rattle.mg_disk.specs.PlaceLemmas.{same_after}
-use Rattle.mg_disk.specs.Runs.{Tracks, quiet}
-use Rattle.mg_disk.specs.Stops.{Becomes, Leaves, NothingPending, TimeGoes}
-use Rattle.mg_disk.specs.declared.disk.Disk.{Ghosts}
-use Rattle.mg_journal.proofs.ApplySteps.{filled_more, named_place}
-use Rattle.mg_journal.specs.Applied.{AreInRow, HasBodies, HasRun, filled, nth_body, nth_home}
-use Rattle.mg_journal.specs.Contents.{names}
-use Rattle.mg_journal.specs.Places.{IsPlace}
-use Rattle.mg_journal.specs.WrittenLemmas.{written_elsewhere}
-use Rattle.mg_model.specs.Layout.{globals_block}
-use Rattle.mg_model.specs.Replay.{written}
+use Rattle.mg_disk.specs.{BecomesLemmas.{becomes-kept, becomes-seen, becomes-then}, Disk.{HasBlocks, Image, InRange, SameBut, SeenBut, block_at}}
+use Rattle.mg_disk.specs.{Disk.no_image, PlaceLemmas.same_after, Runs.{Tracks, quiet}, Stops.{Becomes, Leaves, NothingPending, TimeGoes}}
+use Rattle.{mg_disk.specs.declared.disk.Disk.Ghosts, mg_journal.{proofs.ApplySteps.{filled_more, named_place}, specs.Applied.{AreInRow, HasBodies}}}
+use Rattle.mg_journal.specs.{Applied.{HasRun, filled, nth_body, nth_home}, Contents.names, Places.IsPlace, WrittenLemmas.written_elsewhere}
+use Rattle.{mg_model.specs.{Layout.globals_block, Replay.written}, std.proofs.Common.{refl, sym, ap, subst, ◌∙◌, ⊎_elim, arith}}
+use Rattle.std.proofs.lemmas.{Bool.{cases_lt, Decides.nat_tests}, List.{ext_get_or, get_or_past, get_or-set_other, get_or-set_same}}
+use Rattle.std.proofs.lemmas.{Result.on_ok_weaker, Simd.{get_or-put_chunk_above, get_or-put_chunk_at, get_or-put_chunk_below, put_chunk_is}}
+use Rattle.std.specs.{Option.ForSome, Prelude.{◌≡◌, ◌+◌, ◌-◌, ◌≤◌, ◌<◌, ℕ, zero, suc, true, All, List, [], ◌∷◌, length, option_map, slice_set, take}}
+use Rattle.std.specs.{Prelude.{OnOk, Option, Some, None, Result}, Simd.Lanes.put_chunk}
 use borrow.Rule.Slice.PartMut.{put_mid}
 
 -- a part that is written into a list of blocks

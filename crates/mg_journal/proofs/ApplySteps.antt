@@ -1,16 +1,9 @@
 -- Lemmas on bodies that are written to their homes.
-use Rattle.std.specs.Prelude.{◌≡◌, ◌+◌, ◌<◌, ◌==◌, ℕ, Bool, zero, suc, true, false, List, [], ◌∷◌, if◌then◌else◌, length, slice_index_or, slice_set, take}
-use Rattle.std.proofs.Common.{refl, ap, ◌∙◌, arith}
-use Rattle.std.proofs.lemmas.Bool.{eq-eqb, or_left, or_right}
-use Rattle.std.proofs.lemmas.List.{map-append, take_more}
-use Rattle.mg_disk.specs.Disk.{Image, block_at}
-use Rattle.mg_model.specs.Layout.{segment_body}
-use Rattle.mg_model.specs.Abbreviations.{writes_from, writes_since}
-use Rattle.mg_model.specs.Replay.{body_count, home_of, written}
-use Rattle.mg_journal.specs.Applied.{filled, nth_body, nth_home}
-use Rattle.mg_journal.specs.Contents.{names}
-use Rattle.mg_journal.specs.Places.{places_from, places_since}
-use Rattle.mg_journal.specs.WrittenLemmas.{written-append}
+use Rattle.{mg_disk.specs.Disk.{Image, block_at}, mg_journal.specs.{Applied.{filled, nth_body, nth_home}, Contents.names, Places.places_from}}
+use Rattle.{mg_journal.specs.{Places.places_since, WrittenLemmas.written-append}, mg_model.specs.Abbreviations.{writes_from, writes_since}}
+use Rattle.{mg_model.specs.{Layout.segment_body, Replay.{body_count, home_of, written}}, std.proofs.Common.{refl, ap, ◌∙◌, arith}}
+use Rattle.std.{proofs.lemmas.{Bool.{eq-eqb, or_left, or_right}, List.{map-append, take_more}}, specs.Prelude.{◌≡◌, ◌+◌, ◌<◌, ◌==◌, ℕ, Bool, zero}}
+use Rattle.std.specs.Prelude.{suc, true, false, List, [], ◌∷◌, if◌then◌else◌, length, slice_index_or, slice_set, take}
 
 pub named_place : (a : Image) (places : List (ℕ × ℕ)) (k : ℕ) → k < length places → names (filled a places) (nth_home places k) ≡ true
 named_place a [] k below = absurd (omega arith)

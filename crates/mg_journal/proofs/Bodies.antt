@@ -1,17 +1,11 @@
 -- Lemmas on the places of bodies: one more, and whether a segment fits.
-use Rattle.std.proofs.lemmas.Bool.Decides.{nat_tests}
-use Rattle.std.specs.Prelude.{◌≡◌, ◌+◌, ◌≤◌, ◌<◌, ◌&&◌, nat_le, nat_lt, ℕ, Bool, zero, suc, true, false, All, [], ◌∷◌, ◌++◌, if◌then◌else◌}
-use Rattle.std.proofs.Common.{refl, ap, ◌∙◌, ⊎_elim, arith, append_assoc}
-use Rattle.std.proofs.lemmas.Bool.{and_from, and_left, and_parts, and_right, both_ways, cases_Bool, cases_eq, le-leb, leb-true, lt-ltb, ltb-true}
-use Rattle.std.proofs.lemmas.List.{append-nil}
-use Rattle.std.proofs.lemmas.List.Elements.{All-head, All-tail}
-use Rattle.mg_disk.specs.Disk.{Image}
-use Rattle.mg_model.specs.Layout.{body_limit, globals_block, segment_body}
-use Rattle.mg_model.specs.Abbreviations.{segments_fit, writes_from}
-use Rattle.mg_model.specs.Replay.{body_count, home_of, homes_fit, is_open, segment_fits}
-use Rattle.mg_journal.specs.Contents.{bodies_fit, bodies_of}
-use Rattle.mg_journal.specs.Places.{IsPlace, places_from, places_of, places_since}
-use Rattle.mg_journal.specs.SegmentLemmas.{each-fits, fits-each}
+use Rattle.{mg_disk.specs.Disk.Image, mg_journal.specs.{Contents.{bodies_fit, bodies_of}, Places.{IsPlace, places_from, places_of, places_since}}}
+use Rattle.{mg_journal.specs.SegmentLemmas.{each-fits, fits-each}, mg_model.specs.{Abbreviations.{segments_fit, writes_from}, Layout.body_limit}}
+use Rattle.mg_model.specs.{Layout.{globals_block, segment_body}, Replay.{body_count, home_of, homes_fit, is_open, segment_fits}}
+use Rattle.std.proofs.{Common.{refl, ap, ◌∙◌, ⊎_elim, arith, append_assoc}, lemmas.Bool.{and_from, and_left, and_parts, and_right, both_ways}}
+use Rattle.std.proofs.lemmas.{Bool.{cases_Bool, cases_eq, le-leb, leb-true, lt-ltb, ltb-true, Decides.nat_tests}, List.append-nil}
+use Rattle.std.{proofs.lemmas.List.Elements.{All-head, All-tail}, specs.Prelude.{◌≡◌, ◌+◌, ◌≤◌, ◌<◌, ◌&&◌, nat_le, nat_lt, ℕ, Bool, zero, suc, true}}
+use Rattle.std.specs.Prelude.{false, All, [], ◌∷◌, ◌++◌, if◌then◌else◌}
 
 not_le : (a b : ℕ) → b < a → nat_le a b ≡ false
 not_le a b more = ⊎_elim (λ is. let le = leb-true a b is in absurd (omega arith)) (λ no. no) (cases_Bool (nat_le a b))

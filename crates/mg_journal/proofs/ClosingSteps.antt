@@ -1,22 +1,11 @@
 -- Lemmas on the closing of gates.
-use Rattle.std.proofs.lemmas.Bool.Decides.{nat_tests}
+use Rattle.mg_disk.specs.{BecomesLemmas.{becomes-of, becomes-same, becomes-then, becomes-to, becomes-wider}, Disk.{Image, only_place}}
+use Rattle.mg_disk.specs.{PlaceLemmas.same_as, Runs.{leaves_then, leaves_yet, only_image}, Stops.{Becomes, Leaves, NothingPending}}
+use Rattle.{mg_disk.specs.declared.disk.Disk.Ghosts, mg_journal.{proofs.{CommitSteps.same_then, Homes.first_gate_torn}, specs.Contents.InJournal}}
+use Rattle.mg_journal.specs.{JournalLemmas.{same_gate, same_wider}, Recovery.{AreOpen, ClosedOne, ClosesUpTo, IsClosedUpTo, IsStill, MayCloseOne}}
+use Rattle.{mg_journal.specs.Recovery.StaysStill, mg_model.specs.{Layout.{segment_count, segment_gate}, Replay.{is_open, replay}}}
+use Rattle.std.{proofs.{Common.{refl, sym, ap, subst, ◌∙◌, ⊎_elim, arith}, lemmas.Bool.{cases_eq, ltb-true, Decides.nat_tests}}, specs.Option.ForSome}
 use Rattle.std.specs.Prelude.{◌≡◌, ◌+◌, ◌<◌, nat_lt, ℕ, true, false, Option, Some}
-use Rattle.std.specs.Option.{ForSome}
-use Rattle.std.proofs.Common.{refl, sym, ap, subst, ◌∙◌, ⊎_elim, arith}
-use Rattle.std.proofs.lemmas.Bool.{cases_eq, ltb-true}
-use Rattle.mg_disk.specs.BecomesLemmas.{becomes-of, becomes-same, becomes-then, becomes-to, becomes-wider}
-use Rattle.mg_disk.specs.Disk.{Image, only_place}
-use Rattle.mg_disk.specs.PlaceLemmas.{same_as}
-use Rattle.mg_disk.specs.Runs.{leaves_then, leaves_yet, only_image}
-use Rattle.mg_disk.specs.Stops.{Becomes, Leaves, NothingPending}
-use Rattle.mg_disk.specs.declared.disk.Disk.{Ghosts}
-use Rattle.mg_model.specs.Layout.{segment_count, segment_gate}
-use Rattle.mg_model.specs.Replay.{is_open, replay}
-use Rattle.mg_journal.proofs.CommitSteps.{same_then}
-use Rattle.mg_journal.specs.Contents.{InJournal}
-use Rattle.mg_journal.specs.JournalLemmas.{same_gate, same_wider}
-use Rattle.mg_journal.proofs.Homes.{first_gate_torn}
-use Rattle.mg_journal.specs.Recovery.{AreOpen, ClosedOne, ClosesUpTo, IsClosedUpTo, IsStill, MayCloseOne, StaysStill}
 
 -- while one more gate is closed
 pub closing_still : (s total : ℕ) (a b c : Image) → s < segment_count → IsClosedUpTo s total a b → MayCloseOne s b c → IsStill total a c

@@ -1,18 +1,10 @@
 -- Lemmas on what a stop may leave over the phases of a commit.
-use Rattle.std.specs.Prelude.{◌≡◌, ◌≤◌, ◌<◌, ℕ, true, false, List, [], ◌∷◌, length, Option, Some, None, option_map}
-use Rattle.std.specs.Option.{ForSome}
-use Rattle.std.proofs.Common.{refl, sym, subst, inl, arith}
-use Rattle.mg_disk.specs.BecomesLemmas.{becomes-then, becomes-to}
-use Rattle.mg_disk.specs.Disk.{Image, SameBut, SeenBut, only_place}
-use Rattle.mg_disk.specs.Runs.{leaves_then, leaves_wider, leaves_yet, only_image}
-use Rattle.mg_disk.specs.Stops.{Becomes, Leaves, NothingPending}
-use Rattle.mg_disk.specs.declared.disk.Disk.{Ghosts}
-use Rattle.mg_model.specs.Layout.{body_limit, segment_count, segment_gate}
-use Rattle.mg_model.specs.Replay.{homes_fit, is_open, replay, written}
-use Rattle.mg_journal.proofs.CommitSteps.{bodies_may, either_then, gate_may, new_then}
-use Rattle.mg_journal.specs.Contents.{InJournal, NewContents, SameContents}
-use Rattle.mg_journal.specs.Phases.{HoldsWrites, IsBehind, IsNext}
-use Rattle.mg_journal.specs.Standing.{OldOrNew}
+use Rattle.mg_disk.specs.{BecomesLemmas.{becomes-then, becomes-to}, Disk.{Image, SameBut, SeenBut, only_place}, Runs.{leaves_then, leaves_wider}}
+use Rattle.mg_disk.specs.{Runs.{leaves_yet, only_image}, Stops.{Becomes, Leaves, NothingPending}, declared.disk.Disk.Ghosts}
+use Rattle.mg_journal.{proofs.CommitSteps.{bodies_may, either_then, gate_may, new_then}, specs.Contents.{InJournal, NewContents, SameContents}}
+use Rattle.{mg_journal.specs.{Phases.{HoldsWrites, IsBehind, IsNext}, Standing.OldOrNew}, mg_model.specs.Layout.{body_limit, segment_count}}
+use Rattle.{mg_model.specs.{Layout.segment_gate, Replay.{homes_fit, is_open, replay, written}}, std.proofs.Common.{refl, sym, subst, inl, arith}}
+use Rattle.std.specs.{Option.ForSome, Prelude.{◌≡◌, ◌≤◌, ◌<◌, ℕ, true, false, List, [], ◌∷◌, length, Option, Some, None, option_map}}
 
 pub some_same : (x y : Image) → Some x ≡ Some y → x ≡ y
 some_same x y is = cc

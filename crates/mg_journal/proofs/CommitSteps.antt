@@ -1,18 +1,12 @@
 -- The images of a commit, phase by phase.
-use Rattle.std.specs.Prelude.{◌≡◌, ◌+◌, ◌≤◌, ◌<◌, nat_le, ℕ, true, false, List, length, option_map, slice_index, slice_set, Option, Some, None}
-use Rattle.std.proofs.Common.{ap, subst, ◌∙◌, inl, inr, ⊎_elim, arith}
-use Rattle.std.proofs.lemmas.Bool.{and_from, eq-eqb, le-leb}
-use Rattle.std.proofs.lemmas.List.{get_or-set_same}
-use Rattle.mg_disk.specs.Disk.{Image, SameBut, SeenBut, block_at, only_place}
-use Rattle.mg_disk.specs.PlaceLemmas.{same_set}
-use Rattle.mg_model.specs.Layout.{body_limit, gate_open, globals_block, segment_count, segment_gate}
-use Rattle.mg_model.specs.Replay.{body_count, homes_fit, is_open, replay, written}
-use Rattle.mg_journal.specs.Contents.{InClosed, InJournal, NewContents, SameContents, bodies_fit, bodies_of, names}
-use Rattle.mg_journal.specs.JournalLemmas.{any_gate, closed_segments, gate_opened, same_gate, same_wider}
-use Rattle.mg_journal.specs.Phases.{HoldsWrites, IsBehind, IsIn, IsNext}
-use Rattle.mg_journal.specs.SegmentLemmas.{same-bodies_of, same-count}
-use Rattle.mg_journal.specs.Standing.{OldOrNew}
-use Rattle.mg_journal.specs.WrittenLemmas.{written_same}
+use Rattle.{mg_disk.specs.{Disk.{Image, SameBut, SeenBut, block_at, only_place}, PlaceLemmas.same_set}, mg_journal.specs.Contents.InClosed}
+use Rattle.mg_journal.specs.{Contents.{InJournal, NewContents, SameContents, bodies_fit, bodies_of, names}, JournalLemmas.{any_gate, closed_segments}}
+use Rattle.mg_journal.specs.{JournalLemmas.{gate_opened, same_gate, same_wider}, Phases.{HoldsWrites, IsBehind, IsIn, IsNext}}
+use Rattle.mg_journal.specs.{SegmentLemmas.{same-bodies_of, same-count}, Standing.OldOrNew, WrittenLemmas.written_same}
+use Rattle.mg_model.specs.{Layout.{body_limit, gate_open, globals_block, segment_count, segment_gate}, Replay.{body_count, homes_fit, is_open}}
+use Rattle.{mg_model.specs.Replay.{replay, written}, std.proofs.{Common.{ap, subst, ◌∙◌, inl, inr, ⊎_elim, arith}, lemmas.Bool.{and_from, eq-eqb}}}
+use Rattle.std.{proofs.lemmas.{Bool.le-leb, List.get_or-set_same}, specs.Prelude.{◌≡◌, ◌+◌, ◌≤◌, ◌<◌, nat_le, ℕ, true, false, List, length}}
+use Rattle.std.specs.Prelude.{option_map, slice_index, slice_set, Option, Some, None}
 
 pub same_then : (P : ℕ → Type 0) (a b c : Image) → SameBut P a b → SameBut P b c → SameBut P a c
 same_then P a b c first second = record { count = second.count ∙ first.count; others = λ k out. second.others k out ∙ first.others k out }

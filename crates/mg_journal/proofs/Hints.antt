@@ -1,16 +1,10 @@
 -- Blocks in an order, and a table that says where each may be.
-use Rattle.std.proofs.lemmas.Bool.Decides.{nat_tests}
-use Rattle.std.specs.Prelude.{◌≡◌, ◌≢◌, ◌==◌, ◌+◌, ◌≤◌, ◌<◌, ◌%◌, nat_lt, ℕ, zero, List, [], ◌∷◌, ◌++◌, length, position, replicate, slice_index_or, slice_set, Some, None}
-use Rattle.std.specs.List.{position_or_len}
-use Rattle.std.proofs.Common.{sym, ap, subst, cond, ◌∙◌, ⊎_elim, arith, length-append}
-use Rattle.std.proofs.lemmas.Bool.{cases_lt, eq-eqb, le-ltb, lt-ltb, ne_eqb}
-use Rattle.std.proofs.lemmas.List.{get_or-replicate, get_or-set_other, get_or-set_same, get_or_append_left, get_or_default, get_or_past, get_or_push, length-replicate, length-set}
-use Rattle.std.proofs.lemmas.List.Quantifiers.{all_pairs_push}
-use Rattle.std.proofs.lemmas.List.Sums.{position_or_len_is}
-use Rattle.std.proofs.lemmas.Nat.{mod_below}
-use Rattle.std.proofs.lemmas.Option.{none-some}
-use Rattle.mg_model.specs.Layout.{body_limit}
-use Rattle.mg_journal.specs.Hinted.{AreHinted, hint_of}
+use Rattle.{mg_journal.specs.Hinted.{AreHinted, hint_of}, mg_model.specs.Layout.body_limit, std.proofs.Common.{sym, ap, subst, cond, ◌∙◌, ⊎_elim}}
+use Rattle.std.proofs.{Common.{arith, length-append}, lemmas.Bool.{cases_lt, eq-eqb, le-ltb, lt-ltb, ne_eqb, Decides.nat_tests}}
+use Rattle.std.proofs.lemmas.List.{get_or-replicate, get_or-set_other, get_or-set_same, get_or_append_left, get_or_default, get_or_past, get_or_push}
+use Rattle.std.proofs.lemmas.{List.{length-replicate, length-set, Quantifiers.all_pairs_push, Sums.position_or_len_is}, Nat.mod_below}
+use Rattle.std.{proofs.lemmas.Option.none-some, specs.{List.position_or_len, Prelude.{◌≡◌, ◌≢◌, ◌==◌, ◌+◌, ◌≤◌, ◌<◌, ◌%◌, nat_lt, ℕ, zero, List, []}}}
+use Rattle.std.specs.Prelude.{◌∷◌, ◌++◌, length, position, replicate, slice_index_or, slice_set, Some, None}
 
 -- a block is at a place, and no other place before has it
 placed : (homes : List ℕ) (block k : ℕ) → k < length homes → position_or_len (λ home. home == block) homes ≡ k → position (λ home. home == block) homes ≡ Some k

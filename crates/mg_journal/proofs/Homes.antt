@@ -1,17 +1,13 @@
 -- What changes at the homes of open segments do to the contents, and what closing the gates does once the homes are written.
-use Rattle.std.proofs.lemmas.Bool.Decides.{nat_tests}
+use Rattle.{mg_disk.specs.Disk.{Image, SameBut, block_at, only_place}, mg_journal.specs.Contents.{ClosedBelow, InJournal, names}}
+use Rattle.mg_journal.specs.{JournalLemmas.{open_writes, replay-some, replayed-fits, replayed-is, same_gate, same_wider}, SegmentLemmas.IsAlike}
+use Rattle.mg_journal.specs.SegmentLemmas.{all-write, alike-gates, alike-whole, each-fits, fits-closed, fits-each, fits-open, writes-closed}
+use Rattle.mg_journal.specs.{SegmentLemmas.{writes-open, writes_since-none, writes_since-split}, WrittenLemmas.last_change_nothing}
+use Rattle.{mg_journal.specs.WrittenLemmas.{written_elsewhere, written_over, written_same}, mg_model.specs.Abbreviations.{segments_fit, writes_since}}
+use Rattle.mg_model.specs.{Layout.{globals_block, segment_count, segment_gate}, Replay.{homes_fit, is_open, replay, segment_fits, writes_of, written}}
+use Rattle.std.proofs.{Common.{refl, sym, ap, subst, ◌∙◌, ⊎_elim, inl, inr, arith}, lemmas.Bool.{and_parts, both_ways, cases_Bool, cases_eq}}
+use Rattle.std.proofs.lemmas.{Bool.{cases_lt, eqb-true, leb-true, or_cases, or_left, or_right, Decides.nat_tests}, List.ext_get_or}
 use Rattle.std.specs.Prelude.{◌≡◌, ◌≢◌, ◌⊎◌, ◌+◌, ◌-◌, ◌≤◌, ◌<◌, ◌==◌, ◌&&◌, nat_le, nat_lt, ℕ, zero, suc, true, false, List, [], ◌∷◌, ◌++◌, Some}
-use Rattle.std.proofs.Common.{refl, sym, ap, subst, ◌∙◌, ⊎_elim, inl, inr, arith}
-use Rattle.std.proofs.lemmas.Bool.{and_parts, both_ways, cases_Bool, cases_eq, cases_lt, eqb-true, leb-true, or_cases, or_left, or_right}
-use Rattle.std.proofs.lemmas.List.{ext_get_or}
-use Rattle.mg_disk.specs.Disk.{Image, SameBut, block_at, only_place}
-use Rattle.mg_model.specs.Layout.{globals_block, segment_count, segment_gate}
-use Rattle.mg_model.specs.Abbreviations.{segments_fit, writes_since}
-use Rattle.mg_model.specs.Replay.{homes_fit, is_open, replay, segment_fits, writes_of, written}
-use Rattle.mg_journal.specs.Contents.{ClosedBelow, InJournal, names}
-use Rattle.mg_journal.specs.JournalLemmas.{open_writes, replay-some, replayed-fits, replayed-is, same_gate, same_wider}
-use Rattle.mg_journal.specs.SegmentLemmas.{IsAlike, all-write, alike-gates, alike-whole, each-fits, fits-closed, fits-each, fits-open, writes-closed, writes-open, writes_since-none, writes_since-split}
-use Rattle.mg_journal.specs.WrittenLemmas.{last_change_nothing, written_elsewhere, written_over, written_same}
 
 -- a home that fits lies after the journal
 pub fit-behind : (total : ℕ) (writes : List (ℕ × List ℕ)) (k : ℕ) → homes_fit total writes ≡ true → names writes k ≡ true → globals_block ≤ k

@@ -1,20 +1,10 @@
 -- Why a block of the contents is read at its newest body.
-use Rattle.std.specs.Prelude.{◌≡◌, ◌<◌, ◌==◌, ℕ, Bool, true, false, List, [], ◌∷◌, find, if◌then◌else◌, length, reverse, slice_set, Option, Some, None}
-use Rattle.std.specs.Option.{option_map_or, option_or}
-use Rattle.std.proofs.Common.{refl, sym, ap, ◌∙◌, ⊎_elim, arith}
-use Rattle.std.proofs.lemmas.Bool.{cases_Bool, eqb-true, eqb-false}
-use Rattle.std.proofs.lemmas.List.{get_or-set_other, get_or-set_same, length-set, reverse-append}
-use Rattle.std.proofs.lemmas.List.Folds.{find-append}
-use Rattle.mg_disk.specs.Disk.{Image, block_at}
-use Rattle.mg_model.specs.Layout.{segment_count}
-use Rattle.mg_model.specs.Abbreviations.{writes_since}
-use Rattle.mg_model.specs.Replay.{replay, written}
-use Rattle.mg_journal.proofs.ApplySteps.{filled_since}
-use Rattle.mg_journal.specs.Applied.{filled}
-use Rattle.mg_journal.specs.JournalLemmas.{replayed-is}
-use Rattle.mg_journal.specs.Looked.{Fits, Placed}
-use Rattle.mg_journal.specs.Newest.{is_for, newest_at}
-use Rattle.mg_journal.specs.Places.{places_since}
+use Rattle.{mg_disk.specs.Disk.{Image, block_at}, mg_journal.{proofs.ApplySteps.filled_since, specs.{Applied.filled, JournalLemmas.replayed-is}}}
+use Rattle.{mg_journal.specs.{Looked.{Fits, Placed}, Newest.{is_for, newest_at}, Places.places_since}, mg_model.specs.Abbreviations.writes_since}
+use Rattle.{mg_model.specs.{Layout.segment_count, Replay.{replay, written}}, std.proofs.Common.{refl, sym, ap, ◌∙◌, ⊎_elim, arith}}
+use Rattle.std.proofs.lemmas.{Bool.{cases_Bool, eqb-true, eqb-false}, List.{get_or-set_other, get_or-set_same, length-set, reverse-append}}
+use Rattle.std.{proofs.lemmas.List.Folds.find-append, specs.{Option.{option_map_or, option_or}, Prelude.{◌≡◌, ◌<◌, ◌==◌, ℕ, Bool, true, false, List}}}
+use Rattle.std.specs.Prelude.{[], ◌∷◌, find, if◌then◌else◌, length, reverse, slice_set, Option, Some, None}
 
 -- what is in block i after these writes, if x was there
 abbrev pub value_at : List (ℕ × List ℕ) → ℕ → List ℕ → List ℕ

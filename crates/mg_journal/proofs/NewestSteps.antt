@@ -1,29 +1,16 @@
 -- Why the newest bodies make the contents, and what a commit does to them.
-use Rattle.std.specs.Prelude.{◌≡◌, ◌≢◌, ◌⊎◌, ◌+◌, ◌-◌, ◌≤◌, ◌<◌, ◌==◌, nat_le, nat_lt, ℕ, Bool, zero, suc, true, false, List, [], ◌∷◌, ◌++◌, find, if◌then◌else◌, is_some, length, reverse, Option, Some, None}
-use Rattle.std.specs.Option.{option_map_or, option_or}
-use Rattle.std.proofs.Common.{refl, sym, ap, subst, ◌∙◌, ⊎_elim, arith, append_assoc}
-use Rattle.std.proofs.lemmas.Bool.{and_from, cases_eq, cases_lt, le-leb, le-ltb, lt-ltb}
-use Rattle.std.proofs.lemmas.List.{append-nil, ext_get_or, reverse-append}
-use Rattle.std.proofs.lemmas.List.Folds.{find-append}
-use Rattle.mg_disk.specs.Disk.{Image, block_at}
-use Rattle.mg_model.specs.Layout.{body_limit, segment_body, segment_count, segment_gate, segment_index}
-use Rattle.mg_model.specs.Abbreviations.{segments_fit, writes_from}
-use Rattle.mg_model.specs.Replay.{block_of, body_count, homes_fit, is_open, segment_fits, written}
-use Rattle.mg_journal.proofs.ApplySteps.{filled_since}
-use Rattle.mg_journal.proofs.Bodies.{places-closed, places-open}
-use Rattle.mg_journal.proofs.Lookups.{held_is, value_held, written_at}
-use Rattle.mg_journal.proofs.Tables.{only-one}
-use Rattle.mg_journal.specs.Applied.{filled}
-use Rattle.mg_journal.specs.Contents.{InJournal, bodies_of, names}
-use Rattle.mg_journal.specs.JournalLemmas.{same_gate, same_wider}
-use Rattle.mg_journal.specs.Looked.{Fits, Placed}
-use Rattle.mg_journal.specs.Newest.{Adds, Ascends, HasLast, is_for, lying}
-use Rattle.mg_journal.specs.Phases.{IsIn, IsNext}
-use Rattle.mg_journal.specs.Places.{places_from, places_of, places_since}
-use Rattle.mg_journal.specs.Recovery.{Settles}
-use Rattle.mg_journal.specs.SegmentLemmas.{alike-whole, each-fits, fits-closed, fits-each, fits-open}
-use Rattle.mg_journal.specs.Standing.{AllClosed, HoldsOpen, IsLate, open_count, open_since}
-use Rattle.mg_journal.specs.WrittenLemmas.{written_elsewhere}
+use Rattle.{mg_disk.specs.Disk.{Image, block_at}, mg_journal.proofs.{ApplySteps.filled_since, Bodies.{places-closed, places-open}, Lookups.held_is}}
+use Rattle.mg_journal.{proofs.{Lookups.{value_held, written_at}, Tables.only-one}, specs.{Applied.filled, Contents.{InJournal, bodies_of, names}}}
+use Rattle.mg_journal.specs.{JournalLemmas.{same_gate, same_wider}, Looked.{Fits, Placed}, Newest.{Adds, Ascends, HasLast, is_for, lying}}
+use Rattle.mg_journal.specs.{Phases.{IsIn, IsNext}, Places.{places_from, places_of, places_since}, Recovery.Settles, SegmentLemmas.alike-whole}
+use Rattle.mg_journal.specs.{SegmentLemmas.{each-fits, fits-closed, fits-each, fits-open}, Standing.{AllClosed, HoldsOpen, IsLate, open_count}}
+use Rattle.{mg_journal.specs.{Standing.open_since, WrittenLemmas.written_elsewhere}, mg_model.specs.Abbreviations.{segments_fit, writes_from}}
+use Rattle.mg_model.specs.{Layout.{body_limit, segment_body, segment_count, segment_gate, segment_index}, Replay.{block_of, body_count, homes_fit}}
+use Rattle.{mg_model.specs.Replay.{is_open, segment_fits, written}, std.proofs.Common.{refl, sym, ap, subst, ◌∙◌, ⊎_elim, arith, append_assoc}}
+use Rattle.std.proofs.lemmas.{Bool.{and_from, cases_eq, cases_lt, le-leb, le-ltb, lt-ltb}, List.{append-nil, ext_get_or, reverse-append}}
+use Rattle.std.{proofs.lemmas.List.Folds.find-append, specs.{Option.{option_map_or, option_or}, Prelude.{◌≡◌, ◌≢◌, ◌⊎◌, ◌+◌, ◌-◌, ◌≤◌, ◌<◌, ◌==◌}}}
+use Rattle.std.specs.Prelude.{nat_le, nat_lt, ℕ, Bool, zero, suc, true, false, List, [], ◌∷◌, ◌++◌, find, if◌then◌else◌, is_some, length, reverse}
+use Rattle.std.specs.Prelude.{Option, Some, None}
 
 -- a block is named if one of the places belongs to it
 named_is : (a : Image) (places : List (ℕ × ℕ)) (k : ℕ) → names (filled a places) k ≡ is_some (find (is_for k) places)

@@ -1,12 +1,8 @@
 -- A write more among writes that go each to another block.
-use Rattle.std.proofs.Common.{arith}
-use Rattle.std.proofs.lemmas.Bool.Decides.{nat_tests}
-use Rattle.std.specs.Prelude.{◌≡◌, ◌==◌, ◌&&◌, ◌||◌, ℕ, zero, suc, true, false, not, List, [], ◌∷◌, ◌++◌, slice_set, None}
-use Rattle.std.proofs.Common.{refl, sym, ap, ◌∙◌}
-use Rattle.std.proofs.lemmas.Bool.{and_from, and_parts, both_ways, eq-eqb, ne_eqb, not_from_false, not-true, or_from, or_parts}
-use Rattle.std.proofs.lemmas.Option.{none-some}
-use Rattle.mg_journal.specs.Contents.{names}
-use Rattle.mg_journal.specs.Staged.{are_once, home_at, waiting}
+use Rattle.{mg_journal.specs.{Contents.names, Staged.{are_once, home_at, waiting}}, std.proofs.Common.{arith, refl, sym, ap, ◌∙◌}}
+use Rattle.std.proofs.lemmas.Bool.{and_from, and_parts, both_ways, eq-eqb, ne_eqb, not_from_false, not-true, or_from, or_parts, Decides.nat_tests}
+use Rattle.std.{proofs.lemmas.Option.none-some, specs.Prelude.{◌≡◌, ◌==◌, ◌&&◌, ◌||◌, ℕ, zero, suc, true, false, not, List, [], ◌∷◌, ◌++◌, slice_set}}
+use Rattle.std.specs.Prelude.{None}
 
 -- other bytes for a block that waits
 names-set : (ws : List (ℕ × List ℕ)) (k : ℕ) (y : List ℕ) (b : ℕ) → names (slice_set ws k (home_at ws k, y)) b ≡ names ws b

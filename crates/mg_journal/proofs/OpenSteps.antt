@@ -1,13 +1,7 @@
 -- An opening: the journal is looked through, and then recovered.
-use Rattle.std.specs.Prelude.{◌≡◌, ℕ, Option, Result, Err}
-use Rattle.std.proofs.Common.{inr, subst}
-use Rattle.mg_disk.specs.BecomesLemmas.{becomes-after, becomes-same}
-use Rattle.mg_disk.specs.Disk.{Image, no_image}
-use Rattle.mg_disk.specs.Runs.{leaves_then, left_still, left_still_then}
-use Rattle.mg_disk.specs.Stops.{Becomes, Leaves, LeftOr, TimeGoes}
-use Rattle.mg_disk.specs.declared.disk.Disk.{Ghosts}
-use Rattle.mg_journal.proofs.CommitRuns.{same_itself}
-use Rattle.mg_journal.specs.Contents.{SameContents}
+use Rattle.mg_disk.specs.{BecomesLemmas.{becomes-after, becomes-same}, Disk.{Image, no_image}, Runs.{leaves_then, left_still, left_still_then}}
+use Rattle.{mg_disk.specs.{Stops.{Becomes, Leaves, LeftOr, TimeGoes}, declared.disk.Disk.Ghosts}, mg_journal.proofs.CommitRuns.same_itself}
+use Rattle.{mg_journal.specs.Contents.SameContents, std.{proofs.Common.{inr, subst}, specs.Prelude.{◌≡◌, ℕ, Option, Result, Err}}}
 
 -- an error stays the same if it is handed on with another type of value
 pub same_error : {T U E : Type 0} (x y : E) → ◌≡◌ {A = Result T E} (Err x) (Err y) → ◌≡◌ {A = Result U E} (Err x) (Err y)

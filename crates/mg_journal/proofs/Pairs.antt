@@ -1,14 +1,10 @@
 -- Writes whose homes and bytes are in two lists.
-use Rattle.std.specs.Prelude.{◌≡◌, ◌+◌, ◌≤◌, ◌<◌, ◌==◌, ◌*◌, ℕ, zero, suc, true, not, List, [], ◌∷◌, ◌++◌, length, position, slice_index_or, slice_set, None}
-use Rattle.std.specs.List.{position_or_len}
-use Rattle.std.proofs.Common.{refl, sym, ap, cond, ◌∙◌, ⊎_elim, arith, length-append}
-use Rattle.std.proofs.lemmas.Bool.{cases_eq}
-use Rattle.std.proofs.lemmas.List.{get_or-append_right, get_or_default, get_or-set_other, get_or-set_same, get_or_append_left, length-set}
-use Rattle.mg_disk.specs.Disk.{Image, block_at}
-use Rattle.mg_model.specs.Bytes.{number_at}
-use Rattle.mg_model.specs.Layout.{body_limit}
-use Rattle.mg_journal.proofs.Once.{once_more, once_set}
-use Rattle.mg_journal.specs.Staged.{AreHeld, are_once, bytes_of, goes_to, home_at, paired, waiting}
+use Rattle.{mg_disk.specs.Disk.{Image, block_at}, mg_journal.{proofs.Once.{once_more, once_set}, specs.Staged.{AreHeld, are_once, bytes_of, goes_to}}}
+use Rattle.{mg_journal.specs.Staged.{home_at, paired, waiting}, mg_model.specs.{Bytes.number_at, Layout.body_limit}, std.proofs.Common.{refl, sym}}
+use Rattle.std.proofs.{Common.{ap, cond, ◌∙◌, ⊎_elim, arith, length-append}, lemmas.{Bool.cases_eq, List.{get_or-append_right, get_or_default}}}
+use Rattle.std.{proofs.lemmas.List.{get_or-set_other, get_or-set_same, get_or_append_left, length-set}, specs.{List.position_or_len, Prelude.◌≡◌}}
+use Rattle.std.specs.Prelude.{◌+◌, ◌≤◌, ◌<◌, ◌==◌, ◌*◌, ℕ, zero, suc, true, not, List, [], ◌∷◌, ◌++◌, length, position, slice_index_or, slice_set}
+use Rattle.std.specs.Prelude.{None}
 
 pub pairs_count : (homes : List ℕ) (blocks : Image) (j : ℕ) → length (paired homes blocks j) ≡ length homes
 pairs_count [] blocks j = refl

@@ -1,17 +1,9 @@
 -- Lemmas on the phases of a commit: what is in a segment once its index and its bodies are written.
-use Rattle.std.specs.Prelude.{◌≡◌, ◌+◌, ◌*◌, ◌≤◌, ◌<◌, ℕ, zero, suc, List, [], ◌∷◌, length, Option}
-use Rattle.std.specs.Option.{ForSome}
-use Rattle.std.proofs.Common.{refl, ap, ◌∙◌, arith}
-use Rattle.mg_disk.specs.BecomesLemmas.{becomes-kept, becomes-seen, becomes-wider}
-use Rattle.mg_disk.specs.Disk.{HasBlocks, Image, InRange, SameBut, SeenBut, block_at}
-use Rattle.mg_disk.specs.Stops.{Becomes}
-use Rattle.mg_model.specs.Bytes.{number_at}
-use Rattle.mg_model.specs.Layout.{body_limit, segment_body, segment_count, segment_index}
-use Rattle.mg_model.specs.Abbreviations.{writes_from}
-use Rattle.mg_model.specs.Replay.{body_count, home_of}
-use Rattle.mg_journal.specs.JournalLemmas.{same_wider}
-use Rattle.mg_journal.specs.Phases.{HoldsWrites, IsBehind}
-use Rattle.mg_journal.specs.Staged.{IsRunOf, bytes_of, home_at}
+use Rattle.mg_disk.specs.{BecomesLemmas.{becomes-kept, becomes-seen, becomes-wider}, Disk.{HasBlocks, Image, InRange, SameBut, SeenBut, block_at}}
+use Rattle.{mg_disk.specs.Stops.Becomes, mg_journal.specs.{JournalLemmas.same_wider, Phases.{HoldsWrites, IsBehind}, Staged.{IsRunOf, bytes_of}}}
+use Rattle.{mg_journal.specs.Staged.home_at, mg_model.specs.{Abbreviations.writes_from, Bytes.number_at, Layout.{body_limit, segment_body}}}
+use Rattle.{mg_model.specs.{Layout.{segment_count, segment_index}, Replay.{body_count, home_of}}, std.proofs.Common.{refl, ap, ◌∙◌, arith}}
+use Rattle.std.specs.{Option.ForSome, Prelude.{◌≡◌, ◌+◌, ◌*◌, ◌≤◌, ◌<◌, ℕ, zero, suc, List, [], ◌∷◌, length, Option}}
 
 writes_read : (image : Image) (s j n : ℕ) (writes : List (ℕ × List ℕ)) → n ≡ length writes → ((i : ℕ) → i < length writes → home_of image s (j + i) ≡ home_at writes i)
     → ((i : ℕ) → i < length writes → block_at image (segment_body s j + i) ≡ bytes_of writes i) → writes_from image s j n ≡ writes

@@ -1,15 +1,8 @@
 -- How blocks that were read together become those of the contents, one after the other.
+use Rattle.mg_disk.specs.{Disk.{Image, block_at}, PlaceLemmas.{HasFirst, same_or_not}, Runs.nothing_then, Stops.{CountGoes, OnlyReads, WritesNothing}}
+use Rattle.{mg_disk.specs.declared.disk.Disk.Ghosts, mg_faults.specs.Faults.count_then, mg_model.specs.Replay.replay, std.proofs.Common.{sym, subst}}
+use Rattle.std.{proofs.{Common.{◌∙◌, arith, ⊎_elim}, lemmas.List.{length-set, get_or-set_same, get_or-set_other}}, specs.Option.ForSome}
 use Rattle.std.specs.Prelude.{◌≡◌, ◌≢◌, ◌+◌, ◌<◌, ◌≤◌, ℕ, [], List, Result, length, slice_set}
-use Rattle.std.proofs.Common.{sym, subst, ◌∙◌, arith, ⊎_elim}
-use Rattle.std.proofs.lemmas.List.{length-set, get_or-set_same, get_or-set_other}
-use Rattle.std.specs.Option.{ForSome}
-use Rattle.mg_disk.specs.Disk.{Image, block_at}
-use Rattle.mg_disk.specs.PlaceLemmas.{HasFirst, same_or_not}
-use Rattle.mg_disk.specs.Runs.{nothing_then}
-use Rattle.mg_disk.specs.Stops.{CountGoes, OnlyReads, WritesNothing}
-use Rattle.mg_disk.specs.declared.disk.Disk.{Ghosts}
-use Rattle.mg_faults.specs.Faults.{count_then}
-use Rattle.mg_model.specs.Replay.{replay}
 
 -- the blocks from the n-th on are those at their homes
 abbrev pub HasRest : ℕ → Image → ℕ → Image → Type 0

@@ -1,19 +1,10 @@
 -- The images of a recovery: homes are written, and then gates are closed.
-use Rattle.std.specs.Prelude.{◌≡◌, ◌≤◌, ℕ, true, List, Option, Some, None, option_map}
-use Rattle.std.specs.Option.{ForSome}
-use Rattle.std.proofs.Common.{refl, sym, ap, subst, ◌∙◌, arith}
-use Rattle.mg_disk.specs.BecomesLemmas.{becomes-changed, becomes-then}
-use Rattle.mg_disk.specs.Disk.{Image, SameBut}
-use Rattle.mg_disk.specs.Stops.{Becomes}
-use Rattle.mg_disk.specs.PlaceLemmas.{same_as}
-use Rattle.mg_model.specs.Layout.{segment_count, segment_gate}
-use Rattle.mg_model.specs.Replay.{replay, written}
-use Rattle.mg_journal.specs.Applied.{filled}
-use Rattle.mg_journal.specs.Contents.{InJournal, SameContents, names}
-use Rattle.mg_journal.specs.JournalLemmas.{open_writes, replay-some, same_gate, same_wider, seen_both}
-use Rattle.mg_journal.proofs.Homes.{homes_torn, homes_written, since-behind}
-use Rattle.mg_journal.specs.Recovery.{AreOpen, ClosesUpTo, IsClosedUpTo, IsRecovered, IsStill, Settles, StaysStill}
-use Rattle.mg_journal.specs.WrittenLemmas.{written_elsewhere}
+use Rattle.mg_disk.specs.{BecomesLemmas.{becomes-changed, becomes-then}, Disk.{Image, SameBut}, PlaceLemmas.same_as, Stops.Becomes}
+use Rattle.mg_journal.{proofs.Homes.{homes_torn, homes_written, since-behind}, specs.{Applied.filled, Contents.{InJournal, SameContents, names}}}
+use Rattle.mg_journal.specs.{JournalLemmas.{open_writes, replay-some, same_gate, same_wider, seen_both}, Recovery.{AreOpen, ClosesUpTo, IsClosedUpTo}}
+use Rattle.mg_journal.specs.{Recovery.{IsRecovered, IsStill, Settles, StaysStill}, WrittenLemmas.written_elsewhere}
+use Rattle.{mg_model.specs.{Layout.{segment_count, segment_gate}, Replay.{replay, written}}, std.proofs.Common.{refl, sym, ap, subst, ◌∙◌, arith}}
+use Rattle.std.specs.{Option.ForSome, Prelude.{◌≡◌, ◌≤◌, ℕ, true, List, Option, Some, None, option_map}}
 
 -- what holds of a changed image, if it is told
 pub of_changed : (change : Image → Image) (told now : Option Image) (P : Image → Type 0) → now ≡ option_map change told → ((a : Image) → told ≡ Some a → P (change a)) → ForSome now P

@@ -1,21 +1,13 @@
 -- Tables of newest bodies: what a search finds, and what a place more does.
-use Rattle.std.proofs.lemmas.Bool.Decides.{nat_tests}
-use Rattle.std.specs.Prelude.{◌≡◌, ◌≢◌, ◌≤◌, ◌<◌, ◌+◌, ◌-◌, ◌⊎◌, ◌&&◌, nat_le, nat_lt, ℕ, Bool, zero, suc, false, true, All, List, [], ◌∷◌, ◌++◌, drop, find, if◌then◌else◌, insert, length, option_map, reverse, slice_set, take, Option, Some, None}
-use Rattle.std.specs.List.{AllWithin}
-use Rattle.std.specs.List.Sorted.{IsNonDecreasingBy}
-use Rattle.std.specs.Option.{option_or}
-use Rattle.std.proofs.Common.{refl, sym, ap, ◌∙◌, inl, inr, ⊎_elim, arith, get_or}
-use Rattle.std.proofs.lemmas.Bool.{cases_eq, cases_lt, and_parts, eq-eqb, leb-true, ltb-true, ne_eqb}
-use Rattle.std.proofs.lemmas.List.{append-nil, get_or-take, length-take-le, reverse-append, take-append-drop, take_more}
-use Rattle.std.proofs.lemmas.List.Edits.{get_or-insert_above, get_or-insert_at, get_or-insert_below, length-insert}
-use Rattle.std.proofs.lemmas.List.Elements.{All-append, All-cons, All-drop, All-head, All-tail, All-take}
-use Rattle.std.proofs.lemmas.List.Folds.{find-append, find_past}
-use Rattle.std.proofs.lemmas.Option.{none-some}
-use Rattle.mg_model.specs.Layout.{globals_block}
-use Rattle.mg_model.specs.Replay.{homes_fit}
-use Rattle.mg_journal.specs.Newest.{Ascends, HasLast, Puts, TakesIn, is_for, lying}
-use Rattle.mg_journal.specs.Places.{IsPlace}
-use Rattle.mg_journal.specs.Staged.{home_at}
+use Rattle.mg_journal.specs.{Newest.{Ascends, HasLast, Puts, TakesIn, is_for, lying}, Places.IsPlace, Staged.home_at}
+use Rattle.{mg_model.specs.{Layout.globals_block, Replay.homes_fit}, std.proofs.Common.{refl, sym, ap, ◌∙◌, inl, inr, ⊎_elim, arith, get_or}}
+use Rattle.std.proofs.lemmas.{Bool.{cases_eq, cases_lt, and_parts, eq-eqb, leb-true, ltb-true, ne_eqb, Decides.nat_tests}, List.append-nil}
+use Rattle.std.proofs.lemmas.List.{get_or-take, length-take-le, reverse-append, take-append-drop, take_more, Edits.get_or-insert_above}
+use Rattle.std.proofs.lemmas.List.{Edits.{get_or-insert_at, get_or-insert_below, length-insert}, Elements.{All-append, All-cons, All-drop, All-head}}
+use Rattle.std.{proofs.lemmas.{List.{Elements.{All-tail, All-take}, Folds.{find-append, find_past}}, Option.none-some}, specs.List.AllWithin}
+use Rattle.std.specs.{List.Sorted.IsNonDecreasingBy, Option.option_or, Prelude.{◌≡◌, ◌≢◌, ◌≤◌, ◌<◌, ◌+◌, ◌-◌, ◌⊎◌, ◌&&◌, nat_le, nat_lt, ℕ, Bool}}
+use Rattle.std.specs.Prelude.{zero, suc, false, true, All, List, [], ◌∷◌, ◌++◌, drop, find, if◌then◌else◌, insert, length, option_map, reverse}
+use Rattle.std.specs.Prelude.{slice_set, take, Option, Some, None}
 
 pub no-falls : (table : List (ℕ × ℕ)) → Ascends table → IsNonDecreasingBy (λ (place : ℕ × ℕ). place.0) table
 no-falls table up i j d order under = grind (arith, nat_tests)

@@ -1,15 +1,9 @@
 -- What waits for a block, by the place of the write to it.
-use Rattle.std.proofs.lemmas.Bool.Decides.{nat_tests}
-use Rattle.std.specs.Prelude.{◌≡◌, ◌<◌, ℕ, List, [], ◌∷◌, ◌++◌, length, option_map, position, slice_set, Option, Some, None, MatchOption}
-use Rattle.std.specs.List.{position_or_len, slice_get}
-use Rattle.std.proofs.Common.{refl, ap, sym, ◌∙◌, arith}
-use Rattle.std.proofs.lemmas.Bool.{eqb-true, lt-ltb}
-use Rattle.std.proofs.lemmas.List.{get_or-set_same, set-set}
-use Rattle.std.proofs.lemmas.List.Folds.{find_at}
-use Rattle.std.proofs.lemmas.List.Quantifiers.{position-Some}
-use Rattle.std.proofs.lemmas.List.Sums.{position_or_len_is}
-use Rattle.std.proofs.lemmas.Option.{none-some, slice_get-get_or, slice_get_cases}
-use Rattle.mg_journal.specs.Staged.{bytes_of, goes_to, home_at, staged, waiting}
+use Rattle.{mg_journal.specs.Staged.{bytes_of, goes_to, home_at, staged, waiting}, std.proofs.Common.{refl, ap, sym, ◌∙◌, arith}}
+use Rattle.std.proofs.lemmas.{Bool.{eqb-true, lt-ltb, Decides.nat_tests}, List.{get_or-set_same, set-set, Folds.find_at, Quantifiers.position-Some}}
+use Rattle.std.{proofs.lemmas.{List.Sums.position_or_len_is, Option.{none-some, slice_get-get_or, slice_get_cases}}, specs.List.position_or_len}
+use Rattle.std.specs.{List.slice_get, Prelude.{◌≡◌, ◌<◌, ℕ, List, [], ◌∷◌, ◌++◌, length, option_map, position, slice_set, Option, Some, None}}
+use Rattle.std.specs.Prelude.{MatchOption}
 
 module _ (writes : List (ℕ × List ℕ)) (block : ℕ) where
   abbrev first : ℕ

@@ -1,9 +1,8 @@
 -- What the journal keeps: the blocks after replay, the segments' own blocks left aside.
 use Rattle.std.specs.Prelude.{◌≡◌, ◌+◌, ◌≤◌, ◌<◌, ◌==◌, ◌&&◌, ◌||◌, nat_le, ℕ, Bool, false, List, [], ◌∷◌, option_map}
-use Rattle.mg_disk.specs.Disk.{Image, SameBut, SeenBut}
-use Rattle.mg_model.specs.Layout.{body_limit, globals_block, segment_count, segment_gate}
-use Rattle.mg_model.specs.Abbreviations.{writes_from}
-use Rattle.mg_model.specs.Replay.{block_of, body_count, homes_fit, is_open, replay, written}
+use Rattle.{mg_disk.specs.Disk.{Image, SameBut, SeenBut}, mg_model.specs.{Abbreviations.writes_from, Layout.body_limit}}
+use Rattle.mg_model.specs.{Layout.{globals_block, segment_count, segment_gate}, Replay.{block_of, body_count}}
+use Rattle.mg_model.specs.Replay.{homes_fit, is_open, replay, written}
 
 -- the segments' own blocks
 abbrev pub InJournal : ℕ → Type 0

@@ -1,15 +1,16 @@
 -- Lemmas on what changes inside the journal do to the contents. No disk is spoken of.
-use Rattle.std.specs.Prelude.{◌≡◌, ◌≢◌, ◌⊎◌, ◌+◌, ◌-◌, ◌≤◌, ◌<◌, ◌==◌, nat_le, ℕ, suc, true, false, List, [], ◌++◌, if◌then◌else◌, slice_index, option_map, Option, Some, None}
-use Rattle.std.proofs.Common.{sym, ap, subst, ◌∙◌, ⊎_elim, inl, inr, arith}
-use Rattle.std.proofs.lemmas.Bool.{and_parts, both_ways, cases_Bool, cases_eq}
-use Rattle.std.proofs.lemmas.List.{append-nil}
-use Rattle.mg_disk.specs.Disk.{Image, SameBut, SeenBut, block_at, only_place}
-use Rattle.mg_model.specs.Layout.{body_limit, gate_open, segment_count, segment_gate}
-use Rattle.mg_model.specs.Abbreviations.{segments_fit, writes_since}
+use Rattle.std.proofs.{Common.{sym, ap, subst, ◌∙◌, ⊎_elim, inl, inr, arith}, lemmas.Bool.{and_parts, both_ways}}
+use Rattle.std.{proofs.lemmas.{Bool.{cases_Bool, cases_eq}, List.append-nil}, specs.Prelude.{◌≡◌, ◌≢◌, ◌⊎◌, ◌+◌, ◌-◌}}
+use Rattle.std.specs.Prelude.{◌≤◌, ◌<◌, ◌==◌, nat_le, ℕ, suc, true, false, List, [], ◌++◌, if◌then◌else◌, slice_index}
+use Rattle.std.specs.Prelude.{option_map, Option, Some, None}
+use Rattle.{mg_disk.specs.Disk.{Image, SameBut, SeenBut, block_at, only_place}, mg_journal.specs.Contents.InClosed}
+use Rattle.mg_journal.specs.Contents.{InJournal, NewContents, SameContents, bodies_fit, bodies_of, names}
+use Rattle.mg_journal.specs.SegmentLemmas.{IsAlike, all-fit, all-write, alike-closed, alike-whole, each-fits}
+use Rattle.mg_journal.specs.SegmentLemmas.{fits-closed, fits-open, same-bodies_fit, same-bodies_of, writes-closed}
+use Rattle.mg_journal.specs.SegmentLemmas.{writes-open, writes_since-none, writes_since-split}
+use Rattle.{mg_journal.specs.WrittenLemmas.{written-append, written_same}, mg_model.specs.Abbreviations.segments_fit}
+use Rattle.mg_model.specs.{Abbreviations.writes_since, Layout.{body_limit, gate_open, segment_count, segment_gate}}
 use Rattle.mg_model.specs.Replay.{body_count, homes_fit, is_open, replay, segment_fits, writes_of, written}
-use Rattle.mg_journal.specs.Contents.{InClosed, InJournal, NewContents, SameContents, bodies_fit, bodies_of, names}
-use Rattle.mg_journal.specs.SegmentLemmas.{IsAlike, all-fit, all-write, alike-closed, alike-whole, each-fits, fits-closed, fits-open, same-bodies_fit, same-bodies_of, writes-closed, writes-open, writes_since-none, writes_since-split}
-use Rattle.mg_journal.specs.WrittenLemmas.{written-append, written_same}
 
 abbrev pub open_writes : Image → List (ℕ × List ℕ)
 open_writes a = writes_since a 0 segment_count

@@ -1,12 +1,8 @@
 -- What a view holds, and when it fits an image.
-use Rattle.std.specs.Prelude.{◌≡◌, ◌≤◌, ℕ, true, List}
-use Rattle.std.specs.Option.{ForSome}
-use Rattle.mg_disk.specs.Disk.{Image}
-use Rattle.mg_disk.specs.declared.disk.Disk.{Ghosts}
-use Rattle.mg_model.specs.Layout.{globals_block, segment_count}
-use Rattle.mg_model.specs.Abbreviations.{segments_fit}
-use Rattle.mg_journal.specs.Newest.{HasLast}
-use Rattle.mg_journal.specs.Places.{places_since}
+use Rattle.std.specs.{Option.ForSome, Prelude.{◌≡◌, ◌≤◌, ℕ, true, List}}
+use Rattle.{mg_disk.specs.{Disk.Image, declared.disk.Disk.Ghosts}, mg_journal.specs.Newest.HasLast}
+use Rattle.{mg_journal.specs.Places.places_since, mg_model.specs.{Abbreviations.segments_fit, Layout.globals_block}}
+use Rattle.mg_model.specs.Layout.{segment_count}
 
 -- the number of blocks of a volume, and where the newest body of each block lies that its open segments have: pairs of the block
 -- that a body belongs to and the block that holds it

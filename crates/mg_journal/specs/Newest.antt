@@ -1,9 +1,7 @@
 -- The newest body of each block.
-use Rattle.std.specs.Prelude.{◌≡◌, ◌≤◌, ◌+◌, ◌<◌, ◌==◌, ℕ, Bool, true, All, List, [], ◌∷◌, ◌++◌, find, if◌then◌else◌, length, reverse, Some}
-use Rattle.std.specs.List.{AllPairs}
-use Rattle.std.specs.Option.{option_map_or}
-use Rattle.mg_model.specs.Replay.{homes_fit}
-use Rattle.mg_journal.specs.Places.{IsPlace}
+use Rattle.std.specs.{List.AllPairs, Option.option_map_or, Prelude.{◌≡◌, ◌≤◌, ◌+◌, ◌<◌, ◌==◌, ℕ, Bool, true, All, List}}
+use Rattle.std.specs.Prelude.{[], ◌∷◌, ◌++◌, find, if◌then◌else◌, length, reverse, Some}
+use Rattle.{mg_journal.specs.Places.IsPlace, mg_model.specs.Replay.homes_fit}
 
 -- whether a body belongs to block i
 abbrev pub is_for : ℕ → ℕ × ℕ → Bool

@@ -1,9 +1,7 @@
 -- What the phases of a commit write.
 use Rattle.std.specs.Prelude.{◌≡◌, ◌+◌, ◌≤◌, ◌<◌, ℕ, true, List, length}
-use Rattle.mg_disk.specs.Disk.{Image, SameBut}
-use Rattle.mg_model.specs.Layout.{segment_gate}
-use Rattle.mg_model.specs.Replay.{body_count, is_open}
-use Rattle.mg_journal.specs.Contents.{NewContents, bodies_of}
+use Rattle.{mg_disk.specs.Disk.{Image, SameBut}, mg_journal.specs.Contents.{NewContents, bodies_of}}
+use Rattle.mg_model.specs.{Layout.segment_gate, Replay.{body_count, is_open}}
 
 -- block k is the index or a body of this segment
 abbrev pub IsBehind : ℕ → ℕ → Type 0

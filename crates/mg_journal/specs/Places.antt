@@ -1,8 +1,7 @@
 -- Where the bodies of the open segments lie.
 use Rattle.std.specs.Prelude.{◌+◌, ◌≤◌, ◌<◌, ℕ, zero, suc, List, [], ◌∷◌, ◌++◌, if◌then◌else◌}
-use Rattle.mg_disk.specs.Disk.{Image}
-use Rattle.mg_model.specs.Layout.{globals_block, segment_body}
-use Rattle.mg_model.specs.Replay.{body_count, home_of, is_open}
+use Rattle.{mg_disk.specs.Disk.Image, mg_model.specs.{Layout.{globals_block, segment_body}, Replay.body_count}}
+use Rattle.mg_model.specs.Replay.{home_of, is_open}
 
 -- how many bodies all segments have at most
 abbrev pub place_limit : ℕ

@@ -1,13 +1,9 @@
 -- What recovery does to an image: homes are written, and then the gates are closed first to last.
 use Rattle.std.specs.Prelude.{◌≡◌, ◌⊎◌, ◌≤◌, ◌<◌, ℕ, true, false, List, Some}
-use Rattle.mg_disk.specs.Disk.{Image, SameBut, only_place}
-use Rattle.mg_model.specs.Layout.{segment_count, segment_gate}
-use Rattle.mg_model.specs.Abbreviations.{segments_fit}
-use Rattle.mg_model.specs.Replay.{is_open, replay, written}
-use Rattle.mg_journal.specs.Applied.{filled}
-use Rattle.mg_journal.specs.Contents.{InJournal, SameContents, names}
-use Rattle.mg_journal.specs.JournalLemmas.{open_writes}
-use Rattle.mg_journal.specs.Standing.{AllClosed}
+use Rattle.{mg_disk.specs.Disk.{Image, SameBut, only_place}, mg_journal.specs.{Applied.filled, Contents.InJournal}}
+use Rattle.mg_journal.specs.{Contents.{SameContents, names}, JournalLemmas.open_writes, Standing.AllClosed}
+use Rattle.mg_model.specs.{Abbreviations.segments_fit, Layout.{segment_count, segment_gate}, Replay.{is_open, replay}}
+use Rattle.mg_model.specs.Replay.{written}
 
 -- the journal can be replayed, and the bodies at these places, written to their homes in order, make the homes that open
 -- segments name what a replay makes them, and no other block

@@ -1,6 +1,5 @@
 -- Lemmas on results and options, which crates above cite too.
-use Rattle.std.specs.Prelude.{◌≡◌, Result, Ok, Err, Option, Some, None, IsSomeAnd, OnOk}
-use Rattle.std.proofs.Common.{refl}
+use Rattle.std.{proofs.Common.refl, specs.Prelude.{◌≡◌, Result, Ok, Err, Option, Some, None, IsSomeAnd, OnOk}}
 
 pub on_ok_both : {T E : Type 0} (P Q : Type 0) (r : Result T E) → OnOk r P → OnOk r Q → OnOk r (P × Q)
 on_ok_both P Q (Ok x) p q = (p, q)

@@ -1,13 +1,11 @@
 -- Lemmas on what a replay takes from each segment, in images that are alike there.
-use Rattle.std.specs.Prelude.{◌≡◌, ◌+◌, ◌*◌, ◌≤◌, ◌<◌, ◌==◌, ◌&&◌, nat_le, ℕ, zero, suc, true, false, [], ◌++◌, if◌then◌else◌, slice_index}
-use Rattle.std.proofs.Common.{refl, sym, ap, ◌∙◌, ⊎_elim, arith, append_assoc}
-use Rattle.std.proofs.lemmas.Bool.{and_from, and_left, and_parts, cases_Bool, cases_eq, leb-true}
-use Rattle.mg_disk.specs.Disk.{Image}
-use Rattle.mg_model.specs.Bytes.{number_at}
-use Rattle.mg_model.specs.Layout.{body_limit, gate_open, segment_body, segment_gate, segment_index}
-use Rattle.mg_model.specs.Abbreviations.{segments_fit, writes_from, writes_since}
-use Rattle.mg_model.specs.Replay.{block_of, body_count, home_of, homes_fit, is_open, segment_fits, writes_of}
-use Rattle.mg_journal.specs.Contents.{bodies_fit, bodies_of}
+use Rattle.std.proofs.{Common.{refl, sym, ap, ◌∙◌, ⊎_elim, arith, append_assoc}, lemmas.Bool.{and_from, and_left}}
+use Rattle.std.{proofs.lemmas.Bool.{and_parts, cases_Bool, cases_eq, leb-true}, specs.Prelude.{◌≡◌, ◌+◌, ◌*◌, ◌≤◌, ◌<◌}}
+use Rattle.std.specs.Prelude.{◌==◌, ◌&&◌, nat_le, ℕ, zero, suc, true, false, [], ◌++◌, if◌then◌else◌, slice_index}
+use Rattle.{mg_disk.specs.Disk.Image, mg_journal.specs.Contents.{bodies_fit, bodies_of}}
+use Rattle.mg_model.specs.{Abbreviations.{segments_fit, writes_from, writes_since}, Bytes.number_at, Layout.body_limit}
+use Rattle.mg_model.specs.{Layout.{gate_open, segment_body, segment_gate, segment_index}, Replay.{block_of, body_count}}
+use Rattle.mg_model.specs.Replay.{home_of, homes_fit, is_open, segment_fits, writes_of}
 
 -- a replay takes the same from segment s
 pub record IsAlike (total : ℕ) (a b : Image) (s : ℕ) : Type 0 where

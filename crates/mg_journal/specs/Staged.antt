@@ -1,10 +1,8 @@
 -- Writes that wait for a commit: pairs of a block and its bytes, no block twice.
-use Rattle.std.specs.Prelude.{◌≡◌, ◌==◌, ◌&&◌, ◌+◌, ◌*◌, ◌≤◌, ◌<◌, ℕ, Bool, true, not, List, [], ◌∷◌, ◌++◌, find, length, option_map, position, slice_index_or, slice_set, Option}
-use Rattle.std.specs.Option.{option_map_or}
-use Rattle.mg_disk.specs.Disk.{Image, block_at}
-use Rattle.mg_model.specs.Bytes.{number_at}
+use Rattle.std.specs.{Option.option_map_or, Prelude.{◌≡◌, ◌==◌, ◌&&◌, ◌+◌, ◌*◌, ◌≤◌, ◌<◌, ℕ, Bool, true, not, List, []}}
+use Rattle.std.specs.Prelude.{◌∷◌, ◌++◌, find, length, option_map, position, slice_index_or, slice_set, Option}
+use Rattle.{mg_disk.specs.Disk.{Image, block_at}, mg_journal.specs.Contents.names, mg_model.specs.Bytes.number_at}
 use Rattle.mg_model.specs.Layout.{body_limit}
-use Rattle.mg_journal.specs.Contents.{names}
 
 -- whether no two of these writes go to one block
 abbrev pub are_once : List (ℕ × List ℕ) → Bool

@@ -1,15 +1,10 @@
 -- When a store stands on a disk, and what a commit may leave.
-use Rattle.std.specs.Prelude.{◌≡◌, ◌≢◌, ◌⊎◌, ◌+◌, ◌≤◌, ◌<◌, if◌then◌else◌, nat_lt, ℕ, zero, suc, Bool, true, false, List, [], Some}
-use Rattle.std.specs.Option.{ForSome}
-use Rattle.mg_disk.specs.Disk.{Image, SameBut}
-use Rattle.mg_disk.specs.Stops.{NothingPending}
-use Rattle.mg_disk.specs.declared.disk.Disk.{Ghosts}
-use Rattle.mg_model.specs.Layout.{globals_block, segment_count}
-use Rattle.mg_model.specs.Replay.{is_open, replay, written}
-use Rattle.mg_journal.specs.Contents.{InJournal, NewContents, SameContents}
-use Rattle.mg_journal.specs.JournalLemmas.{open_writes, replay-some}
-use Rattle.mg_journal.specs.Held.{Store}
-use Rattle.mg_journal.specs.Looked.{Fits}
+use Rattle.std.specs.{Option.ForSome, Prelude.{◌≡◌, ◌≢◌, ◌⊎◌, ◌+◌, ◌≤◌, ◌<◌, if◌then◌else◌, nat_lt, ℕ, zero, suc, Bool}}
+use Rattle.std.specs.Prelude.{true, false, List, [], Some}
+use Rattle.mg_disk.specs.{Disk.{Image, SameBut}, Stops.NothingPending, declared.disk.Disk.Ghosts}
+use Rattle.mg_journal.specs.{Contents.{InJournal, NewContents, SameContents}, Held.Store, JournalLemmas.open_writes}
+use Rattle.{mg_journal.specs.{JournalLemmas.replay-some, Looked.Fits}, mg_model.specs.Layout.globals_block}
+use Rattle.mg_model.specs.{Layout.segment_count, Replay.{is_open, replay, written}}
 
 -- how many blocks the volume has
 abbrev pub total_of : Store → ℕ

@@ -1,11 +1,10 @@
 -- Lemmas on images after a list of writes.
-use Rattle.std.specs.Prelude.{◌≡◌, ◌≢◌, ◌==◌, ℕ, true, false, List, [], ◌∷◌, ◌++◌, length, slice_set}
-use Rattle.std.proofs.Common.{refl, sym, ap, ◌∙◌, ⊎_elim, arith}
-use Rattle.std.proofs.lemmas.Bool.{both_ways, cases_Bool, cases_eq, cases_lt, eq-eqb, ne_eqb, or_from, or_left, or_right}
-use Rattle.std.proofs.lemmas.List.{ext_get_or, get_or-set_other, get_or-set_same, get_or_past, length-set}
-use Rattle.mg_disk.specs.Disk.{Image, SameBut, block_at}
+use Rattle.std.proofs.{Common.{refl, sym, ap, ◌∙◌, ⊎_elim, arith}, lemmas.Bool.{both_ways, cases_Bool, cases_eq}}
+use Rattle.std.proofs.lemmas.{Bool.{cases_lt, eq-eqb, ne_eqb, or_from, or_left, or_right}, List.ext_get_or}
+use Rattle.std.{proofs.lemmas.List.{get_or-set_other, get_or-set_same, get_or_past, length-set}, specs.Prelude.◌≡◌}
+use Rattle.std.specs.Prelude.{◌≢◌, ◌==◌, ℕ, true, false, List, [], ◌∷◌, ◌++◌, length, slice_set}
+use Rattle.{mg_disk.specs.Disk.{Image, SameBut, block_at}, mg_journal.specs.Contents.names}
 use Rattle.mg_model.specs.Replay.{written}
-use Rattle.mg_journal.specs.Contents.{names}
 
 -- images that differ at no place are equal
 pub all_same : (P : ℕ → Type 0) (a b : Image) → SameBut P a b → ((k : ℕ) → P k → ⊥) → b ≡ a

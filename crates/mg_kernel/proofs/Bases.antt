@@ -1,13 +1,7 @@
 -- The rows that are held give the bases of the state's objects.
+use Rattle.{mg_access.specs.KnownLemmas.find-rows, mg_disk.specs.Disk.Image, mg_model.specs.{Access.based_at, State.{Object, ObjectRow}}}
+use Rattle.{mg_volume.specs.{Held.VolumeHeld, Meaning.{now_of, objects_in}, RunLemmas.told_rows}, std.proofs.Common.{refl, sym, ap, ◌∙◌}}
 use Rattle.std.specs.Prelude.{ℕ, ◌≡◌, ◌==◌, find, is_some, option_map, Option, Some, None}
-use Rattle.std.proofs.Common.{refl, sym, ap, ◌∙◌}
-use Rattle.mg_access.specs.KnownLemmas.{find-rows}
-use Rattle.mg_disk.specs.Disk.{Image}
-use Rattle.mg_model.specs.Access.{based_at}
-use Rattle.mg_model.specs.State.{Object, ObjectRow}
-use Rattle.mg_volume.specs.Held.{VolumeHeld}
-use Rattle.mg_volume.specs.Meaning.{now_of, objects_in}
-use Rattle.mg_volume.specs.RunLemmas.{told_rows}
 
 some_row : (o : Option Object) → is_some (option_map (λ (object : Object). object.row) o) ≡ is_some o
 some_row None = refl

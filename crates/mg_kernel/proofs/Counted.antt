@@ -1,25 +1,11 @@
 -- What lines keep and cost, by their calls.
-use Rattle.std.specs.Prelude.{ℕ, ◌≡◌, ◌≤◌, ◌+◌, ◌==◌, ◌&&◌, Bool, true, false, [], find, is_some, if◌then◌else◌, Some, None}
-use Rattle.std.proofs.Common.{arith, refl, sym, ap, subst, ◌∙◌}
-use Rattle.mg_disk.specs.Disk.{Image}
-use Rattle.mg_kernel.specs.Calls.{KeepsCall, call_limit}
-use Rattle.mg_model.specs.declared.calls.Call.{Call}
+use Rattle.{mg_disk.specs.Disk.Image, mg_kernel.specs.Calls.{KeepsCall, call_limit}, mg_model.specs.Accesses.{accesses, accesses_of, call_accesses}}
+use Rattle.mg_model.specs.{Accesses.{call_words, words_by, line_words}, Kept.{KeepsKeys, KeepsLine, line_limit, searches_limit}, Keys.Key}
+use Rattle.mg_model.specs.{Refused.Answer, State.{State, Thread}, Step.{of_thread, step_of}, Threads.is_thread, Turn.thread_call, Warmth.disturbs}
+use Rattle.mg_model.specs.{Warmth.is_ok, declared.{calls.{Call.Call, Line.Line}, replies.{Refusal.TheVariants.NoThread, Reply.TheVariants.No}}}
+use Rattle.{mg_volume.specs.{Held.VolumeHeld, Meaning.{now_of, threads_in}, RunLemmas.told_thread}, std.proofs.Common.{arith, refl, sym, ap, subst}}
+use Rattle.std.{proofs.Common.◌∙◌, specs.Prelude.{ℕ, ◌≡◌, ◌≤◌, ◌+◌, ◌==◌, ◌&&◌, Bool, true, false, [], find, is_some, if◌then◌else◌, Some, None}}
 use Rattle.mg_model.specs.declared.calls.Call.TheVariants as call
-use Rattle.mg_model.specs.declared.calls.Line.{Line}
-use Rattle.mg_model.specs.declared.replies.Refusal.TheVariants.{NoThread}
-use Rattle.mg_model.specs.declared.replies.Reply.TheVariants.{No}
-use Rattle.mg_model.specs.Accesses.{accesses, accesses_of, call_accesses, call_words, words_by, line_words}
-use Rattle.mg_model.specs.Kept.{KeepsKeys, KeepsLine, line_limit, searches_limit}
-use Rattle.mg_model.specs.Keys.{Key}
-use Rattle.mg_model.specs.Refused.{Answer}
-use Rattle.mg_model.specs.State.{State, Thread}
-use Rattle.mg_model.specs.Step.{of_thread, step_of}
-use Rattle.mg_model.specs.Threads.{is_thread}
-use Rattle.mg_model.specs.Turn.{thread_call}
-use Rattle.mg_model.specs.Warmth.{disturbs, is_ok}
-use Rattle.mg_volume.specs.Held.{VolumeHeld}
-use Rattle.mg_volume.specs.Meaning.{now_of, threads_in}
-use Rattle.mg_volume.specs.RunLemmas.{told_thread}
 
 -- no access keeps what is kept
 pub no-keys : (state : State) (kept kept' : Key → Bool) → ((key : Key) → kept' key ≡ kept key) → KeepsKeys state [] kept kept'

@@ -1,29 +1,13 @@
 -- Which thread has the next turn, and what the cursor leaves.
-use Rattle.std.specs.Prelude.{◌≡◌, ◌<◌, ◌==◌, ◌&&◌, ℕ, nat_lt, Bool, true, false, List, [], ◌∷◌, All, AllPairs, Option, Some, None, find, if◌then◌else◌, option_map}
-use Rattle.std.specs.Option.{option_map_or, option_or}
-use Rattle.std.proofs.Common.{arith, refl, sym, ap, subst, ◌∙◌}
-use Rattle.std.proofs.lemmas.Bool.{cond_both, eq-eqb, ne_eqb}
-use Rattle.std.proofs.lemmas.List.Elements.{All-head, All-tail}
-use Rattle.std.proofs.lemmas.Option.{same_Some}
-use Rattle.mg_disk.specs.Disk.{Image}
-use Rattle.mg_laws.specs.Backing.{BackingRestsOnDomain}
-use Rattle.mg_laws.specs.Laws.{RanNext, RunsNextReady}
-use Rattle.mg_laws.specs.Scripts.{RestsOnNoCursor, at_cursor}
-use Rattle.mg_model.specs.declared.threads.After.{After}
-use Rattle.mg_model.specs.declared.replies.Reply.TheVariants.{Ran}
-use Rattle.mg_model.specs.declared.seats.Seat.{Seat}
-use Rattle.mg_model.specs.Backed.{KeepsBacked, by_none}
-use Rattle.mg_model.specs.Access.{thread_of}
-use Rattle.mg_model.specs.Domains.{row_of}
-use Rattle.mg_model.specs.KeptListLemmas.{AllPairs-head, AllPairs-tail}
-use Rattle.mg_model.specs.State.{State, Thread, ThreadRow}
-use Rattle.mg_model.specs.Turn.{after_of, is_ready, next, picked, ready_above, run_next, thread_is_ready, turn_state}
-use Rattle.mg_model.specs.WellFormed.{IsWellFormed}
-use Rattle.mg_vcache.specs.Seats.{AllBacked}
-use Rattle.mg_vcache.specs.SeatLemmas.{backed_still}
-use Rattle.mg_volume.specs.Held.{VolumeHeld}
-use Rattle.mg_volume.specs.StateLemmas.{now_threads}
-use Rattle.mg_volume.specs.Meaning.{now_of, threads_in}
+use Rattle.{mg_disk.specs.Disk.Image, mg_laws.specs.{Backing.BackingRestsOnDomain, Laws.{RanNext, RunsNextReady}, Scripts.RestsOnNoCursor}}
+use Rattle.{mg_laws.specs.Scripts.at_cursor, mg_model.specs.{Access.thread_of, Backed.{KeepsBacked, by_none}, Domains.row_of}}
+use Rattle.mg_model.specs.{KeptListLemmas.{AllPairs-head, AllPairs-tail}, State.{State, Thread, ThreadRow}, Turn.{after_of, is_ready, next, picked}}
+use Rattle.mg_model.specs.{Turn.{ready_above, run_next, thread_is_ready, turn_state}, WellFormed.IsWellFormed, declared.replies.Reply.TheVariants.Ran}
+use Rattle.{mg_model.specs.declared.{seats.Seat.Seat, threads.After.After}, mg_vcache.specs.{SeatLemmas.backed_still, Seats.AllBacked}}
+use Rattle.{mg_volume.specs.{Held.VolumeHeld, Meaning.{now_of, threads_in}, StateLemmas.now_threads}, std.proofs.Common.{arith, refl, sym, ap, subst}}
+use Rattle.std.proofs.{Common.◌∙◌, lemmas.{Bool.{cond_both, eq-eqb, ne_eqb}, List.Elements.{All-head, All-tail}, Option.same_Some}}
+use Rattle.std.specs.{Option.{option_map_or, option_or}, Prelude.{◌≡◌, ◌<◌, ◌==◌, ◌&&◌, ℕ, nat_lt, Bool, true, false, List, [], ◌∷◌, All, AllPairs}}
+use Rattle.std.specs.Prelude.{Option, Some, None, find, if◌then◌else◌, option_map}
 
 -- the thread that is picked, by its number
 pub record Picks (state : State) (n : ℕ) : Type 0 where

@@ -1,30 +1,13 @@
 -- What a call that needs no right keeps and costs.
-use Rattle.std.specs.Prelude.{◌≡◌, ◌&&◌, ℕ, Bool, true, false, List, [], Option, Ok}
-use Rattle.std.specs.Option.{ForSome}
-use Rattle.std.proofs.Common.{refl, sym, ap, arith, subst, ◌∙◌}
-use Rattle.mg_access.specs.Served.{CallServes}
-use Rattle.mg_disk.specs.declared.disk.Disk.{Ghosts}
-use Rattle.mg_kernel.proofs.Counted.{no-keys}
-use Rattle.mg_kernel.specs.Calls.{KeepsCall, of_living}
-use Rattle.mg_kernel.specs.Unasked.{EndsUnasked, asks_nothing}
-use Rattle.mg_laws.specs.Backing.{CallsKeepBacked}
-use Rattle.mg_model.specs.declared.calls.Call.{Call}
+use Rattle.{mg_access.specs.Served.CallServes, mg_disk.specs.declared.disk.Disk.Ghosts, mg_kernel.{proofs.Counted.no-keys, specs.Calls.KeepsCall}}
+use Rattle.{mg_kernel.specs.{Calls.of_living, Unasked.{EndsUnasked, asks_nothing}}, mg_laws.specs.Backing.CallsKeepBacked}
+use Rattle.mg_model.specs.{Accesses.{call_accesses, call_words}, Backed.{KeepsBacked, by_thread, ended_by_call}, Kept.KeepsKeys, Refused.Answer}
+use Rattle.mg_model.specs.{Refused.IsRefusal, State.State, Turn.thread_call, Warmth.{disturbs, is_ok}, declared.calls.Call.Call}
+use Rattle.{mg_model.specs.declared.{replies.Reply.Reply, seats.Seat.Seat}, mg_vcache.specs.SeatLemmas.{drops_backed, drops_none, same_backed}}
+use Rattle.{mg_vcache.specs.Seats.{AllBacked, is_kept}, mg_volume.specs.{Calls.{Answers, CallStages, IsSoundOn}, Held.VolumeHeld, Meaning.now_of}}
+use Rattle.{mg_volume.specs.{Meaning.staged_in, RunLemmas.{serves_wider, stages_serve}}, std.proofs.Common.{refl, sym, ap, arith, subst, ◌∙◌}}
+use Rattle.std.specs.{Option.ForSome, Prelude.{◌≡◌, ◌&&◌, ℕ, Bool, true, false, List, [], Option, Ok}}
 use Rattle.mg_model.specs.declared.calls.Call.TheVariants as call
-use Rattle.mg_model.specs.declared.replies.Reply.{Reply}
-use Rattle.mg_model.specs.declared.seats.Seat.{Seat}
-use Rattle.mg_model.specs.Accesses.{call_accesses, call_words}
-use Rattle.mg_model.specs.Backed.{KeepsBacked, by_thread, ended_by_call}
-use Rattle.mg_model.specs.Kept.{KeepsKeys}
-use Rattle.mg_model.specs.Refused.{Answer, IsRefusal}
-use Rattle.mg_model.specs.State.{State}
-use Rattle.mg_model.specs.Turn.{thread_call}
-use Rattle.mg_model.specs.Warmth.{disturbs, is_ok}
-use Rattle.mg_vcache.specs.Seats.{AllBacked, is_kept}
-use Rattle.mg_vcache.specs.SeatLemmas.{drops_backed, drops_none, same_backed}
-use Rattle.mg_volume.specs.Calls.{Answers, CallStages, IsSoundOn}
-use Rattle.mg_volume.specs.Held.{VolumeHeld}
-use Rattle.mg_volume.specs.Meaning.{now_of, staged_in}
-use Rattle.mg_volume.specs.RunLemmas.{serves_wider, stages_serve}
 
 -- it makes no access, and has no word
 pub record IsStill (state : State) (t : ℕ) (made : Call) : Type 0 where

@@ -1,25 +1,11 @@
 -- What a call with the disk keeps, said of another row.
-use Rattle.std.specs.Prelude.{ℕ, ◌≡◌, ◌≤◌, Bool, true, false, List, if◌then◌else◌, Option, Some, Result, Ok, Err}
-use Rattle.std.proofs.Common.{refl, sym, ap, ◌∙◌}
-use Rattle.mg_access.specs.Served.{CallRow, CallServes, of_call, of_line}
-use Rattle.mg_calls_obj.specs.Door.{is_on_object}
-use Rattle.mg_disk.specs.Disk.{Image}
-use Rattle.mg_disk.specs.declared.disk.Disk.{Ghosts}
-use Rattle.mg_kernel.proofs.Counted.{IsOfThread, call-line, limit-call, limit-line, line-call, of-thread}
-use Rattle.mg_kernel.specs.Calls.{of_living}
-use Rattle.mg_model.specs.declared.calls.Call.{Call}
+use Rattle.{mg_access.specs.Served.{CallRow, CallServes, of_call, of_line}, mg_calls_obj.specs.Door.is_on_object, mg_disk.specs.Disk.Image}
+use Rattle.{mg_disk.specs.declared.disk.Disk.Ghosts, mg_kernel.proofs.Counted.{IsOfThread, call-line, limit-call, limit-line, line-call, of-thread}}
+use Rattle.{mg_kernel.specs.Calls.of_living, mg_model.specs.{Keys.Key, State.State, Threads.is_thread, Turn.thread_call, declared.calls.Call.Call}}
+use Rattle.mg_model.specs.declared.{replies.{Refusal.TheVariants.NoThread, Reply.{Reply, TheVariants.No}}, seats.Seat.Seat}
+use Rattle.{mg_volume.specs.{Held.VolumeHeld, Meaning.now_of, RunLemmas.serves_wider}, std.{proofs.Common.{refl, sym, ap, ◌∙◌}, specs.Prelude.ℕ}}
+use Rattle.std.specs.Prelude.{◌≡◌, ◌≤◌, Bool, true, false, List, if◌then◌else◌, Option, Some, Result, Ok, Err}
 use Rattle.mg_model.specs.declared.calls.Call.TheVariants as call
-use Rattle.mg_model.specs.declared.replies.Refusal.TheVariants.{NoThread}
-use Rattle.mg_model.specs.declared.replies.Reply.{Reply}
-use Rattle.mg_model.specs.declared.replies.Reply.TheVariants.{No}
-use Rattle.mg_model.specs.declared.seats.Seat.{Seat}
-use Rattle.mg_model.specs.Keys.{Key}
-use Rattle.mg_model.specs.State.{State}
-use Rattle.mg_model.specs.Threads.{is_thread}
-use Rattle.mg_model.specs.Turn.{thread_call}
-use Rattle.mg_volume.specs.Held.{VolumeHeld}
-use Rattle.mg_volume.specs.Meaning.{now_of}
-use Rattle.mg_volume.specs.RunLemmas.{serves_wider}
 
 -- in this state the second row says no more than the first
 pub record IsSaidBy (state : State) (first second : CallRow) : Type 0 where

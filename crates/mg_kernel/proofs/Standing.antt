@@ -1,24 +1,11 @@
 -- How a kernel stands on a disk, from what is known of its volume.
-use Rattle.std.specs.Prelude.{◌≡◌, true, List, Option, Result, Ok, Err, IfOk, OnErr}
-use Rattle.std.specs.Option.{ForSome}
-use Rattle.std.proofs.Common.{sym, ap, subst, ◌∙◌}
-use Rattle.mg_disk.specs.BecomesLemmas.{becomes-of}
-use Rattle.mg_disk.specs.Disk.{AreBytes, Image}
-use Rattle.mg_disk.specs.Stops.{Becomes, WritesNothing}
-use Rattle.mg_disk.specs.declared.disk.Disk.{Ghosts}
-use Rattle.mg_kernel.specs.Meaning.{IsSpelledBy, StandsOn, now_of, seats_in, total_of}
-use Rattle.mg_kernel.specs.declared.kernel.Kernel.{Kernel}
-use Rattle.mg_model.specs.declared.calls.Line.{Line}
-use Rattle.mg_model.specs.declared.replies.Reply.{Reply}
-use Rattle.mg_model.specs.declared.seats.Seat.{Seat}
-use Rattle.mg_model.specs.Refused.{Answer}
-use Rattle.mg_model.specs.Step.{step}
-use Rattle.mg_model.specs.WellFormed.{IsInRange, IsWellFormed, KeepsWellFormed}
-use Rattle.mg_volume.specs.Calls.{IsSoundOn}
-use Rattle.mg_volume.specs.Held.{VolumeHeld}
+use Rattle.mg_disk.specs.{BecomesLemmas.becomes-of, Disk.{AreBytes, Image}, Stops.{Becomes, WritesNothing}, declared.disk.Disk.Ghosts}
+use Rattle.mg_kernel.specs.{Meaning.{IsSpelledBy, StandsOn, now_of, seats_in, total_of}, declared.kernel.Kernel.Kernel}
+use Rattle.mg_model.specs.{Refused.Answer, Step.step, WellFormed.{IsInRange, IsWellFormed, KeepsWellFormed}, declared.calls.Line.Line}
+use Rattle.{mg_model.specs.declared.{replies.Reply.Reply, seats.Seat.Seat}, mg_vcache.specs.Seats.AllBacked, mg_volume.specs.Calls.IsSoundOn}
+use Rattle.{mg_volume.specs.{Held.VolumeHeld, Opening.IsSaved}, std.{proofs.Common.{sym, ap, subst, ◌∙◌}, specs.{Option.ForSome, Prelude.◌≡◌}}}
+use Rattle.std.specs.Prelude.{true, List, Option, Result, Ok, Err, IfOk, OnErr}
 use Rattle.mg_volume.specs.Meaning as held
-use Rattle.mg_volume.specs.Opening.{IsSaved}
-use Rattle.mg_vcache.specs.Seats.{AllBacked}
 
 -- what `Volume::is_formed` says
 abbrev pub IsFormedBy : VolumeHeld → Type 0

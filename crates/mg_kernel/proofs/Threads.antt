@@ -1,21 +1,10 @@
 -- Which thread makes a call.
-use Rattle.std.specs.Prelude.{◌≡◌, ◌==◌, ◌||◌, ℕ, true, List, [], ◌∷◌, Option, Some, None, find, is_some, if◌then◌else◌}
-use Rattle.std.specs.List.{list_any}
-use Rattle.std.proofs.Common.{refl, ap, ◌∙◌}
-use Rattle.std.proofs.lemmas.Bool.{cond_both}
-use Rattle.mg_disk.specs.Disk.{Image}
-use Rattle.mg_model.specs.declared.calls.Call.{Call}
+use Rattle.{mg_disk.specs.Disk.Image, mg_model.specs.{Refused.Answer, State.{State, Thread}, Step.{of_thread, step_of}, Turn.thread_call}}
+use Rattle.{mg_model.specs.declared.{calls.Call.Call, replies.{Refusal.TheVariants.NoThread, Reply.TheVariants.No}}, mg_volume.specs.Held.VolumeHeld}
+use Rattle.{mg_volume.specs.{Meaning.{now_of, threads_in}, RunLemmas.told_thread, Staging.lives as lives_held}, std.proofs.Common.{refl, ap, ◌∙◌}}
+use Rattle.std.{proofs.lemmas.Bool.cond_both, specs.{List.list_any, Prelude.{◌≡◌, ◌==◌, ◌||◌, ℕ, true, List, [], ◌∷◌, Option, Some, None, find}}}
+use Rattle.std.specs.Prelude.{is_some, if◌then◌else◌}
 use Rattle.mg_model.specs.declared.calls.Call.TheVariants as call
-use Rattle.mg_model.specs.declared.replies.Refusal.TheVariants.{NoThread}
-use Rattle.mg_model.specs.declared.replies.Reply.TheVariants.{No}
-use Rattle.mg_model.specs.Refused.{Answer}
-use Rattle.mg_model.specs.State.{State, Thread}
-use Rattle.mg_model.specs.Step.{of_thread, step_of}
-use Rattle.mg_model.specs.Turn.{thread_call}
-use Rattle.mg_volume.specs.Held.{VolumeHeld}
-use Rattle.mg_volume.specs.Meaning.{now_of, threads_in}
-use Rattle.mg_volume.specs.RunLemmas.{told_thread}
-use Rattle.mg_volume.specs.Staging.{lives as lives_held}
 
 module _ (v : VolumeHeld) (image : Image) (t : ℕ) (answer : Answer) where
   by_found : (found : Option Thread) → find (λ (thread : Thread). thread.number == t) (threads_in v) ≡ found

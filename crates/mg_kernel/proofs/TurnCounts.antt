@@ -1,31 +1,16 @@
 -- What turns keep and cost, by their fetch and their call, and what the lines that need a turn keep.
-use Rattle.std.specs.Prelude.{ℕ, ◌≡◌, ◌≤◌, ◌+◌, ◌*◌, ◌==◌, ◌&&◌, Bool, true, false, not, List, [], ◌∷◌, find, is_some, if◌then◌else◌, Option, Some, None}
-use Rattle.std.specs.Option.{option_map_or}
-use Rattle.std.proofs.Common.{arith, refl, sym, ap, subst, ◌∙◌}
-use Rattle.std.proofs.lemmas.Bool.{and_parts, cond_both, eqb-true, false≢true}
-use Rattle.mg_calls_dom.specs.Fetching.{Fetches, fetch_limit}
-use Rattle.mg_kernel.proofs.Counted.{still-line}
-use Rattle.mg_kernel.specs.Calls.{KeepsCall, KeepsTurn, call_limit, turn_limit}
-use Rattle.mg_laws.specs.Costs.{LimitGoesOn, RulesGoOn}
+use Rattle.{mg_calls_dom.specs.Fetching.{Fetches, fetch_limit}, mg_kernel.{proofs.Counted.still-line, specs.Calls.{KeepsCall, KeepsTurn, call_limit}}}
+use Rattle.{mg_kernel.specs.Calls.turn_limit, mg_laws.specs.Costs.{LimitGoesOn, RulesGoOn}, mg_model.specs.Abbreviations.is_allowed}
+use Rattle.mg_model.specs.{Access.thread_of, Accesses.{Access, accesses, call_accesses, call_words, turn_accesses, turn_words, turning, line_words}}
+use Rattle.mg_model.specs.{Domains.row_of, Kept.{KeepsKeys, KeepsLine, access_limit, is_known, is_served, line_limit, searches_limit}, Keys.Key}
+use Rattle.mg_model.specs.{Keys.{has_seat, key_of}, Limits.search_limit, Refused.checked, State.{State, Thread, ThreadRow}, Step.{of_thread, step}}
+use Rattle.mg_model.specs.{Turn.{after_of, picked, run_next, thread_is_ready, turn, turn_state}, Warmth.{disturbs, is_calm_turn, is_disturbing}}
+use Rattle.mg_model.specs.{Warmth.is_ok, declared.{calls.Line.Line, replies.{Refusal.TheVariants.{NoThread, NotReady}, Reply.TheVariants.No}}}
+use Rattle.{mg_model.specs.declared.{replies.Reply.TheVariants.Turned, rights.Right.TheVariants.X}, mg_script.specs.TurnCosts.IsSearchedAsCall}
+use Rattle.{mg_script.specs.Turns.turn_call, std.proofs.{Common.{arith, refl, sym, ap, subst, ◌∙◌}, lemmas.Bool.{and_parts, cond_both, eqb-true}}}
+use Rattle.std.{proofs.lemmas.Bool.false≢true, specs.{Option.option_map_or, Prelude.{ℕ, ◌≡◌, ◌≤◌, ◌+◌, ◌*◌, ◌==◌, ◌&&◌, Bool, true, false, not}}}
+use Rattle.std.specs.Prelude.{List, [], ◌∷◌, find, is_some, if◌then◌else◌, Option, Some, None}
 use Rattle.mg_model.specs.declared.calls.Call.TheVariants as call
-use Rattle.mg_model.specs.declared.calls.Line.{Line}
-use Rattle.mg_model.specs.declared.replies.Refusal.TheVariants.{NoThread, NotReady}
-use Rattle.mg_model.specs.declared.replies.Reply.TheVariants.{No, Turned}
-use Rattle.mg_model.specs.declared.rights.Right.TheVariants.{X}
-use Rattle.mg_model.specs.Abbreviations.{is_allowed}
-use Rattle.mg_model.specs.Access.{thread_of}
-use Rattle.mg_model.specs.Accesses.{Access, accesses, call_accesses, call_words, turn_accesses, turn_words, turning, line_words}
-use Rattle.mg_model.specs.Domains.{row_of}
-use Rattle.mg_model.specs.Kept.{KeepsKeys, KeepsLine, access_limit, is_known, is_served, line_limit, searches_limit}
-use Rattle.mg_model.specs.Keys.{Key, has_seat, key_of}
-use Rattle.mg_model.specs.Limits.{search_limit}
-use Rattle.mg_model.specs.Refused.{checked}
-use Rattle.mg_model.specs.State.{State, Thread, ThreadRow}
-use Rattle.mg_model.specs.Step.{of_thread, step}
-use Rattle.mg_model.specs.Turn.{after_of, picked, run_next, thread_is_ready, turn, turn_state}
-use Rattle.mg_model.specs.Warmth.{disturbs, is_calm_turn, is_disturbing, is_ok}
-use Rattle.mg_script.specs.TurnCosts.{IsSearchedAsCall}
-use Rattle.mg_script.specs.Turns.{turn_call}
 
 -- A fetch and a call
 

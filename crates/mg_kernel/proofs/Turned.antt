@@ -1,44 +1,18 @@
 -- A thread's turn: a fetch, a call, and then another row for the thread.
-use Rattle.std.specs.Prelude.{◌≡◌, ◌+◌, ◌==◌, ◌||◌, ℕ, not, Bool, true, false, List, [], ◌∷◌, Option, Some, None, find, if◌then◌else◌, is_some, map, option_map, IfSome}
-use Rattle.std.specs.List.{list_any}
-use Rattle.std.specs.Option.{option_map_or}
-use Rattle.std.proofs.Common.{arith, refl, sym, ap, subst, ◌∙◌}
-use Rattle.std.proofs.lemmas.Option.{same_Some}
-use Rattle.mg_access.specs.ReachedLemmas.{same_threads}
-use Rattle.mg_disk.specs.Disk.{Image}
-use Rattle.mg_disk.specs.declared.disk.Disk.{Ghosts}
-use Rattle.mg_kernel.proofs.Threads.{found-lives}
-use Rattle.mg_kernel.specs.Calls.{IsRowOf}
-use Rattle.mg_model.specs.declared.calls.Call.{Call}
-use Rattle.mg_model.specs.declared.threads.After.{After}
+use Rattle.{mg_access.specs.ReachedLemmas.same_threads, mg_disk.specs.{Disk.Image, declared.disk.Disk.Ghosts}, mg_kernel.proofs.Threads.found-lives}
+use Rattle.{mg_kernel.specs.Calls.IsRowOf, mg_model.specs.{Abbreviations.{advanced, unless_refused}, Backed.{KeepsBacked, by_none}}}
+use Rattle.mg_model.specs.{Counts.CountsAlike, Domains.{row_of, with_thread}, Refused.{Answer, first_refusal}, State.{State, Thread, ThreadRow}}
+use Rattle.mg_model.specs.{Step.of_thread, Threads.is_thread, Turn.{after_of, as_after, is_ready, thread_call, thread_is_ready, turn, turn_state}}
+use Rattle.mg_model.specs.{WellFormed.IsWellFormed, declared.{calls.Call.Call, replies.{Refusal.TheVariants.{NoThread, NotReady}, Reply.Reply}}}
+use Rattle.mg_model.specs.declared.{replies.Reply.TheVariants.{No, Turned}, seats.Seat.Seat, threads.{After.After, ThrState.ThrState}}
+use Rattle.{mg_model.specs.declared.threads.ThrState.TheVariants.{Faulted, Ready, Stopped}, mg_script.specs.Effects.{HasFrames, IsSpelledBy, begun}}
+use Rattle.mg_script.specs.{Effects.{finished, made_by, resumed, turned_on}, Turns.{IsAsked, TurnsAreCalls, TurnsRowsKeepBacked, fetched_word}}
+use Rattle.{mg_script.specs.{Turns.turn_call, declared.effects.Effect.Effect}, mg_vcache.specs.{SeatLemmas.backed_still, Seats.AllBacked}}
+use Rattle.mg_volume.specs.{Calls.{Serves, Stages}, Held.VolumeHeld, Meaning.{Keeps, now_of, threads_in, words_in}, RunLemmas.still_then}
+use Rattle.{mg_volume.specs.{RunLemmas.told_thread, Staging.lives as lives_held, StateLemmas.staged_stands}, std.proofs.Common.{arith, refl, sym, ap}}
+use Rattle.std.{proofs.{Common.{subst, ◌∙◌}, lemmas.Option.same_Some}, specs.{List.list_any, Option.option_map_or, Prelude.{◌≡◌, ◌+◌, ◌==◌, ◌||◌, ℕ}}}
+use Rattle.std.specs.Prelude.{not, Bool, true, false, List, [], ◌∷◌, Option, Some, None, find, if◌then◌else◌, is_some, map, option_map, IfSome}
 use Rattle.mg_model.specs.declared.threads.After.TheVariants as after_turn
-use Rattle.mg_model.specs.declared.replies.Refusal.TheVariants.{NoThread, NotReady}
-use Rattle.mg_model.specs.declared.replies.Reply.{Reply}
-use Rattle.mg_model.specs.declared.replies.Reply.TheVariants.{No, Turned}
-use Rattle.mg_model.specs.declared.seats.Seat.{Seat}
-use Rattle.mg_model.specs.declared.threads.ThrState.{ThrState}
-use Rattle.mg_model.specs.declared.threads.ThrState.TheVariants.{Faulted, Ready, Stopped}
-use Rattle.mg_model.specs.Abbreviations.{advanced, unless_refused}
-use Rattle.mg_model.specs.Backed.{KeepsBacked, by_none}
-use Rattle.mg_model.specs.Counts.{CountsAlike}
-use Rattle.mg_model.specs.Domains.{row_of, with_thread}
-use Rattle.mg_model.specs.Refused.{Answer, first_refusal}
-use Rattle.mg_model.specs.State.{State, Thread, ThreadRow}
-use Rattle.mg_model.specs.Step.{of_thread}
-use Rattle.mg_model.specs.Threads.{is_thread}
-use Rattle.mg_model.specs.Turn.{after_of, as_after, is_ready, thread_call, thread_is_ready, turn, turn_state}
-use Rattle.mg_model.specs.WellFormed.{IsWellFormed}
-use Rattle.mg_script.specs.declared.effects.Effect.{Effect}
-use Rattle.mg_script.specs.Effects.{HasFrames, IsSpelledBy, begun, finished, made_by, resumed, turned_on}
-use Rattle.mg_script.specs.Turns.{IsAsked, TurnsAreCalls, TurnsRowsKeepBacked, fetched_word, turn_call}
-use Rattle.mg_vcache.specs.Seats.{AllBacked}
-use Rattle.mg_vcache.specs.SeatLemmas.{backed_still}
-use Rattle.mg_volume.specs.Calls.{Serves, Stages}
-use Rattle.mg_volume.specs.Held.{VolumeHeld}
-use Rattle.mg_volume.specs.StateLemmas.{staged_stands}
-use Rattle.mg_volume.specs.Meaning.{Keeps, now_of, threads_in, words_in}
-use Rattle.mg_volume.specs.RunLemmas.{still_then, told_thread}
-use Rattle.mg_volume.specs.Staging.{lives as lives_held}
 
 -- a thread by its row
 pub record HasRow (o : Option Thread) (row : ThreadRow) : Type 0 where

@@ -1,26 +1,14 @@
 -- What a call of a thread keeps and costs, be it made by a line or by a script, and what a turn does.
-use Rattle.std.specs.Prelude.{ℕ, ◌≡◌, ◌≤◌, ◌+◌, ◌==◌, ◌&&◌, find, option_map, Bool, true, false, List, Option, Some, Result, IfOk, OnErr, OnOk}
-use Rattle.std.specs.Option.{ForSome}
-use Rattle.mg_access.specs.Served.{CallRow}
-use Rattle.mg_disk.specs.Stops.{CountRose}
-use Rattle.mg_disk.specs.declared.disk.Disk.{Ghosts}
-use Rattle.mg_model.specs.Abbreviations.{advanced}
-use Rattle.mg_model.specs.declared.calls.Call.{Call}
-use Rattle.mg_model.specs.declared.threads.After.{After}
-use Rattle.mg_model.specs.declared.seats.Seat.{Seat}
-use Rattle.mg_model.specs.Accesses.{call_accesses, call_words, turn_accesses, turn_words}
-use Rattle.mg_model.specs.Kept.{KeepsKeys, searches_limit}
-use Rattle.mg_model.specs.Keys.{Key}
-use Rattle.mg_model.specs.State.{State, Thread, ThreadRow}
-use Rattle.mg_model.specs.Threads.{is_thread}
-use Rattle.mg_model.specs.Turn.{after_of, thread_call, turn_state}
-use Rattle.mg_model.specs.Warmth.{disturbs, is_calm_turn, is_ok}
-use Rattle.mg_script.specs.declared.effects.Effect.{Effect}
-use Rattle.mg_script.specs.Effects.{HasFrames, begun, finished, made_by, turned_on}
-use Rattle.mg_vcache.specs.Seats.{AllBacked, is_kept}
-use Rattle.mg_volume.specs.Calls.{Serves}
-use Rattle.mg_volume.specs.Held.{VolumeHeld}
-use Rattle.mg_volume.specs.Meaning.{Keeps, now_of, threads_in}
+use Rattle.std.specs.{Option.ForSome, Prelude.{ℕ, ◌≡◌, ◌≤◌, ◌+◌, ◌==◌, ◌&&◌, find, option_map, Bool, true, false, List}}
+use Rattle.std.specs.Prelude.{Option, Some, Result, IfOk, OnErr, OnOk}
+use Rattle.{mg_access.specs.Served.CallRow, mg_disk.specs.{Stops.CountRose, declared.disk.Disk.Ghosts}}
+use Rattle.mg_model.specs.{Abbreviations.advanced, Accesses.{call_accesses, call_words, turn_accesses, turn_words}}
+use Rattle.mg_model.specs.{Kept.{KeepsKeys, searches_limit}, Keys.Key, State.{State, Thread, ThreadRow}}
+use Rattle.mg_model.specs.{Threads.is_thread, Turn.{after_of, thread_call, turn_state}, Warmth.{disturbs, is_calm_turn}}
+use Rattle.mg_model.specs.{Warmth.is_ok, declared.{calls.Call.Call, seats.Seat.Seat, threads.After.After}}
+use Rattle.mg_script.specs.{Effects.{HasFrames, begun, finished, made_by, turned_on}, declared.effects.Effect.Effect}
+use Rattle.{mg_vcache.specs.Seats.{AllBacked, is_kept}, mg_volume.specs.{Calls.Serves, Held.VolumeHeld, Meaning.Keeps}}
+use Rattle.mg_volume.specs.Meaning.{now_of, threads_in}
 
 -- the most that it adds to the counter of words
 abbrev pub call_limit : (Key → Bool) → State → ℕ → Call → ℕ

@@ -1,19 +1,9 @@
 -- What a kernel is, as functions of the value and an image. The layers above see these words by their names.
-use Rattle.std.specs.Prelude.{◌≡◌, ◌≤◌, ℕ, Bool, List, Option}
-use Rattle.std.specs.Option.{ForSome}
-use Rattle.std.proofs.Common.{ap}
-use Rattle.mg_access.specs.Known.{rows_know}
-use Rattle.mg_disk.specs.Disk.{Image}
-use Rattle.mg_disk.specs.Stops.{NothingPending}
-use Rattle.mg_disk.specs.declared.disk.Disk.{Ghosts}
-use Rattle.mg_kernel.specs.declared.kernel.Kernel.{Kernel}
-use Rattle.mg_model.specs.declared.rights.Right.{Right}
-use Rattle.mg_model.specs.declared.seats.Seat.{Seat}
-use Rattle.mg_model.specs.Keys.{Key}
-use Rattle.mg_model.specs.State.{State}
-use Rattle.mg_model.specs.Volume.{Is, volume}
-use Rattle.mg_model.specs.WellFormed.{IsWellFormed}
-use Rattle.mg_vcache.specs.Seats.{AllBacked, is_kept}
+use Rattle.std.{proofs.Common.ap, specs.{Option.ForSome, Prelude.{◌≡◌, ◌≤◌, ℕ, Bool, List, Option}}}
+use Rattle.{mg_access.specs.Known.rows_know, mg_disk.specs.{Disk.Image, Stops.NothingPending}}
+use Rattle.{mg_disk.specs.declared.disk.Disk.Ghosts, mg_kernel.specs.declared.kernel.Kernel.Kernel}
+use Rattle.mg_model.specs.{Keys.Key, State.State, Volume.{Is, volume}, WellFormed.IsWellFormed}
+use Rattle.{mg_model.specs.declared.{rights.Right.Right, seats.Seat.Seat}, mg_vcache.specs.Seats.{AllBacked, is_kept}}
 use Rattle.mg_volume.specs.StateLemmas as laws
 use Rattle.mg_volume.specs.Meaning as held
 

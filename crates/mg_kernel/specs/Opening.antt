@@ -1,14 +1,8 @@
 -- What an opening and a commit give.
-use Rattle.std.specs.Prelude.{◌≡◌, ◌⊎◌, IsTrue, None, OnOk, Option, Result, Some, replicate}
-use Rattle.std.specs.Option.{ForSome}
-use Rattle.mg_disk.specs.Disk.{Image}
-use Rattle.mg_disk.specs.Stops.{Leaves}
-use Rattle.mg_disk.specs.declared.disk.Disk.{Ghosts}
-use Rattle.mg_kernel.specs.declared.kernel.Kernel.{Kernel}
-use Rattle.mg_kernel.specs.Meaning.{StandsOn, is_live, now_of, seats_in, staged_of}
-use Rattle.mg_model.specs.Limits.{seat_count}
-use Rattle.mg_model.specs.State.{State}
-use Rattle.mg_model.specs.Volume.{Is, VolumeRead, volume}
+use Rattle.std.specs.{Option.ForSome, Prelude.{◌≡◌, ◌⊎◌, IsTrue, None, OnOk, Option, Result, Some, replicate}}
+use Rattle.{mg_disk.specs.{Disk.Image, Stops.Leaves, declared.disk.Disk.Ghosts}, mg_kernel.specs.Meaning.StandsOn}
+use Rattle.mg_kernel.specs.{Meaning.{is_live, now_of, seats_in, staged_of}, declared.kernel.Kernel.Kernel}
+use Rattle.mg_model.specs.{Limits.seat_count, State.State, Volume.{Is, VolumeRead, volume}}
 pub use Rattle.mg_volume.specs.Opening.{Refuses}
 
 -- reads give an image that spells this state, and it is the kernel's

@@ -1,18 +1,10 @@
 -- What the calls of a kernel keep, one fact a field.
-use Rattle.std.specs.Prelude.{ℕ, ◌≡◌, ◌≤◌, ◌+◌, ◌-◌, true, Option, None, Result, IfOk, OnErr, OnOk}
-use Rattle.std.specs.Option.{ForSome}
-use Rattle.mg_disk.specs.Stops.{WritesNothing}
-use Rattle.mg_disk.specs.declared.disk.Disk.{Ghosts}
-use Rattle.mg_kernel.specs.declared.kernel.Kernel.{Kernel}
-use Rattle.mg_kernel.specs.Meaning.{StandsOn, is_live, keeps_key, knows, now_of, seats_in, staged_in, words_in}
-use Rattle.mg_model.specs.declared.calls.Line.{Line}
-use Rattle.mg_model.specs.declared.replies.Reply.{Reply}
-use Rattle.mg_model.specs.Accesses.{Access}
-use Rattle.mg_model.specs.Counts.{CountsAlike}
-use Rattle.mg_model.specs.FewSlots.{HasFewSlots}
-use Rattle.mg_model.specs.Kept.{KeepsLine, Validates, access_limit, line_limit}
-use Rattle.mg_model.specs.Refused.{IsRefusal}
-use Rattle.mg_model.specs.Step.{step}
+use Rattle.std.specs.{Option.ForSome, Prelude.{ℕ, ◌≡◌, ◌≤◌, ◌+◌, ◌-◌, true, Option, None, Result, IfOk, OnErr, OnOk}}
+use Rattle.{mg_disk.specs.{Stops.WritesNothing, declared.disk.Disk.Ghosts}, mg_kernel.specs.Meaning.{StandsOn, is_live}}
+use Rattle.mg_kernel.specs.Meaning.{keeps_key, knows, now_of, seats_in, staged_in, words_in}
+use Rattle.{mg_kernel.specs.declared.kernel.Kernel.Kernel, mg_model.specs.{Accesses.Access, Counts.CountsAlike}}
+use Rattle.mg_model.specs.{FewSlots.HasFewSlots, Kept.{KeepsLine, Validates, access_limit, line_limit}}
+use Rattle.mg_model.specs.{Refused.IsRefusal, Step.step, declared.{calls.Line.Line, replies.Reply.Reply}}
 
 -- Whatever comes of a call: nothing was written, and the kernel serves on.
 pub record Serves {D : Type 0} (facts : Ghosts D) (k k' : Kernel) (disk disk' : D) (steps steps' : ℕ) : Type 0 where

@@ -1,22 +1,13 @@
 -- What a line adds to a session: the keys that are kept after it, and what it cost.
-use Rattle.std.specs.Prelude.{ℕ, ◌≡◌, ◌≤◌, ◌+◌, Bool, List, [], ◌∷◌, ◌++◌, Option}
-use Rattle.std.proofs.Common.{refl, sym, ap, ◌∙◌, arith, subst}
-use Rattle.mg_disk.specs.Disk.{Image}
-use Rattle.mg_kernel.specs.declared.kernel.Kernel.{Kernel}
-use Rattle.mg_kernel.specs.Meaning.{keeps_key, now_of, same_keys, seats_in}
-use Rattle.mg_kernel.specs.Opening.{Holds}
-use Rattle.mg_laws.specs.Costs.{CostsGoOn, EventsGoOn, LimitsWithinCost, StaysWarm}
-use Rattle.mg_model.specs.declared.calls.Line.{Line}
-use Rattle.mg_model.specs.declared.replies.Reply.{Reply}
-use Rattle.mg_model.specs.Keys.{Key}
-use Rattle.mg_model.specs.Kept.{KeepsLine, KeepsWarm, line_limit}
-use Rattle.mg_model.specs.Print.{replies_text, reply_line}
-use Rattle.mg_model.specs.Refused.{Answer}
-use Rattle.mg_model.specs.State.{State}
-use Rattle.mg_model.specs.Step.{after, step}
-use Rattle.mg_model.specs.Warmth.{Event, cost, events, line_cost}
-use Rattle.mg_serve.specs.Machines.{AnswersLine, Commits}
-use Rattle.mg_kernel.specs.Stepping.{IsSpent, IsStepped}
+use Rattle.std.{proofs.Common.{refl, sym, ap, ◌∙◌, arith, subst}, specs.Prelude.{ℕ, ◌≡◌, ◌≤◌, ◌+◌, Bool, List, [], ◌∷◌}}
+use Rattle.std.specs.Prelude.{◌++◌, Option}
+use Rattle.{mg_disk.specs.Disk.Image, mg_kernel.specs.{Meaning.{keeps_key, now_of, same_keys, seats_in}, Opening.Holds}}
+use Rattle.mg_kernel.specs.{Stepping.{IsSpent, IsStepped}, declared.kernel.Kernel.Kernel}
+use Rattle.{mg_laws.specs.Costs.{CostsGoOn, EventsGoOn, LimitsWithinCost, StaysWarm}, mg_model.specs.Kept.KeepsLine}
+use Rattle.mg_model.specs.{Kept.{KeepsWarm, line_limit}, Keys.Key, Print.{replies_text, reply_line}, Refused.Answer}
+use Rattle.mg_model.specs.{State.State, Step.{after, step}, Warmth.{Event, cost, events, line_cost}}
+use Rattle.{mg_model.specs.declared.{calls.Line.Line, replies.Reply.Reply}, mg_serve.specs.Machines.AnswersLine}
+use Rattle.mg_serve.specs.Machines.{Commits}
 
 -- what the laws say of a line more
 pub record GoesOn : Type 0 where

@@ -1,12 +1,9 @@
 -- Calls of a thread that need no right: those of the bank, those on the thread's own frames, those that end or resume a
 -- thread, and `create`.
 use Rattle.std.specs.Prelude.{◌≡◌, ℕ, Bool, true, false, List, Option}
-use Rattle.mg_model.specs.declared.calls.Call.{Call}
-use Rattle.mg_model.specs.declared.calls.Call.TheVariants as call
-use Rattle.mg_model.specs.declared.replies.Reply.{Reply}
-use Rattle.mg_model.specs.declared.seats.Seat.{Seat}
-use Rattle.mg_model.specs.Backed.{by_thread}
+use Rattle.mg_model.specs.{Backed.by_thread, declared.{calls.Call.Call, replies.Reply.Reply, seats.Seat.Seat}}
 use Rattle.mg_vcache.specs.Drops.{Drops}
+use Rattle.mg_model.specs.declared.calls.Call.TheVariants as call
 
 -- whether a call is one of them
 abbrev pub asks_nothing : Call → Bool

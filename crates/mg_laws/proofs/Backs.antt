@@ -1,20 +1,11 @@
 -- What a step must keep so that a seat stays backed, and the changes of objects that keep it.
-use Rattle.std.proofs.Common.{ℕ, zero, suc, ◌+◌, ◌*◌, ◌≤◌, ◌≡◌, ◌&&◌, ◌/◌, ◌-◌, Bool, true, false, cond, eqb, leb, ltb, List, [], Option, Some, None, refl, sym, subst, arith, Contains}
-use Rattle.std.proofs.lemmas.Bool.{and_from, and_parts, cond_both, eqb-true, le-leb, leb-true, ltb-false}
-use Rattle.std.proofs.Math.Seq.{get_or-set_other}
-use Rattle.std.specs.Prelude.{find, slice_index, slice_set}
-use Rattle.std.specs.Option.{option_map_or}
-use Rattle.mg_laws.proofs.Finds.{pass-map, read-map}
-use Rattle.mg_model.specs.declared.replies.Refusal.{Refusal}
-use Rattle.mg_model.specs.declared.rights.Right.{Right}
-use Rattle.mg_model.specs.declared.seats.Seat.{Seat}
-use Rattle.mg_model.specs.declared.slots.Slot.{Slot}
-use Rattle.mg_model.specs.Abbreviations.{pairs_from, unless_refused}
-use Rattle.mg_model.specs.Access.{based_at, covers, domain_of, pairs_of, holds, last_slots}
-use Rattle.mg_model.specs.Backed.{IsBacked, KeepsBacked, by_none, by_word, pairs_at, held_at}
-use Rattle.mg_model.specs.Objects.{with_row, with_word}
-use Rattle.mg_model.specs.Refused.{Answer}
-use Rattle.mg_model.specs.State.{Object, ObjectRow, State, Thread}
+use Rattle.{mg_laws.proofs.Finds.{pass-map, read-map}, mg_model.specs.{Abbreviations.{pairs_from, unless_refused}, Access.{based_at, covers}}}
+use Rattle.mg_model.specs.{Access.{domain_of, pairs_of, holds, last_slots}, Backed.{IsBacked, KeepsBacked, by_none, by_word, pairs_at, held_at}}
+use Rattle.mg_model.specs.{Objects.{with_row, with_word}, Refused.Answer, State.{Object, ObjectRow, State, Thread}, declared.replies.Refusal.Refusal}
+use Rattle.{mg_model.specs.declared.{rights.Right.Right, seats.Seat.Seat, slots.Slot.Slot}, std.proofs.Common.{ℕ, zero, suc, ◌+◌, ◌*◌, ◌≤◌, ◌≡◌}}
+use Rattle.std.proofs.Common.{◌&&◌, ◌/◌, ◌-◌, Bool, true, false, cond, eqb, leb, ltb, List, [], Option, Some, None, refl, sym, subst, arith, Contains}
+use Rattle.std.proofs.{Math.Seq.get_or-set_other, lemmas.Bool.{and_from, and_parts, cond_both, eqb-true, le-leb, leb-true, ltb-false}}
+use Rattle.std.specs.{Option.option_map_or, Prelude.{find, slice_index, slice_set}}
 
 -- each of these slots is among those
 abbrev pub KeepsSlots : List Slot → List Slot → Type 0

@@ -1,23 +1,14 @@
 -- A seat that is backed is an access that is allowed, and the other way round. An address in the first page of a list finds
 -- the list.
-use Rattle.std.proofs.Common.{ℕ, ◌+◌, ◌*◌, ◌<◌, ◌≤◌, ◌≡◌, ◌≢◌, ◌||◌, ◌&&◌, Bool, true, false, eqb, leb, ltb, if◌then◌else◌, List, [], ◌∷◌, get_or, Option, Some, None, refl, sym, ap, ◌∙◌, subst, inl, inr, arith, AllPairs, Contains}
-use Rattle.std.proofs.lemmas.Bool.{and_from, and_parts, cases_lt, cond-true, eq-eqb, eqb-true, false≢true, leb-true, le-leb, lt-ltb, ltb-true}
-use Rattle.std.proofs.lemmas.List.Elements.{All-contains, at_from_Contains}
-use Rattle.std.proofs.lemmas.List.Folds.{Any-from_list_any, list_any_at, list_any-append}
-use Rattle.std.specs.Prelude.{flat_map}
-use Rattle.std.specs.Option.{option_map_or}
-use Rattle.std.specs.List.{list_any}
-use Rattle.mg_laws.proofs.Finds.{find-hit, find_by_key}
-use Rattle.mg_laws.proofs.KeptRowAt.{other_base}
-use Rattle.mg_laws.specs.Backing.{AllowedIsBacked, BackedAllows, EndsOneList, OpeningBacks}
-use Rattle.mg_model.specs.declared.rights.Right.{Right}
-use Rattle.mg_model.specs.declared.rights.Right.TheVariants.{R}
-use Rattle.mg_model.specs.declared.seats.Seat.{Seat}
-use Rattle.mg_model.specs.declared.slots.Slot.{Slot}
-use Rattle.mg_model.specs.Access.{allowed, at, based_at, covers, domain_of, pairs_of, pairs_under, holds}
-use Rattle.mg_model.specs.Backed.{IsBacked, by_word, pairs_at, held_at}
-use Rattle.mg_model.specs.State.{Object, State}
-use Rattle.mg_model.specs.WellFormed.{IsBefore, IsObject, IsWellFormed}
+use Rattle.mg_laws.{proofs.{Finds.{find-hit, find_by_key}, KeptRowAt.other_base}, specs.Backing.{AllowedIsBacked, BackedAllows, EndsOneList}}
+use Rattle.{mg_laws.specs.Backing.OpeningBacks, mg_model.specs.Access.{allowed, at, based_at, covers, domain_of, pairs_of, pairs_under, holds}}
+use Rattle.mg_model.specs.{Backed.{IsBacked, by_word, pairs_at, held_at}, State.{Object, State}, WellFormed.{IsBefore, IsObject, IsWellFormed}}
+use Rattle.{mg_model.specs.declared.{rights.Right.{Right, TheVariants.R}, seats.Seat.Seat, slots.Slot.Slot}, std.proofs.Common.{ℕ, ◌+◌, ◌*◌, ◌<◌}}
+use Rattle.std.proofs.Common.{◌≤◌, ◌≡◌, ◌≢◌, ◌||◌, ◌&&◌, Bool, true, false, eqb, leb, ltb, if◌then◌else◌, List, [], ◌∷◌, get_or, Option, Some, None}
+use Rattle.std.proofs.{Common.{refl, sym, ap, ◌∙◌, subst, inl, inr, arith, AllPairs, Contains}, lemmas.Bool.{and_from, and_parts, cases_lt}}
+use Rattle.std.proofs.lemmas.{Bool.{cond-true, eq-eqb, eqb-true, false≢true, leb-true, le-leb, lt-ltb, ltb-true}, List.Elements.All-contains}
+use Rattle.std.{proofs.lemmas.List.{Elements.at_from_Contains, Folds.{Any-from_list_any, list_any_at, list_any-append}}, specs.List.list_any}
+use Rattle.std.specs.{Option.option_map_or, Prelude.flat_map}
 
 -- an object is found by its base
 own-based : (state : State) (object : Object) → IsWellFormed state → Contains state.objects object → based_at state.objects object.row.base ≡ Some object

@@ -1,21 +1,12 @@
 -- The calls on words and objects keep seats backed, except those that they end.
+use Rattle.mg_laws.proofs.{Backs.{found-backed, unless_refused-backed, with_row-backed, with_word-backed}, Finds.{find-filter, find-none}}
+use Rattle.mg_laws.proofs.{KeepsCreate.frames-few, Lowest.{IsApart, is_free-true, lowest_free-exists}, Passed.unrefused}
+use Rattle.mg_model.specs.{Access.based_at, Backed.{KeepsBacked, by_none, by_via, by_word, held_at}, KeptListLemmas.All-both, ObjectCalls.create}
+use Rattle.mg_model.specs.ObjectCalls.{delete, drawn, entry, ext, extension_of, is_entry, next_password, pwadd, pwdel, recharge, row_at, store}
+use Rattle.mg_model.specs.{ObjectCalls.{with_entry, with_row_at}, Objects.{lowest_free, new_object, with_object, with_row, with_word, without_object}}
+use Rattle.mg_model.specs.{State.{Object, ObjectRow, State}, WellFormed.{IsObject, IsWellFormed}, declared.rights.Right.{Right, TheVariants.R}}
 use Rattle.std.proofs.Common.{ℕ, ◌+◌, ◌*◌, ◌≤◌, ◌≡◌, ◌≢◌, true, false, eqb, ltb, List, [], ◌∷◌, length, Option, None, refl, arith, All}
-use Rattle.std.proofs.lemmas.Bool.{cond_both, cond-false, eqb-false, eqb-true, ltb-false, ne_eqb, or_left, or_parts}
-use Rattle.std.proofs.lemmas.List.Folds.{list_any-append}
-use Rattle.mg_laws.proofs.Backs.{found-backed, unless_refused-backed, with_row-backed, with_word-backed}
-use Rattle.mg_laws.proofs.Finds.{find-filter, find-none}
-use Rattle.mg_laws.proofs.KeepsCreate.{frames-few}
-use Rattle.mg_laws.proofs.Lowest.{IsApart, is_free-true, lowest_free-exists}
-use Rattle.mg_laws.proofs.Passed.{unrefused}
-use Rattle.mg_model.specs.declared.rights.Right.{Right}
-use Rattle.mg_model.specs.declared.rights.Right.TheVariants.{R}
-use Rattle.mg_model.specs.Access.{based_at}
-use Rattle.mg_model.specs.Backed.{KeepsBacked, by_none, by_via, by_word, held_at}
-use Rattle.mg_model.specs.KeptListLemmas.{All-both}
-use Rattle.mg_model.specs.ObjectCalls.{create, delete, drawn, entry, ext, extension_of, is_entry, next_password, pwadd, pwdel, recharge, row_at, store, with_entry, with_row_at}
-use Rattle.mg_model.specs.Objects.{lowest_free, new_object, with_object, with_row, with_word, without_object}
-use Rattle.mg_model.specs.State.{Object, ObjectRow, State}
-use Rattle.mg_model.specs.WellFormed.{IsObject, IsWellFormed}
+use Rattle.std.proofs.lemmas.{Bool.{cond_both, cond-false, eqb-false, eqb-true, ltb-false, ne_eqb, or_left, or_parts}, List.Folds.list_any-append}
 
 pub store-backed : (state : State) (t a value : ℕ) → KeepsBacked (by_word a) state (store state t a value).0
 store-backed state t a value = unless_refused-backed (by_word a) state _ (record state { objects = with_word state.objects a value }, _) (λ _. with_word-backed state a value)

@@ -1,44 +1,26 @@
 -- A thread's calls, its turns and all lines keep seats backed, except those that they end.
-use Rattle.std.proofs.Common.{arith}
-use Rattle.std.proofs.Common.{ℕ, List, [], ◌∷◌, ◌+◌, ◌%◌, if◌then◌else◌, ◌≤◌, ◌≡◌, ◌&&◌, Bool, true, false, not, cond, eqb, ltb, Contains, Option, Some, None, refl, sym, ap, ◌∙◌, subst}
-use Rattle.std.proofs.lemmas.Bool.{cond_both, cond-true, not-false}
-use Rattle.std.proofs.lemmas.Option.{same_Some}
-use Rattle.std.specs.Option.{option_map_or, option_or}
-use Rattle.std.proofs.lemmas.List.Elements.{All-contains}
 use Rattle.mg_laws.proofs.Backs.{first-backed, last-backed, none-backed, rests-backed, same-backed, unless_refused-backed, with_word-backed}
-use Rattle.mg_laws.proofs.BacksObjects.{create-backed, delete-backed, entry-backed, ext-backed, pwadd-backed, pwdel-backed, recharge-backed, store-backed}
-use Rattle.mg_laws.proofs.BacksThreads.{account-backed, apdadd-backed, apddel-backed, end-backed, frames-backed, pay-backed, pdx-backed, rent-backed, resume-backed, ret-backed, thread-backed}
-use Rattle.mg_laws.proofs.Finds.{find-hit}
-use Rattle.mg_laws.proofs.KeepsRows.{find_at_place, found, row-formed, row_of-thread}
-use Rattle.mg_laws.proofs.KeepsTurn.{put_row-keeps, with_cursor-keeps}
-use Rattle.mg_laws.proofs.KeptRegisters.{advanced-keeps}
-use Rattle.mg_laws.proofs.Passed.{unrefused}
-use Rattle.mg_laws.specs.Backing.{CallsKeepBacked, StepsKeepBacked}
-use Rattle.mg_model.specs.declared.calls.Call.{Call}
+use Rattle.mg_laws.proofs.BacksObjects.{create-backed, delete-backed, entry-backed, ext-backed, pwadd-backed, pwdel-backed, recharge-backed}
+use Rattle.mg_laws.proofs.{BacksObjects.store-backed, BacksThreads.{account-backed, apdadd-backed, apddel-backed, end-backed, frames-backed}}
+use Rattle.mg_laws.proofs.{BacksThreads.{pay-backed, pdx-backed, rent-backed, resume-backed, ret-backed, thread-backed}, Finds.find-hit}
+use Rattle.mg_laws.proofs.{KeepsRows.{find_at_place, found, row-formed, row_of-thread}, KeepsTurn.{put_row-keeps, with_cursor-keeps}}
+use Rattle.mg_laws.{proofs.{KeptRegisters.advanced-keeps, Passed.unrefused}, specs.Backing.{CallsKeepBacked, StepsKeepBacked}}
+use Rattle.mg_model.specs.{Abbreviations.{advanced, refusal_number}, Access.{allowed, thread_of}, Accesses.turning, Backed.{KeepsBacked, by_none}}
+use Rattle.mg_model.specs.{Backed.{by_thread, by_word, ended_by_call, ended_by_instruction, ended_by_turn, ended_of}, Domains.{pdx, ret, row_of}}
+use Rattle.mg_model.specs.{Objects.{with_word, word_at}, Refused.Answer, Script.{decoded, jumped, operand, register, with_register}, State.State}
+use Rattle.mg_model.specs.{State.{Thread, ThreadRow}, Step.{of_thread, step, step_of}, Threads.is_thread, Turn.{faulted, is_ready, picked, put_row}}
+use Rattle.mg_model.specs.Turn.{ready_above, run, run_next, run_word, with_answer, script_call, thread_call, thread_is_ready, turn, turn_state}
+use Rattle.mg_model.specs.{Turn.{turned, unless_faulted, values_of, with_registers}, WellFormed.{IsThread, IsWellFormed}, declared.calls.Call.Call}
+use Rattle.mg_model.specs.declared.{instructions.Instr.Instr, replies.Reply.Reply, rights.Right.TheVariants.{R, W, X}, seats.Seat.Seat}
+use Rattle.{mg_model.specs.declared.threads.{Fault.Fault, ThrState.TheVariants.Faulted}, std.proofs.Common.{arith, ℕ, List, [], ◌∷◌, ◌+◌, ◌%◌}}
+use Rattle.std.proofs.Common.{if◌then◌else◌, ◌≤◌, ◌≡◌, ◌&&◌, Bool, true, false, not, cond, eqb, ltb, Contains, Option, Some, None, refl, sym, ap, ◌∙◌}
+use Rattle.std.proofs.{Common.subst, lemmas.{Bool.{cond_both, cond-true, not-false}, List.Elements.All-contains, Option.same_Some}}
+use Rattle.std.specs.Option.{option_map_or, option_or}
 use Rattle.mg_model.specs.declared.calls.Call.TheVariants as call
-use Rattle.mg_model.specs.declared.instructions.Instr.{Instr}
 use Rattle.mg_model.specs.declared.instructions.Instr.TheVariants as op
 use Rattle.mg_model.specs.declared.replies.Refusal.TheVariants as refusal
-use Rattle.mg_model.specs.declared.replies.Reply.{Reply}
 use Rattle.mg_model.specs.declared.replies.Reply.TheVariants as reply
-use Rattle.mg_model.specs.declared.rights.Right.TheVariants.{R, W, X}
-use Rattle.mg_model.specs.declared.seats.Seat.{Seat}
-use Rattle.mg_model.specs.declared.threads.Fault.{Fault}
 use Rattle.mg_model.specs.declared.threads.Fault.TheVariants as fault
-use Rattle.mg_model.specs.declared.threads.ThrState.TheVariants.{Faulted}
-use Rattle.mg_model.specs.Abbreviations.{advanced, refusal_number}
-use Rattle.mg_model.specs.Access.{allowed, thread_of}
-use Rattle.mg_model.specs.Accesses.{turning}
-use Rattle.mg_model.specs.Backed.{KeepsBacked, by_none, by_thread, by_word, ended_by_call, ended_by_instruction, ended_by_turn, ended_of}
-use Rattle.mg_model.specs.Domains.{pdx, ret, row_of}
-use Rattle.mg_model.specs.Objects.{with_word, word_at}
-use Rattle.mg_model.specs.Refused.{Answer}
-use Rattle.mg_model.specs.Script.{decoded, jumped, operand, register, with_register}
-use Rattle.mg_model.specs.State.{State, Thread, ThreadRow}
-use Rattle.mg_model.specs.Step.{of_thread, step, step_of}
-use Rattle.mg_model.specs.Threads.{is_thread}
-use Rattle.mg_model.specs.Turn.{faulted, is_ready, picked, put_row, ready_above, run, run_next, run_word, with_answer, script_call, thread_call, thread_is_ready, turn, turn_state, turned, unless_faulted, values_of, with_registers}
-use Rattle.mg_model.specs.WellFormed.{IsThread, IsWellFormed}
 
 pub call-backed : CallsKeepBacked (λ state t made. (thread_call state t made).0)
 call-backed state t (call.Load a) formed = unless_refused-backed by_none state _ (state, _) (λ _. same-backed by_none state)

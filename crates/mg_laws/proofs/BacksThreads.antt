@@ -1,24 +1,14 @@
 -- The calls on domains, threads and accounts keep seats backed, except those that they end.
-use Rattle.std.proofs.Common.{ℕ, ◌+◌, ◌<◌, ◌≡◌, ◌≢◌, not, eqb, List, [], ◌∷◌, ◌++◌, filter, length, Option, Some, None, refl, sym, ap, ◌∙◌, subst, arith, All, Contains}
-use Rattle.std.proofs.lemmas.Bool.{cond_both, eqb-false, eqb-true, ne_eqb}
-use Rattle.std.proofs.lemmas.List.Elements.{Contains-append_left}
-use Rattle.std.specs.Prelude.{option_map}
-use Rattle.std.specs.Option.{option_map_or}
-use Rattle.mg_laws.proofs.Backs.{KeepsSlots, rests-backed, unless_refused-backed}
-use Rattle.mg_laws.proofs.Finds.{find-hit, find-map, find-none}
-use Rattle.mg_laws.proofs.KeepsDomains.{length-with_last_slots}
-use Rattle.mg_laws.proofs.KeepsRows.{changed, changed-number, domain_of-row, row_of-thread}
-use Rattle.mg_laws.proofs.KeepsThreads.{find-with_new_thread, find-without, free_number-free}
-use Rattle.mg_model.specs.declared.seats.Seat.{Seat}
-use Rattle.mg_model.specs.declared.slots.Slot.{Slot}
-use Rattle.mg_model.specs.Abbreviations.{born, free_number}
-use Rattle.mg_model.specs.Access.{domain_of, last_slots, thread_of}
-use Rattle.mg_model.specs.Backed.{IsBacked, KeepsBacked, by_each, by_none, by_thread}
-use Rattle.mg_model.specs.BankCalls.{open_account, pay, rent}
-use Rattle.mg_model.specs.Domains.{apdadd, apddel, pdx, ret, row_of, with_last_slots, with_thread}
-use Rattle.mg_model.specs.State.{CallFrame, State, Thread, ThreadRow}
-use Rattle.mg_model.specs.Threads.{birth_of, end_thread, make_thread, new_thread, resume, with_new_thread}
-use Rattle.mg_model.specs.WellFormed.{IsWellFormed}
+use Rattle.mg_laws.proofs.{Backs.{KeepsSlots, rests-backed, unless_refused-backed}, Finds.{find-hit, find-map, find-none}}
+use Rattle.mg_laws.proofs.{KeepsDomains.length-with_last_slots, KeepsRows.{changed, changed-number, domain_of-row, row_of-thread}}
+use Rattle.{mg_laws.proofs.KeepsThreads.{find-with_new_thread, find-without, free_number-free}, mg_model.specs.Abbreviations.{born, free_number}}
+use Rattle.mg_model.specs.{Access.{domain_of, last_slots, thread_of}, Backed.{IsBacked, KeepsBacked, by_each, by_none, by_thread}}
+use Rattle.mg_model.specs.{BankCalls.{open_account, pay, rent}, Domains.{apdadd, apddel, pdx, ret, row_of, with_last_slots, with_thread}}
+use Rattle.mg_model.specs.{State.{CallFrame, State, Thread, ThreadRow}, Threads.{birth_of, end_thread, make_thread, new_thread, resume}}
+use Rattle.{mg_model.specs.{Threads.with_new_thread, WellFormed.IsWellFormed, declared.{seats.Seat.Seat, slots.Slot.Slot}}, std.proofs.Common.ℕ}
+use Rattle.std.proofs.Common.{◌+◌, ◌<◌, ◌≡◌, ◌≢◌, not, eqb, List, [], ◌∷◌, ◌++◌, filter, length, Option, Some, None, refl, sym, ap, ◌∙◌, subst, arith}
+use Rattle.std.proofs.{Common.{All, Contains}, lemmas.{Bool.{cond_both, eqb-false, eqb-true, ne_eqb}, List.Elements.Contains-append_left}}
+use Rattle.std.specs.{Option.option_map_or, Prelude.option_map}
 
 -- A change of a thread's row keeps the slots of each thread if it keeps those of the row that the number finds.
 slots-with_thread : (state : State) (t u : ℕ) (change : ThreadRow → ThreadRow) → ((row : ThreadRow) → u ≡ t → row_of state t ≡ Some row → KeepsSlots (last_slots row.frames) (last_slots (change row).frames)) → KeepsSlots (domain_of state u) (domain_of (with_thread state t change) u)

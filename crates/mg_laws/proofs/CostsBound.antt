@@ -1,17 +1,10 @@
 -- From lines to a session: keys that would be warm are kept, so each line stays within its cost, and costs add up.
-use Rattle.std.proofs.Common.{ℕ, ◌≡◌, ◌≤◌, ◌+◌, Bool, true, false, List, [], ◌∷◌, ◌++◌, Some, refl, sym, ap, ◌∙◌, arith}
-use Rattle.std.proofs.lemmas.Bool.{and_from, and_parts, cond-false, cond-true, false≢true}
-use Rattle.std.proofs.lemmas.Option.{none-some}
-use Rattle.mg_laws.proofs.KeysSeats.{last_is_kept}
-use Rattle.mg_laws.proofs.KeysTaken.{last-recent, recent-last}
-use Rattle.mg_laws.specs.Costs.{BeginsWarm, BoundedByCost, CostsAddUp, CostsGoOn, EventsGoOn, LimitsWithinCost, PrefixesCostLess, StaysWarm}
-use Rattle.mg_model.specs.declared.calls.Line.{Line}
-use Rattle.mg_model.specs.Accesses.{Access}
-use Rattle.mg_model.specs.Keys.{Key, first_at, seat_of}
-use Rattle.mg_model.specs.Kept.{Follows, KeepsWarm, is_served, line_limit}
-use Rattle.mg_model.specs.State.{State}
-use Rattle.mg_model.specs.Step.{step}
-use Rattle.mg_model.specs.Warmth.{Event, cost, cost_behind, events, failing, is_disturbing, is_warm, recent, taken_in}
+use Rattle.mg_laws.{proofs.{KeysSeats.last_is_kept, KeysTaken.{last-recent, recent-last}}, specs.Costs.{BeginsWarm, BoundedByCost, CostsAddUp}}
+use Rattle.{mg_laws.specs.Costs.{CostsGoOn, EventsGoOn, LimitsWithinCost, PrefixesCostLess, StaysWarm}, mg_model.specs.Accesses.Access}
+use Rattle.mg_model.specs.{Kept.{Follows, KeepsWarm, is_served, line_limit}, Keys.{Key, first_at, seat_of}, State.State, Step.step, Warmth.Event}
+use Rattle.mg_model.specs.{Warmth.{cost, cost_behind, events, failing, is_disturbing, is_warm, recent, taken_in}, declared.calls.Line.Line}
+use Rattle.std.proofs.{Common.{ℕ, ◌≡◌, ◌≤◌, ◌+◌, Bool, true, false, List, [], ◌∷◌, ◌++◌, Some, refl, sym, ap, ◌∙◌, arith}, lemmas.Bool.and_from}
+use Rattle.std.proofs.lemmas.{Bool.{and_parts, cond-false, cond-true, false≢true}, Option.none-some}
 
 -- Kept keys
 

@@ -1,29 +1,17 @@
 -- The cursor may be moved before a turn or after it.
-use Rattle.std.proofs.Common.{arith}
-use Rattle.std.proofs.Common.{ℕ, suc, ◌+◌, ◌*◌, ◌++◌, ◌≡◌, Bool, eqb, not, [], ◌∷◌, filter, length, Option, Some, None, refl, ap, ◌∙◌}
-use Rattle.std.proofs.lemmas.Bool.{cond_both}
+use Rattle.{mg_laws.specs.Scripts.{RestsOnNoCursor, at_cursor}, mg_model.specs.Abbreviations.{advanced, born, free_number, unless_refused}}
+use Rattle.mg_model.specs.{Access.domain_of, Bank.{balance_of, credited, owed_by, pages_of, debited}, Domains.{pdx, ret, row_of, with_slots}}
+use Rattle.mg_model.specs.{Domains.with_thread, Limits.never, ObjectCalls.{about, drawn, extension_of, has_password, next_password, row_at}}
+use Rattle.mg_model.specs.{ObjectCalls.{with_entry, with_row_at}, Objects.{lowest_free, new_object, with_object, with_word, without_object, word_at}}
+use Rattle.mg_model.specs.{Refused.Answer, State.{State, Thread, ThreadRow}, Threads.{birth_of, new_thread, with_new_thread}, Turn.{put_row, run}}
+use Rattle.mg_model.specs.Turn.{run_word, with_answer, script_call, thread_call, turn_state, turned, unless_faulted, values_of, with_registers}
+use Rattle.mg_model.specs.declared.{calls.Call.Call, instructions.Instr.Instr, replies.{Refusal.Refusal, Reply.Reply}}
+use Rattle.{mg_model.specs.declared.threads.ThrState.TheVariants.Ready, std.proofs.Common.{arith, ℕ, suc, ◌+◌, ◌*◌, ◌++◌, ◌≡◌, Bool, eqb, not, []}}
+use Rattle.std.{proofs.{Common.{◌∷◌, filter, length, Option, Some, None, refl, ap, ◌∙◌}, lemmas.Bool.cond_both}, specs.Option.option_map_or}
 use Rattle.std.specs.Prelude.{drop, take, unwrap_or}
-use Rattle.std.specs.Option.{option_map_or}
-use Rattle.mg_laws.specs.Scripts.{RestsOnNoCursor, at_cursor}
-use Rattle.mg_model.specs.declared.calls.Call.{Call}
 use Rattle.mg_model.specs.declared.calls.Call.TheVariants as call
-use Rattle.mg_model.specs.declared.instructions.Instr.{Instr}
 use Rattle.mg_model.specs.declared.instructions.Instr.TheVariants as op
-use Rattle.mg_model.specs.declared.replies.Refusal.{Refusal}
-use Rattle.mg_model.specs.declared.replies.Reply.{Reply}
 use Rattle.mg_model.specs.declared.replies.Reply.TheVariants as reply
-use Rattle.mg_model.specs.declared.threads.ThrState.TheVariants.{Ready}
-use Rattle.mg_model.specs.Abbreviations.{advanced, born, free_number, unless_refused}
-use Rattle.mg_model.specs.Access.{domain_of}
-use Rattle.mg_model.specs.Bank.{balance_of, credited, owed_by, pages_of, debited}
-use Rattle.mg_model.specs.Domains.{pdx, ret, row_of, with_slots, with_thread}
-use Rattle.mg_model.specs.Limits.{never}
-use Rattle.mg_model.specs.ObjectCalls.{about, drawn, extension_of, has_password, next_password, row_at, with_entry, with_row_at}
-use Rattle.mg_model.specs.Objects.{lowest_free, new_object, with_object, with_word, without_object, word_at}
-use Rattle.mg_model.specs.Refused.{Answer}
-use Rattle.mg_model.specs.State.{State, Thread, ThreadRow}
-use Rattle.mg_model.specs.Threads.{birth_of, new_thread, with_new_thread}
-use Rattle.mg_model.specs.Turn.{put_row, run, run_word, with_answer, script_call, thread_call, turn_state, turned, unless_faulted, values_of, with_registers}
 
 module _ (n : ℕ) where
   abbrev C : State → State

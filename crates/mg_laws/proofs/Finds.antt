@@ -1,11 +1,8 @@
 -- What a search through a list finds, and what it finds after a change of the list.
-use Rattle.std.proofs.Common.{ℕ, zero, suc, ◌<◌, ◌≡◌, ◌≢◌, Bool, true, false, cond, eqb, List, [], ◌∷◌, get_or, length, map, filter, Some, None, refl, sym, ap, ◌∙◌, arith, All, AllPairs, Contains}
-use Rattle.std.proofs.lemmas.Bool.{cond_both, cond-false, cond-true, eq-eqb, false≢true, ne_eqb}
-use Rattle.std.proofs.lemmas.List.Elements.{All-head, All-tail}
-use Rattle.std.proofs.lemmas.Option.{same_Some}
-use Rattle.std.specs.Prelude.{find, option_map}
-use Rattle.std.specs.Option.{option_map_or}
-use Rattle.mg_model.specs.KeptListLemmas.{AllPairs-head, AllPairs-tail}
+use Rattle.{mg_model.specs.KeptListLemmas.{AllPairs-head, AllPairs-tail}, std.proofs.Common.{ℕ, zero, suc, ◌<◌, ◌≡◌, ◌≢◌, Bool, true, false, cond}}
+use Rattle.std.proofs.Common.{eqb, List, [], ◌∷◌, get_or, length, map, filter, Some, None, refl, sym, ap, ◌∙◌, arith, All, AllPairs, Contains}
+use Rattle.std.proofs.lemmas.{Bool.{cond_both, cond-false, cond-true, eq-eqb, false≢true, ne_eqb}, List.Elements.{All-head, All-tail}}
+use Rattle.std.{proofs.lemmas.Option.same_Some, specs.{Option.option_map_or, Prelude.{find, option_map}}}
 
 -- what is found is an element, and passes
 pub record IsHit {X : Type 0} (test : X → Bool) (xs : List X) (x : X) : Type 0 where

@@ -1,18 +1,9 @@
 -- The fresh state of settings is well formed.
-use Rattle.std.proofs.Common.{ℕ, ◌≤◌, List, [], ◌∷◌, replicate, refl, arith, All}
-use Rattle.std.proofs.lemmas.Bool.{and_parts, leb-true}
-use Rattle.std.proofs.lemmas.List.{length-replicate}
-use Rattle.std.proofs.lemmas.List.Elements.{All-cons, All-nil, All-replicate}
-use Rattle.std.proofs.lemmas.List.Kept.{AllPairs-cons}
-use Rattle.mg_model.specs.declared.accounts.AccRow.{AccRow}
-use Rattle.mg_model.specs.Draw.{password_drawn}
-use Rattle.mg_model.specs.DrawnLemmas.{drawn-IsWord}
-use Rattle.mg_model.specs.Fresh.{first_thread, fresh, root_base, root_object, root_words}
-use Rattle.mg_model.specs.KeptListLemmas.{AllPairs-nil}
-use Rattle.mg_model.specs.Ranges.{IsWord}
-use Rattle.mg_model.specs.Settings.{Settings}
-use Rattle.mg_model.specs.State.{Object, Thread}
-use Rattle.mg_model.specs.WellFormed.{IsAccount, IsBefore, IsObject, IsSettings, IsThread, IsWellFormed}
+use Rattle.mg_model.specs.{Draw.password_drawn, DrawnLemmas.drawn-IsWord, Fresh.{first_thread, fresh, root_base, root_object, root_words}}
+use Rattle.mg_model.specs.{KeptListLemmas.AllPairs-nil, Ranges.IsWord, Settings.Settings, State.{Object, Thread}, WellFormed.{IsAccount, IsBefore}}
+use Rattle.{mg_model.specs.{WellFormed.{IsObject, IsSettings, IsThread, IsWellFormed}, declared.accounts.AccRow.AccRow}, std.proofs.Common.{ℕ, ◌≤◌}}
+use Rattle.std.proofs.{Common.{List, [], ◌∷◌, replicate, refl, arith, All}, lemmas.{Bool.{and_parts, leb-true}, List.length-replicate}}
+use Rattle.std.proofs.lemmas.List.{Elements.{All-cons, All-nil, All-replicate}, Kept.AllPairs-cons}
 
 root_words-words : (password : ℕ) → IsWord password → All IsWord (root_words password)
 root_words-words password word =

@@ -1,23 +1,13 @@
 -- The calls on accounts and the collection of rent keep the state well formed; so the balances always sum to the credits.
-use Rattle.std.proofs.Common.{◌≡◌, ℕ, ◌+◌, ◌*◌, ◌^◌, ◌<◌, ◌≤◌, ◌==◌, nat_le, nat_lt, ◌||◌, true, false, not, List, [], ◌∷◌, ◌++◌, length, is_some, ap, arith}
-use Rattle.std.proofs.lemmas.Bool.{eqb-false, leb-false, ltb-false, not-false, or_parts}
-use Rattle.std.proofs.lemmas.List.{length_push}
-use Rattle.std.proofs.lemmas.List.Elements.{All-push, All-weaker}
-use Rattle.std.proofs.lemmas.List.Sums.{sum_by_push}
-use Rattle.mg_model.specs.declared.accounts.AccRow.{AccRow}
-use Rattle.mg_model.specs.Bank.{account_of, all_charged, balance_of, credited, opens, pages_of, rate_now, rent_accounts, rent_paid, debited}
-use Rattle.mg_model.specs.Limits.{account_limit, period_limit}
-use Rattle.mg_model.specs.BankCalls.{balance, open_account, pay, rent}
-use Rattle.mg_model.specs.DrawnLemmas.{drawn-IsWord}
-use Rattle.mg_laws.proofs.Keeps.{unless_refused-keeps}
-use Rattle.mg_laws.proofs.KeepsCreate.{frames-few}
-use Rattle.mg_laws.proofs.KeepsObjects.{drawn-keeps}
-use Rattle.mg_laws.proofs.KeptAccounts.{IsEdited, account_of-there, credited-edits, opens-row, paid-edits, debited-edits}
-use Rattle.mg_laws.proofs.KeptRent.{all_charged-each, all_charged-total, due-few, length-all_charged, rate_of-few}
-use Rattle.mg_model.specs.ObjectCalls.{all_drawn, drawn, next_password}
-use Rattle.mg_laws.proofs.Passed.{unrefused}
-use Rattle.mg_model.specs.State.{Object, State}
-use Rattle.mg_model.specs.WellFormed.{AreAccounts, AreObjects, IsAccount, IsWellFormed}
+use Rattle.mg_laws.proofs.{Keeps.unless_refused-keeps, KeepsCreate.frames-few, KeepsObjects.drawn-keeps, KeptAccounts.{IsEdited, account_of-there}}
+use Rattle.mg_laws.proofs.{KeptAccounts.{credited-edits, opens-row, paid-edits, debited-edits}, KeptRent.{all_charged-each, all_charged-total}}
+use Rattle.{mg_laws.proofs.{KeptRent.{due-few, length-all_charged, rate_of-few}, Passed.unrefused}, mg_model.specs.Bank.{account_of, all_charged}}
+use Rattle.mg_model.specs.{Bank.{balance_of, credited, opens, pages_of, rate_now, rent_accounts, rent_paid, debited}, BankCalls.balance}
+use Rattle.mg_model.specs.{BankCalls.{open_account, pay, rent}, DrawnLemmas.drawn-IsWord, Limits.{account_limit, period_limit}, ObjectCalls.all_drawn}
+use Rattle.mg_model.specs.{ObjectCalls.{drawn, next_password}, State.{Object, State}, WellFormed.{AreAccounts, AreObjects, IsAccount, IsWellFormed}}
+use Rattle.{mg_model.specs.declared.accounts.AccRow.AccRow, std.proofs.Common.{◌≡◌, ℕ, ◌+◌, ◌*◌, ◌^◌, ◌<◌, ◌≤◌, ◌==◌, nat_le, nat_lt, ◌||◌, true}}
+use Rattle.std.proofs.{Common.{false, not, List, [], ◌∷◌, ◌++◌, length, is_some, ap, arith}, lemmas.Bool.{eqb-false, leb-false, ltb-false, not-false}}
+use Rattle.std.proofs.lemmas.{Bool.or_parts, List.{length_push, Elements.{All-push, All-weaker}, Sums.sum_by_push}}
 
 -- objects stay as they are if there are as many accounts as before, or more
 objects-more : (frames before after : ℕ) (objects : List Object) → before ≤ after → AreObjects frames before objects → AreObjects frames after objects

@@ -1,25 +1,12 @@
 -- `create` keeps the state well formed: its pages are there, and its object is one.
-use Rattle.std.proofs.Common.{◌≡◌, ℕ, ◌+◌, ◌*◌, ◌/◌, ◌<◌, ◌≤◌, ◌==◌, nat_le, nat_lt, ◌||◌, true, false, not, length, subst, sym, arith}
-use Rattle.std.proofs.lemmas.Bool.{and_parts, eqb-false, leb-false, leb-true, ltb-false, not-false, or_parts}
-use Rattle.std.proofs.lemmas.List.{length-replicate}
-use Rattle.std.proofs.lemmas.List.Elements.{All-nil, All-push, All-replicate}
-use Rattle.mg_model.specs.Bank.{opens, owed_by, used}
-use Rattle.mg_model.specs.DrawnLemmas.{drawn-IsWord}
-use Rattle.mg_laws.proofs.Keeps.{unless_refused-keeps}
-use Rattle.mg_laws.proofs.KeepsObjects.{drawn-keeps, objects-keep}
-use Rattle.mg_laws.proofs.KeptAccounts.{opens-number}
-use Rattle.mg_model.specs.KeptListLemmas.{AllPairs-nil}
-use Rattle.mg_laws.proofs.KeptObjects.{AreObjects-with_object}
-use Rattle.mg_laws.proofs.Lowest.{lowest_free-exists}
-use Rattle.mg_laws.specs.Laws.{IsLowest}
-use Rattle.mg_model.specs.Limits.{object_limit, object_page_limit, first_page, page_end}
-use Rattle.mg_model.specs.ObjectCalls.{all_drawn, create, drawn, next_password}
-use Rattle.mg_model.specs.Objects.{is_free, lowest_free, new_object, with_object}
-use Rattle.mg_laws.proofs.Passed.{unrefused}
-use Rattle.mg_model.specs.Ranges.{IsWord}
-use Rattle.mg_model.specs.Settings.{Settings}
-use Rattle.mg_model.specs.State.{Object, State}
-use Rattle.mg_model.specs.WellFormed.{IsObject, IsSettings, IsWellFormed}
+use Rattle.mg_laws.proofs.{Keeps.unless_refused-keeps, KeepsObjects.{drawn-keeps, objects-keep}, KeptAccounts.opens-number}
+use Rattle.mg_laws.{proofs.{KeptObjects.AreObjects-with_object, Lowest.lowest_free-exists, Passed.unrefused}, specs.Laws.IsLowest}
+use Rattle.mg_model.specs.{Bank.{opens, owed_by, used}, DrawnLemmas.drawn-IsWord, KeptListLemmas.AllPairs-nil, Limits.object_limit}
+use Rattle.mg_model.specs.{Limits.{object_page_limit, first_page, page_end}, ObjectCalls.{all_drawn, create, drawn, next_password}, Objects.is_free}
+use Rattle.mg_model.specs.{Objects.{lowest_free, new_object, with_object}, Ranges.IsWord, Settings.Settings, State.{Object, State}}
+use Rattle.{mg_model.specs.WellFormed.{IsObject, IsSettings, IsWellFormed}, std.proofs.Common.{◌≡◌, ℕ, ◌+◌, ◌*◌, ◌/◌, ◌<◌, ◌≤◌, ◌==◌, nat_le, nat_lt}}
+use Rattle.std.proofs.{Common.{◌||◌, true, false, not, length, subst, sym, arith}, lemmas.Bool.{and_parts, eqb-false, leb-false, leb-true, ltb-false}}
+use Rattle.std.proofs.lemmas.{Bool.{not-false, or_parts}, List.{length-replicate, Elements.{All-nil, All-push, All-replicate}}}
 
 -- there are at most 65,536 frames
 pub frames-few : (settings : Settings) → IsSettings settings → settings.frames ≤ 65536

@@ -1,23 +1,15 @@
 -- The calls on a protection domain keep the state well formed.
-use Rattle.std.proofs.Common.{ℕ, suc, ◌+◌, ◌-◌, ◌%◌, ◌<◌, ◌≤◌, ◌≡◌, Bool, false, not, leb, ltb, List, [], ◌∷◌, ◌++◌, length, take, drop, Option, Some, None, refl, ap, ◌∙◌, subst, arith, length-append, length-drop, length-take}
-use Rattle.std.proofs.lemmas.Bool.{cond_both, eqb-true, leb-false, ltb-false, not-false}
-use Rattle.std.proofs.lemmas.List.{get_or-take, get_or_append_left, length-take-le, length_push}
-use Rattle.std.proofs.lemmas.List.Elements.{All-append, All-cons, All-drop, All-head, All-nil, All-push, All-tail, All-take}
-use Rattle.std.proofs.lemmas.Option.{get_or_from_slice_get, same_Some, slice_get_within}
-use Rattle.std.specs.Prelude.{All, find, slice_get}
-use Rattle.std.specs.Option.{option_map_or, option_to_list}
-use Rattle.mg_model.specs.declared.rights.Right.TheVariants.{P}
-use Rattle.mg_model.specs.declared.slots.Slot.{Slot}
-use Rattle.mg_model.specs.Abbreviations.{entered_slots, first_back, no_row}
-use Rattle.mg_model.specs.Access.{allowed, at, covers, domain_of, last_slots, thread_of}
+use Rattle.mg_laws.proofs.{Keeps.unless_refused-keeps, KeepsRows.{frames_of-row, thread-formed, with_thread-keeps}, Passed.unrefused}
+use Rattle.mg_model.specs.{Abbreviations.{entered_slots, first_back, no_row}, Access.{allowed, at, covers, domain_of, last_slots, thread_of}}
 use Rattle.mg_model.specs.Domains.{apdadd, apddel, frames_of, kept_from, last_back, pdx, ret, with_last_slots, with_slots, with_thread}
-use Rattle.mg_laws.proofs.Keeps.{unless_refused-keeps}
-use Rattle.mg_laws.proofs.KeepsRows.{frames_of-row, thread-formed, with_thread-keeps}
-use Rattle.mg_model.specs.ObjectCalls.{is_aligned, is_entry, row_at}
-use Rattle.mg_laws.proofs.Passed.{unrefused}
-use Rattle.mg_model.specs.Ranges.{IsCallFrame, IsSlot, IsThreadRow, IsWord}
-use Rattle.mg_model.specs.State.{CallFrame, Object, State, Thread, ThreadRow}
-use Rattle.mg_model.specs.WellFormed.{IsObject, IsWellFormed}
+use Rattle.mg_model.specs.{ObjectCalls.{is_aligned, is_entry, row_at}, Ranges.{IsCallFrame, IsSlot, IsThreadRow, IsWord}, State.{CallFrame, Object}}
+use Rattle.mg_model.specs.{State.{State, Thread, ThreadRow}, WellFormed.{IsObject, IsWellFormed}, declared.rights.Right.TheVariants.P}
+use Rattle.{mg_model.specs.declared.slots.Slot.Slot, std.proofs.Common.{ℕ, suc, ◌+◌, ◌-◌, ◌%◌, ◌<◌, ◌≤◌, ◌≡◌, Bool, false, not, leb, ltb, List, []}}
+use Rattle.std.proofs.Common.{◌∷◌, ◌++◌, length, take, drop, Option, Some, None, refl, ap, ◌∙◌, subst, arith, length-append, length-drop, length-take}
+use Rattle.std.proofs.lemmas.{Bool.{cond_both, eqb-true, leb-false, ltb-false, not-false}, List.{get_or-take, get_or_append_left, length-take-le}}
+use Rattle.std.proofs.lemmas.List.{length_push, Elements.{All-append, All-cons, All-drop, All-head, All-nil, All-push, All-tail, All-take}}
+use Rattle.std.{proofs.lemmas.Option.{get_or_from_slice_get, same_Some, slice_get_within}, specs.Option.{option_map_or, option_to_list}}
+use Rattle.std.specs.Prelude.{All, find, slice_get}
 
 pub aligned_from : (address : ℕ) → not (is_aligned address) ≡ false → address % 8 ≡ 0
 aligned_from address is = eqb-true _ _ (not-false _ is)

@@ -1,31 +1,16 @@
 -- The calls on words and objects keep the state well formed.
-use Rattle.std.proofs.Common.{◌≡◌, ◌≢◌, ℕ, ◌+◌, ◌*◌, ◌<◌, ◌≤◌, nat_le, ◌&&◌, ◌||◌, false, not, List, [], ◌∷◌, ◌++◌, length, filter, get_or, Option, Some, None, refl, sym, ◌∙◌, inl, inr, arith}
-use Rattle.std.proofs.lemmas.Bool.{cond_both, eq-eqb, false≢true, eqb-false, eqb-true, leb-false, not-false, or_parts, and_cases}
-use Rattle.std.proofs.lemmas.List.{length_push}
-use Rattle.std.proofs.lemmas.List.Elements.{All-filter, All-push}
-use Rattle.std.proofs.lemmas.List.Folds.{list_any_at}
-use Rattle.std.proofs.lemmas.List.Quantifiers.{all_pairs_push}
-use Rattle.std.proofs.lemmas.Option.{same_Some}
+use Rattle.mg_laws.proofs.{Keeps.unless_refused-keeps, KeptAccounts.opens-number, KeptObjects.{AreObjects-with_word, AreObjects-without_object}}
+use Rattle.{mg_laws.proofs.{KeptObjects.{HasPlaceOf, IsPaidRow}, KeptRowAt.AreObjects-with_row_at, Passed.unrefused}, mg_model.specs.Access.allowed}
+use Rattle.mg_model.specs.{Bank.opens, DrawnLemmas.drawn-IsWord, KeptListLemmas.length-filter-le, Limits.{entry_point_limit, password_limit, never}}
+use Rattle.mg_model.specs.ObjectCalls.{all_drawn, delete, drawn, entry, ext, extension_of, info, is_aligned, is_entry, is_past, has_password, load}
+use Rattle.mg_model.specs.{ObjectCalls.{next_password, pwadd, pwdel, recharge, row_at, store, with_entry, with_row_at}, Objects.with_word}
+use Rattle.mg_model.specs.{Objects.without_object, PasswordRows.IsPassword, Ranges.{IsEntryOf, IsExtension, IsObjectRow, IsWord}, Rights.IsRights}
+use Rattle.mg_model.specs.{State.{Object, ObjectRow, State}, WellFormed.{AreObjects, IsWellFormed}, declared.rights.Right.TheVariants.O}
+use Rattle.{mg_model.specs.declared.slots.Pw.Pw, std.proofs.Common.{◌≡◌, ◌≢◌, ℕ, ◌+◌, ◌*◌, ◌<◌, ◌≤◌, nat_le, ◌&&◌, ◌||◌, false, not, List, [], ◌∷◌}}
+use Rattle.std.proofs.{Common.{◌++◌, length, filter, get_or, Option, Some, None, refl, sym, ◌∙◌, inl, inr, arith}, lemmas.Bool.{cond_both, eq-eqb}}
+use Rattle.std.proofs.lemmas.{Bool.{false≢true, eqb-false, eqb-true, leb-false, not-false, or_parts, and_cases}, List.length_push}
+use Rattle.std.proofs.lemmas.{List.{Elements.{All-filter, All-push}, Folds.list_any_at, Quantifiers.all_pairs_push}, Option.same_Some}
 use Rattle.std.specs.Option.{ForSome, unwrap_or}
-use Rattle.mg_model.specs.declared.rights.Right.TheVariants.{O}
-use Rattle.mg_model.specs.declared.slots.Pw.{Pw}
-use Rattle.mg_model.specs.Access.{allowed}
-use Rattle.mg_model.specs.Bank.{opens}
-use Rattle.mg_model.specs.DrawnLemmas.{drawn-IsWord}
-use Rattle.mg_laws.proofs.Keeps.{unless_refused-keeps}
-use Rattle.mg_laws.proofs.KeptAccounts.{opens-number}
-use Rattle.mg_model.specs.KeptListLemmas.{length-filter-le}
-use Rattle.mg_laws.proofs.KeptObjects.{AreObjects-with_word, AreObjects-without_object, HasPlaceOf, IsPaidRow}
-use Rattle.mg_laws.proofs.KeptRowAt.{AreObjects-with_row_at}
-use Rattle.mg_model.specs.Limits.{entry_point_limit, password_limit, never}
-use Rattle.mg_model.specs.ObjectCalls.{all_drawn, delete, drawn, entry, ext, extension_of, info, is_aligned, is_entry, is_past, has_password, load, next_password, pwadd, pwdel, recharge, row_at, store, with_entry, with_row_at}
-use Rattle.mg_model.specs.Objects.{with_word, without_object}
-use Rattle.mg_laws.proofs.Passed.{unrefused}
-use Rattle.mg_model.specs.PasswordRows.{IsPassword}
-use Rattle.mg_model.specs.Ranges.{IsEntryOf, IsExtension, IsObjectRow, IsWord}
-use Rattle.mg_model.specs.Rights.{IsRights}
-use Rattle.mg_model.specs.State.{Object, ObjectRow, State}
-use Rattle.mg_model.specs.WellFormed.{AreObjects, IsWellFormed}
 
 -- other objects
 pub objects-keep : (state : State) (objects : List Object) → IsWellFormed state → AreObjects state.settings.frames (length state.accounts) objects → IsWellFormed (record state { objects = objects })

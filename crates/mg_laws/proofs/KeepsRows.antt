@@ -1,17 +1,10 @@
 -- A change of one thread's row keeps the state well formed if the row stays a row of a thread, with its birth and its creator.
-use Rattle.std.proofs.Common.{ℕ, zero, suc, ◌<◌, ◌≡◌, ◌≢◌, cond, eqb, List, [], ◌∷◌, length, get_or, map, Option, Some, None, refl, sym, ap, ◌∙◌, subst, arith}
-use Rattle.std.proofs.lemmas.Bool.{cond_both, cond-true, cond-false, eq-eqb, eqb-true, ne_eqb}
-use Rattle.std.proofs.lemmas.List.{get_or-map, length-map}
-use Rattle.std.proofs.lemmas.List.Elements.{All-map}
-use Rattle.std.proofs.lemmas.Option.{same_Some}
-use Rattle.std.specs.Prelude.{AllPairs, find}
-use Rattle.std.specs.Option.{option_map_or}
-use Rattle.mg_model.specs.Access.{domain_of, last_slots, thread_of}
-use Rattle.mg_model.specs.Domains.{frames_of, row_of, with_thread}
-use Rattle.mg_model.specs.KeptListLemmas.{AllPairs-head, AllPairs-tail}
-use Rattle.mg_model.specs.Ranges.{IsThreadRow}
-use Rattle.mg_model.specs.State.{State, Thread, ThreadRow}
-use Rattle.mg_model.specs.WellFormed.{AreThreads, IsFirst, IsThread, IsWellFormed}
+use Rattle.mg_model.specs.{Access.{domain_of, last_slots, thread_of}, Domains.{frames_of, row_of, with_thread}, KeptListLemmas.AllPairs-head}
+use Rattle.mg_model.specs.{KeptListLemmas.AllPairs-tail, Ranges.IsThreadRow, State.{State, Thread, ThreadRow}, WellFormed.{AreThreads, IsFirst}}
+use Rattle.{mg_model.specs.WellFormed.{IsThread, IsWellFormed}, std.proofs.Common.{ℕ, zero, suc, ◌<◌, ◌≡◌, ◌≢◌, cond, eqb, List, [], ◌∷◌, length}}
+use Rattle.std.proofs.{Common.{get_or, map, Option, Some, None, refl, sym, ap, ◌∙◌, subst, arith}, lemmas.Bool.{cond_both, cond-true, cond-false}}
+use Rattle.std.proofs.lemmas.{Bool.{eq-eqb, eqb-true, ne_eqb}, List.{get_or-map, length-map, Elements.All-map}, Option.same_Some}
+use Rattle.std.specs.{Option.option_map_or, Prelude.{AllPairs, find}}
 
 pub record KeepsRow (old new : ThreadRow) : Type 0 where
   pub row : IsThreadRow new

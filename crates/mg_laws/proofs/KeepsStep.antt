@@ -1,19 +1,10 @@
 -- A step from a well-formed state by a line in range gives a well-formed state, and so do all the lines of an input.
-use Rattle.std.proofs.Common.{ℕ, List, [], ◌∷◌, All}
-use Rattle.std.proofs.lemmas.Bool.{cond_both}
-use Rattle.std.proofs.lemmas.List.Elements.{All-head, All-tail}
-use Rattle.mg_model.specs.declared.calls.Call.{Call}
+use Rattle.{mg_laws.proofs.{KeepsBank.rent-keeps, KeepsTurn.{next-keeps, thread_call-keeps, turn-keeps}}, mg_model.specs.Refused.Answer}
+use Rattle.mg_model.specs.{State.State, Step.{after, of_thread, step, step_of}, Threads.is_thread, WellFormed.{HasRanges, IsInRange, IsWellFormed}}
+use Rattle.{mg_model.specs.{WellFormed.KeepsWellFormed, declared.{calls.{Call.Call, Line.Line}, replies.Reply.TheVariants.No}}, std.proofs.Common.ℕ}
+use Rattle.std.proofs.{Common.{List, [], ◌∷◌, All}, lemmas.{Bool.cond_both, List.Elements.{All-head, All-tail}}}
 use Rattle.mg_model.specs.declared.calls.Call.TheVariants as call
-use Rattle.mg_model.specs.declared.calls.Line.{Line}
 use Rattle.mg_model.specs.declared.replies.Refusal.TheVariants as refusal
-use Rattle.mg_model.specs.declared.replies.Reply.TheVariants.{No}
-use Rattle.mg_laws.proofs.KeepsBank.{rent-keeps}
-use Rattle.mg_laws.proofs.KeepsTurn.{next-keeps, thread_call-keeps, turn-keeps}
-use Rattle.mg_model.specs.Refused.{Answer}
-use Rattle.mg_model.specs.State.{State}
-use Rattle.mg_model.specs.Step.{after, of_thread, step, step_of}
-use Rattle.mg_model.specs.Threads.{is_thread}
-use Rattle.mg_model.specs.WellFormed.{HasRanges, IsInRange, IsWellFormed, KeepsWellFormed}
 
 of_thread-keeps : (state : State) (t : ℕ) (done : Answer) → IsWellFormed state → IsWellFormed done.0 → IsWellFormed (of_thread state t done).0
 of_thread-keeps state t done formed after = cond_both (is_thread state t) done (state, No refusal.NoThread) (λ (answer : Answer). IsWellFormed answer.0) (λ _. after) (λ _. formed)

@@ -1,25 +1,15 @@
 -- The calls that make, end and resume threads keep the state well formed.
-use Rattle.std.proofs.Common.{ℕ, ◌+◌, ◌-◌, ◌%◌, ◌^◌, ◌<◌, ◌≤◌, ◌≡◌, ◌≢◌, Bool, not, cond, eqb, leb, ltb, ◌||◌, List, [], ◌∷◌, length, filter, Option, Some, None, refl, sym, ap, ◌∙◌, subst, arith, All, AllPairs}
-use Rattle.std.proofs.lemmas.Bool.{cond_both, cond-false, eqb-false, eqb-true, leb-false, ltb-false, ltb-true, ne_eqb, or_parts, not-false}
-use Rattle.std.proofs.lemmas.List.Elements.{All-cons, All-filter, All-head, All-nil, All-replicate, All-tail, All-weaker}
-use Rattle.std.proofs.lemmas.List.Kept.{AllPairs-cons, AllPairs-filter}
-use Rattle.std.specs.Prelude.{find}
-use Rattle.std.specs.Option.{option_map_or}
-use Rattle.mg_model.specs.declared.rights.Right.TheVariants.{X}
-use Rattle.mg_model.specs.declared.threads.ThrState.TheVariants.{Ready}
-use Rattle.mg_model.specs.Abbreviations.{born, free_number}
-use Rattle.mg_model.specs.Access.{allowed, domain_of, thread_of}
-use Rattle.mg_model.specs.Domains.{row_of, with_thread}
-use Rattle.mg_laws.proofs.Keeps.{unless_refused-keeps}
-use Rattle.mg_laws.proofs.KeepsDomains.{aligned_from, domain_of-formed}
-use Rattle.mg_laws.proofs.KeepsRows.{IsBelow, found, thread-formed, thread_with_row, with_thread-keeps}
-use Rattle.mg_model.specs.KeptListLemmas.{AllPairs-head, AllPairs-nil, AllPairs-tail}
-use Rattle.mg_model.specs.ObjectCalls.{is_aligned}
-use Rattle.mg_laws.proofs.Passed.{unrefused}
-use Rattle.mg_model.specs.Ranges.{IsThreadRow, IsWord}
-use Rattle.mg_model.specs.State.{State, Thread, ThreadRow}
+use Rattle.mg_laws.proofs.{Keeps.unless_refused-keeps, KeepsDomains.{aligned_from, domain_of-formed}, KeepsRows.{IsBelow, found, thread-formed}}
+use Rattle.{mg_laws.proofs.{KeepsRows.{thread_with_row, with_thread-keeps}, Passed.unrefused}, mg_model.specs.Abbreviations.{born, free_number}}
+use Rattle.mg_model.specs.{Access.{allowed, domain_of, thread_of}, Domains.{row_of, with_thread}, KeptListLemmas.{AllPairs-head, AllPairs-nil}}
+use Rattle.mg_model.specs.{KeptListLemmas.AllPairs-tail, ObjectCalls.is_aligned, Ranges.{IsThreadRow, IsWord}, State.{State, Thread, ThreadRow}}
 use Rattle.mg_model.specs.Threads.{birth_of, end_thread, free_number_from, is_own, is_thread, make_thread, new_thread, resume, with_new_thread}
-use Rattle.mg_model.specs.WellFormed.{AreThreads, IsFirst, IsThread, IsWellFormed}
+use Rattle.mg_model.specs.{WellFormed.{AreThreads, IsFirst, IsThread, IsWellFormed}, declared.rights.Right.TheVariants.X}
+use Rattle.{mg_model.specs.declared.threads.ThrState.TheVariants.Ready, std.proofs.Common.{ℕ, ◌+◌, ◌-◌, ◌%◌, ◌^◌, ◌<◌, ◌≤◌, ◌≡◌, ◌≢◌, Bool, not}}
+use Rattle.std.proofs.Common.{cond, eqb, leb, ltb, ◌||◌, List, [], ◌∷◌, length, filter, Option, Some, None, refl, sym, ap, ◌∙◌, subst, arith, All}
+use Rattle.std.proofs.{Common.AllPairs, lemmas.Bool.{cond_both, cond-false, eqb-false, eqb-true, leb-false, ltb-false, ltb-true, ne_eqb, or_parts}}
+use Rattle.std.proofs.lemmas.{Bool.not-false, List.Elements.{All-cons, All-filter, All-head, All-nil, All-replicate, All-tail, All-weaker}}
+use Rattle.std.{proofs.lemmas.List.Kept.{AllPairs-cons, AllPairs-filter}, specs.{Option.option_map_or, Prelude.find}}
 
 -- the lowest number from n on that no thread has
 pub record IsFreeNumber (n : ℕ) (threads : List Thread) (number : ℕ) : Type 0 where

@@ -1,41 +1,25 @@
 -- A thread's calls and its turns keep the state well formed.
-use Rattle.std.proofs.Common.{ℕ, ◌+◌, ◌*◌, ◌%◌, ◌^◌, ◌≤◌, ◌≡◌, Bool, not, cond, eqb, ltb, ◌&&◌, All, ◌∷◌, length, Option, Some, None, refl, sym, ◌∙◌, subst, arith}
-use Rattle.std.proofs.lemmas.Bool.{cond_both}
-use Rattle.std.proofs.lemmas.List.Elements.{All-cons}
-use Rattle.std.proofs.lemmas.Option.{same_Some}
-use Rattle.std.proofs.Math.Nat.{mod-lt}
-use Rattle.std.specs.Option.{ForSome, option_map_or, option_or}
-use Rattle.mg_model.specs.declared.calls.Call.{Call}
+use Rattle.mg_laws.proofs.{Keeps.unless_refused-keeps, KeepsBank.{balance-keeps, open_account-keeps, pay-keeps}, KeepsCreate.create-keeps}
+use Rattle.mg_laws.proofs.{KeepsDomains.{apdadd-keeps, apddel-keeps, find-All, pdx-keeps, ret-keeps}, KeepsObjects.{delete-keeps, entry-keeps}}
+use Rattle.mg_laws.proofs.KeepsObjects.{ext-keeps, info-keeps, load-keeps, objects-keep, pwadd-keeps, pwdel-keeps, recharge-keeps, store-keeps}
+use Rattle.mg_laws.proofs.{KeepsRows.{KeepsRow, row-formed, with_thread-keeps}, KeepsThreads.{end_thread-keeps, make_thread-keeps, resume-keeps}}
+use Rattle.mg_laws.proofs.{KeptObjects.AreObjects-with_word, KeptRegisters.{HasImmediate, advanced-keeps, decoded-immediate, jumped-keeps}}
+use Rattle.mg_laws.proofs.KeptRegisters.{kept_register, kept_registers, kept_same, kept_state, refusal_number-word, register-word}
+use Rattle.{mg_laws.proofs.ReplyWords.{thread_call-words, word_at-word}, mg_model.specs.{Abbreviations.{advanced, refusal_number}, Access.allowed}}
+use Rattle.mg_model.specs.{Domains.{pdx, ret, row_of}, Objects.{with_word, word_at}, Ranges.{IsThreadRow, IsWord}, Refused.Answer, Script.decoded}
+use Rattle.mg_model.specs.{Script.{jumped, operand, register, with_register}, State.{State, Thread, ThreadRow}, Turn.{faulted, is_ready, next}}
+use Rattle.mg_model.specs.Turn.{picked, put_row, ready_above, run, run_next, run_word, with_answer, script_call, thread_call, turn, turn_state}
+use Rattle.mg_model.specs.{Turn.{turned, unless_faulted, values_of, with_registers}, WellFormed.{HasRanges, IsThread, IsWellFormed}}
+use Rattle.mg_model.specs.declared.{calls.Call.Call, instructions.Instr.Instr, replies.Reply.Reply, rights.Right.TheVariants.{R, W, X}}
+use Rattle.{mg_model.specs.declared.threads.{Fault.Fault, ThrState.TheVariants.{Faulted, Stopped}}, std.proofs.Common.{ℕ, ◌+◌, ◌*◌, ◌%◌, ◌^◌, ◌≤◌}}
+use Rattle.std.proofs.Common.{◌≡◌, Bool, not, cond, eqb, ltb, ◌&&◌, All, ◌∷◌, length, Option, Some, None, refl, sym, ◌∙◌, subst, arith}
+use Rattle.std.{proofs.{Math.Nat.mod-lt, lemmas.{Bool.cond_both, List.Elements.All-cons, Option.same_Some}}, specs.Option.{ForSome, option_map_or}}
+use Rattle.std.specs.Option.{option_or}
 use Rattle.mg_model.specs.declared.calls.Call.TheVariants as call
-use Rattle.mg_model.specs.declared.instructions.Instr.{Instr}
 use Rattle.mg_model.specs.declared.instructions.Instr.TheVariants as op
 use Rattle.mg_model.specs.declared.replies.Refusal.TheVariants as refusal
-use Rattle.mg_model.specs.declared.replies.Reply.{Reply}
 use Rattle.mg_model.specs.declared.replies.Reply.TheVariants as reply
-use Rattle.mg_model.specs.declared.rights.Right.TheVariants.{R, W, X}
-use Rattle.mg_model.specs.declared.threads.Fault.{Fault}
 use Rattle.mg_model.specs.declared.threads.Fault.TheVariants as fault
-use Rattle.mg_model.specs.declared.threads.ThrState.TheVariants.{Faulted, Stopped}
-use Rattle.mg_model.specs.Abbreviations.{advanced, refusal_number}
-use Rattle.mg_model.specs.Access.{allowed}
-use Rattle.mg_model.specs.Domains.{pdx, ret, row_of}
-use Rattle.mg_laws.proofs.Keeps.{unless_refused-keeps}
-use Rattle.mg_laws.proofs.KeepsDomains.{apdadd-keeps, apddel-keeps, find-All, pdx-keeps, ret-keeps}
-use Rattle.mg_laws.proofs.KeepsCreate.{create-keeps}
-use Rattle.mg_laws.proofs.KeepsObjects.{delete-keeps, entry-keeps, ext-keeps, info-keeps, load-keeps, objects-keep, pwadd-keeps, pwdel-keeps, recharge-keeps, store-keeps}
-use Rattle.mg_laws.proofs.KeepsRows.{KeepsRow, row-formed, with_thread-keeps}
-use Rattle.mg_laws.proofs.KeepsThreads.{end_thread-keeps, make_thread-keeps, resume-keeps}
-use Rattle.mg_laws.proofs.KeptObjects.{AreObjects-with_word}
-use Rattle.mg_laws.proofs.KeptRegisters.{HasImmediate, advanced-keeps, decoded-immediate, jumped-keeps, kept_register, kept_registers, kept_same, kept_state, refusal_number-word, register-word}
-use Rattle.mg_model.specs.Objects.{with_word, word_at}
-use Rattle.mg_model.specs.Ranges.{IsThreadRow, IsWord}
-use Rattle.mg_model.specs.Refused.{Answer}
-use Rattle.mg_laws.proofs.ReplyWords.{thread_call-words, word_at-word}
-use Rattle.mg_model.specs.Script.{decoded, jumped, operand, register, with_register}
-use Rattle.mg_model.specs.State.{State, Thread, ThreadRow}
-use Rattle.mg_laws.proofs.KeepsBank.{balance-keeps, open_account-keeps, pay-keeps}
-use Rattle.mg_model.specs.Turn.{faulted, is_ready, next, picked, put_row, ready_above, run, run_next, run_word, with_answer, script_call, thread_call, turn, turn_state, turned, unless_faulted, values_of, with_registers}
-use Rattle.mg_model.specs.WellFormed.{HasRanges, IsThread, IsWellFormed}
 
 pub thread_call-keeps : (state : State) (t : ℕ) (made : Call) → IsWellFormed state → HasRanges made → IsWellFormed (thread_call state t made).0
 thread_call-keeps state t (call.Load a) formed ranges = load-keeps state t a formed

@@ -1,15 +1,9 @@
 -- What an edit of the accounts keeps: each is well formed, and what one account gives another gets.
-use Rattle.std.proofs.Common.{◌≡◌, ℕ, zero, suc, ◌+◌, ◌-◌, ◌≤◌, ◌==◌, Bool, true, false, List, [], ◌∷◌, length, get_or, sum_by, All, Option, Some, None, is_some, refl, ap, subst, arith}
-use Rattle.std.proofs.lemmas.List.{length-set}
-use Rattle.std.proofs.lemmas.List.Elements.{All-set}
-use Rattle.std.proofs.lemmas.List.Sums.{sum_by-set}
-use Rattle.std.proofs.lemmas.Option.{slice_get-get_or}
+use Rattle.mg_model.specs.{Abbreviations.with_account, AccountLemmas.{IsRowOf, account_of-row, some_value}, Bank.{account_of, balance_of, credited}}
+use Rattle.{mg_model.specs.{Bank.{opens, debited}, WellFormed.IsAccount, declared.accounts.AccRow.AccRow}, std.proofs.Common.{◌≡◌, ℕ, zero, suc, ◌+◌}}
+use Rattle.std.proofs.Common.{◌-◌, ◌≤◌, ◌==◌, Bool, true, false, List, [], ◌∷◌, length, get_or, sum_by, All, Option, Some, None, is_some, refl, ap}
+use Rattle.std.proofs.{Common.{subst, arith}, lemmas.{List.{length-set, Elements.All-set, Sums.sum_by-set}, Option.slice_get-get_or}}
 use Rattle.std.specs.Option.{option_map_or}
-use Rattle.mg_model.specs.AccountLemmas.{IsRowOf, account_of-row, some_value}
-use Rattle.mg_model.specs.declared.accounts.AccRow.{AccRow}
-use Rattle.mg_model.specs.Abbreviations.{with_account}
-use Rattle.mg_model.specs.Bank.{account_of, balance_of, credited, opens, debited}
-use Rattle.mg_model.specs.WellFormed.{IsAccount}
 
 -- each number up to their count is an account's
 pub account_of-there : (accounts : List AccRow) (number : ℕ) → 1 ≤ number → number ≤ length accounts → is_some (account_of accounts number) ≡ true

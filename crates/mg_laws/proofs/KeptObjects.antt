@@ -1,18 +1,12 @@
 -- What an edit of the objects keeps: each is well formed, they are in order and apart, and they fit.
-use Rattle.std.proofs.Common.{◌≡◌, ℕ, suc, ◌+◌, ◌/◌, ◌<◌, ◌≤◌, ◌-◌, ◌==◌, nat_lt, if◌then◌else◌, true, not, List, [], ◌∷◌, map, length, slice_set, All, AllPairs, refl, ap, arith}
-use Rattle.std.proofs.lemmas.Bool.{cond_both, eqb-true, ltb-false, ltb-true}
-use Rattle.std.proofs.lemmas.List.{length-map, length-set}
-use Rattle.std.proofs.lemmas.List.Elements.{All-cons, All-filter, All-head, All-nil, All-set, All-tail, All-weaker}
-use Rattle.std.proofs.lemmas.List.Kept.{AllPairs-cons, AllPairs-filter}
+use Rattle.{mg_laws.proofs.Lowest.{IsApart, is_free-true}, mg_model.specs.{Access.covers, Bank.used, KeptListLemmas.{All-both, All-change}}}
+use Rattle.mg_model.specs.KeptListLemmas.{AllPairs-change, AllPairs-head, AllPairs-tail, length-filter-le, sum_by-change, sum_by-filter-le}
+use Rattle.mg_model.specs.{Objects.{is_free, page_of, with_object, with_row, with_word, without_object}, Ranges.{IsObjectRow, IsWord}, State.Object}
+use Rattle.{mg_model.specs.{State.ObjectRow, WellFormed.{AreObjects, IsBefore, IsObject}}, std.proofs.Common.{◌≡◌, ℕ, suc, ◌+◌, ◌/◌, ◌<◌, ◌≤◌, ◌-◌}}
+use Rattle.std.proofs.Common.{◌==◌, nat_lt, if◌then◌else◌, true, not, List, [], ◌∷◌, map, length, slice_set, All, AllPairs, refl, ap, arith}
+use Rattle.std.proofs.lemmas.{Bool.{cond_both, eqb-true, ltb-false, ltb-true}, List.{length-map, length-set, Elements.{All-cons, All-filter}}}
+use Rattle.std.proofs.lemmas.List.{Elements.{All-head, All-nil, All-set, All-tail, All-weaker}, Kept.{AllPairs-cons, AllPairs-filter}}
 use Rattle.std.proofs.lemmas.List.Sums.{sum_by-cons}
-use Rattle.mg_model.specs.Access.{covers}
-use Rattle.mg_model.specs.Bank.{used}
-use Rattle.mg_model.specs.KeptListLemmas.{All-both, All-change, AllPairs-change, AllPairs-head, AllPairs-tail, length-filter-le, sum_by-change, sum_by-filter-le}
-use Rattle.mg_laws.proofs.Lowest.{IsApart, is_free-true}
-use Rattle.mg_model.specs.Objects.{is_free, page_of, with_object, with_row, with_word, without_object}
-use Rattle.mg_model.specs.Ranges.{IsObjectRow, IsWord}
-use Rattle.mg_model.specs.State.{Object, ObjectRow}
-use Rattle.mg_model.specs.WellFormed.{AreObjects, IsBefore, IsObject}
 
 -- one object more: what holds of it and of the others
 All-with_object : (P : Object → Type 0) (new : Object) (objects : List Object) → P new → All P objects → All P (with_object new objects)

@@ -1,22 +1,12 @@
 -- An instruction keeps a thread's row in its rules: registers stay words, and the pc the address of a word.
-use Rattle.std.proofs.Common.{ℕ, ◌+◌, ◌/◌, ◌%◌, ◌^◌, ◌<◌, ◌≡◌, Bool, true, false, eqb, ltb, List, [], ◌∷◌, get_or, Option, Some, refl, ◌∙◌, subst, arith, All, length-set}
-use Rattle.std.proofs.lemmas.Bool.{cases_lt, cond_both}
-use Rattle.std.proofs.lemmas.List.{get_or_past}
-use Rattle.std.proofs.lemmas.List.Elements.{All-get_or, All-head, All-set, All-tail}
-use Rattle.std.proofs.lemmas.Option.{same_Some}
-use Rattle.std.proofs.Math.Nat.{mod-lt}
-use Rattle.std.specs.Option.{ForSome}
-use Rattle.mg_model.specs.declared.instructions.Instr.{Instr}
+use Rattle.{mg_laws.proofs.KeepsRows.KeepsRow, mg_model.specs.{Abbreviations.{advanced, refusal_number}, Ranges.{IsThreadRow, IsWord}}}
+use Rattle.mg_model.specs.{Script.{decoded, instruction_of, jump_by, jumped, register, where_so, with_register, word_end}, State.ThreadRow}
+use Rattle.mg_model.specs.{Turn.with_registers, declared.{instructions.Instr.Instr, replies.Refusal.Refusal, threads.ThrState.ThrState}}
+use Rattle.std.proofs.Common.{ℕ, ◌+◌, ◌/◌, ◌%◌, ◌^◌, ◌<◌, ◌≡◌, Bool, true, false, eqb, ltb, List, [], ◌∷◌, get_or, Option, Some, refl, ◌∙◌, subst}
+use Rattle.std.proofs.{Common.{arith, All, length-set}, Math.Nat.mod-lt, lemmas.{Bool.{cases_lt, cond_both}, List.{get_or_past, Elements.All-get_or}}}
+use Rattle.std.{proofs.lemmas.{List.Elements.{All-head, All-set, All-tail}, Option.same_Some}, specs.Option.ForSome}
 use Rattle.mg_model.specs.declared.instructions.Instr.TheVariants as op
-use Rattle.mg_model.specs.declared.replies.Refusal.{Refusal}
 use Rattle.mg_model.specs.declared.replies.Refusal.TheVariants as refusal
-use Rattle.mg_model.specs.declared.threads.ThrState.{ThrState}
-use Rattle.mg_laws.proofs.KeepsRows.{KeepsRow}
-use Rattle.mg_model.specs.Abbreviations.{advanced, refusal_number}
-use Rattle.mg_model.specs.Ranges.{IsThreadRow, IsWord}
-use Rattle.mg_model.specs.Script.{decoded, instruction_of, jump_by, jumped, register, where_so, with_register, word_end}
-use Rattle.mg_model.specs.State.{ThreadRow}
-use Rattle.mg_model.specs.Turn.{with_registers}
 
 -- a number in a list of words, also past its end
 pub word-in_list : (words : List ℕ) (k : ℕ) → All IsWord words → IsWord (get_or words k 0)

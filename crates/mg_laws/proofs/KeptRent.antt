@@ -1,18 +1,10 @@
 -- What a collection of rent keeps: no balance is lost, and no account owes more than its periods make.
-use Rattle.std.proofs.Common.{◌≡◌, ℕ, zero, suc, ◌+◌, ◌*◌, ◌^◌, ◌<◌, ◌≤◌, ◌==◌, nat_le, nat_lt, ◌&&◌, Bool, true, cond, List, [], ◌∷◌, length, All, refl, ap, sym, subst, arith}
-use Rattle.std.proofs.lemmas.Bool.{cond_both}
-use Rattle.std.proofs.lemmas.List.Elements.{All-cons, All-from_get_or, All-head, All-nil, All-tail}
-use Rattle.std.proofs.lemmas.List.Sums.{sum_by-cons}
-use Rattle.std.proofs.lemmas.Nat.{mul-le}
-use Rattle.mg_model.specs.declared.accounts.AccRow.{AccRow}
-use Rattle.mg_model.specs.Bank.{all_charged, all_paid, charged, paid, pages_of, rate_of, used}
-use Rattle.mg_model.specs.StepwiseLemmas.{from_at, rate_at, rate_from, rate_of-from}
-use Rattle.mg_laws.proofs.KeptAccounts.{total}
-use Rattle.mg_model.specs.KeptListLemmas.{sum_by-filter-le}
-use Rattle.mg_model.specs.State.{Object}
-use Rattle.mg_model.specs.Limits.{step_limit}
-use Rattle.mg_model.specs.Tariff.{is_tariff}
-use Rattle.mg_model.specs.WellFormed.{IsAccount}
+use Rattle.{mg_laws.proofs.KeptAccounts.total, mg_model.specs.Bank.{all_charged, all_paid, charged, paid, pages_of, rate_of, used}}
+use Rattle.mg_model.specs.{KeptListLemmas.sum_by-filter-le, Limits.step_limit, State.Object, StepwiseLemmas.{from_at, rate_at, rate_from}}
+use Rattle.mg_model.specs.{StepwiseLemmas.rate_of-from, Tariff.is_tariff, WellFormed.IsAccount, declared.accounts.AccRow.AccRow}
+use Rattle.std.proofs.Common.{◌≡◌, ℕ, zero, suc, ◌+◌, ◌*◌, ◌^◌, ◌<◌, ◌≤◌, ◌==◌, nat_le, nat_lt, ◌&&◌, Bool, true, cond, List, [], ◌∷◌, length, All}
+use Rattle.std.proofs.{Common.{refl, ap, sym, subst, arith}, lemmas.{Bool.cond_both, List.Elements.{All-cons, All-from_get_or, All-head, All-nil}}}
+use Rattle.std.proofs.lemmas.{List.{Elements.All-tail, Sums.sum_by-cons}, Nat.mul-le}
 
 -- no rate of these steps is above the limit
 abbrev pub AreRates : List (ℕ × ℕ) → Type 0

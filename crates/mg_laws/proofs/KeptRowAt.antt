@@ -1,15 +1,9 @@
 -- The row that an address names belongs to one object alone, so a change of it keeps the objects well formed.
-use Rattle.std.proofs.Common.{◌≡◌, ◌≢◌, ℕ, List, [], ◌∷◌, length, All, AllPairs, Option, Some, refl, sym, arith}
-use Rattle.std.proofs.lemmas.Bool.{cond_both}
-use Rattle.std.proofs.lemmas.List.Elements.{All-cons, All-head, All-nil, All-tail, All-weaker}
-use Rattle.std.specs.Option.{option_map_or}
-use Rattle.mg_model.specs.Access.{at, covers}
-use Rattle.mg_model.specs.KeptListLemmas.{All-both, AllPairs-head, AllPairs-tail}
-use Rattle.mg_laws.proofs.KeptObjects.{AreObjects-with_row, HasPlaceOf, IsPaidRow, are-IsPaidRow}
-use Rattle.mg_model.specs.Abbreviations.{no_row}
-use Rattle.mg_model.specs.ObjectCalls.{row_at, with_row_at}
-use Rattle.mg_model.specs.State.{Object, ObjectRow, State}
-use Rattle.mg_model.specs.WellFormed.{AreObjects, IsBefore, IsObject, IsWellFormed}
+use Rattle.{mg_laws.proofs.KeptObjects.{AreObjects-with_row, HasPlaceOf, IsPaidRow, are-IsPaidRow}, mg_model.specs.{Abbreviations.no_row, Access.at}}
+use Rattle.mg_model.specs.{Access.covers, KeptListLemmas.{All-both, AllPairs-head, AllPairs-tail}, ObjectCalls.{row_at, with_row_at}, State.Object}
+use Rattle.{mg_model.specs.{State.{ObjectRow, State}, WellFormed.{AreObjects, IsBefore, IsObject, IsWellFormed}}, std.proofs.Common.{◌≡◌, ◌≢◌, ℕ}}
+use Rattle.std.proofs.{Common.{List, [], ◌∷◌, length, All, AllPairs, Option, Some, refl, sym, arith}, lemmas.{Bool.cond_both, List.Elements.All-cons}}
+use Rattle.std.{proofs.lemmas.List.Elements.{All-head, All-nil, All-tail, All-weaker}, specs.Option.option_map_or}
 
 -- the row of an object, if there is one
 abbrev row_in : Option Object → ObjectRow

@@ -1,17 +1,10 @@
 -- From one access to a line: accesses one after another, each with its own rule, keep the rules of a line.
-use Rattle.std.proofs.Common.{ℕ, ◌≡◌, ◌≤◌, ◌+◌, ◌*◌, Bool, true, false, cond, List, [], ◌∷◌, ◌++◌, Option, Some, None, refl, sym, ap, ◌∙◌, arith, append-nil}
-use Rattle.std.proofs.lemmas.Bool.{and_from, and_parts, cond_both, false≢true}
-use Rattle.std.proofs.lemmas.Option.{none-some}
-use Rattle.std.specs.Option.{option_to_list}
-use Rattle.mg_laws.proofs.KeysSeats.{has_seat-append, is_key-same, last_is_kept}
-use Rattle.mg_laws.specs.Costs.{LimitGoesOn, RulesGoOn, SearchesGoOn, SearchesKeepRules}
-use Rattle.mg_model.specs.Abbreviations.{is_allowed}
-use Rattle.mg_model.specs.Accesses.{Access}
-use Rattle.mg_model.specs.Keys.{Key, first_at, has_seat, is_elsewhere, key_of, seat_of, taken, taken_by}
-use Rattle.mg_model.specs.Kept.{KeepsKeys, Searches, Validates, is_known, is_served, searches_limit}
-use Rattle.mg_model.specs.Limits.{search_limit}
-use Rattle.mg_model.specs.State.{State}
-use Rattle.mg_model.specs.Warmth.{failing}
+use Rattle.mg_laws.{proofs.KeysSeats.{has_seat-append, is_key-same, last_is_kept}, specs.Costs.{LimitGoesOn, RulesGoOn, SearchesGoOn}}
+use Rattle.{mg_laws.specs.Costs.SearchesKeepRules, mg_model.specs.{Abbreviations.is_allowed, Accesses.Access, Kept.{KeepsKeys, Searches, Validates}}}
+use Rattle.mg_model.specs.{Kept.{is_known, is_served, searches_limit}, Keys.{Key, first_at, has_seat, is_elsewhere, key_of, seat_of, taken, taken_by}}
+use Rattle.{mg_model.specs.{Limits.search_limit, State.State, Warmth.failing}, std.proofs.Common.{ℕ, ◌≡◌, ◌≤◌, ◌+◌, ◌*◌, Bool, true, false, cond}}
+use Rattle.std.proofs.{Common.{List, [], ◌∷◌, ◌++◌, Option, Some, None, refl, sym, ap, ◌∙◌, arith, append-nil}, lemmas.Bool.{and_from, and_parts}}
+use Rattle.std.{proofs.lemmas.{Bool.{cond_both, false≢true}, Option.none-some}, specs.Option.option_to_list}
 
 -- One access
 

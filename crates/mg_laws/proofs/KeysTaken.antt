@@ -1,13 +1,9 @@
 -- A key is recent exactly if an earlier line took it, nothing disturbed since, and no other key took its seat since.
-use Rattle.std.proofs.Common.{arith}
-use Rattle.std.proofs.Common.{◌≡◌, true, List, [], ◌∷◌, ◌++◌, Option, Some, None, refl, sym, ap, ◌∙◌, All, append_assoc}
-use Rattle.std.proofs.lemmas.Bool.{cond-false, cond_both}
-use Rattle.std.proofs.lemmas.List.Elements.{All-cons, All-head, All-nil, All-tail}
-use Rattle.std.proofs.lemmas.Option.{none-some}
-use Rattle.std.specs.Option.{option_or}
 use Rattle.mg_laws.proofs.KeysSeats.{elsewhere-has_seat, first-append, first-splits, is_last, last_is, none-elsewhere, seat-first, splits-first}
-use Rattle.mg_model.specs.Keys.{Key, first_at, has_seat, seat_of}
-use Rattle.mg_model.specs.Warmth.{Event, DisturbsNothing, TellsTaken, WasTaken, is_disturbing, is_recent, recent, taken_in}
+use Rattle.mg_model.specs.{Keys.{Key, first_at, has_seat, seat_of}, Warmth.{Event, DisturbsNothing, TellsTaken, WasTaken, is_disturbing, is_recent}}
+use Rattle.{mg_model.specs.Warmth.{recent, taken_in}, std.proofs.Common.{arith, ◌≡◌, true, List, [], ◌∷◌, ◌++◌, Option, Some, None, refl, sym, ap}}
+use Rattle.std.proofs.{Common.{◌∙◌, All, append_assoc}, lemmas.{Bool.{cond-false, cond_both}, List.Elements.{All-cons, All-head, All-nil, All-tail}}}
+use Rattle.std.{proofs.lemmas.Option.none-some, specs.Option.option_or}
 
 -- the key has its seat now
 abbrev IsLast : List Event → Key → Type 0

@@ -1,13 +1,7 @@
 -- The number of a new thread: no thread has it, and each lower one is some thread's.
-use Rattle.std.proofs.Common.{ℕ, ◌+◌, ◌≤◌, ◌≡◌, ◌≢◌, eqb, List, [], ◌∷◌, Some, None, refl, arith, All}
-use Rattle.std.proofs.lemmas.Bool.{cond_both, eqb-false, eqb-true}
-use Rattle.std.proofs.lemmas.List.Elements.{All-cons, All-head, All-nil, All-tail}
-use Rattle.std.specs.Prelude.{find}
-use Rattle.mg_laws.proofs.KeepsThreads.{free_number-free}
-use Rattle.mg_laws.specs.Laws.{TakesLeastNumber}
-use Rattle.mg_model.specs.Abbreviations.{free_number}
-use Rattle.mg_model.specs.State.{Thread}
-use Rattle.mg_model.specs.Threads.{free_number_from}
+use Rattle.{mg_laws.{proofs.KeepsThreads.free_number-free, specs.Laws.TakesLeastNumber}, mg_model.specs.{Abbreviations.free_number, State.Thread}}
+use Rattle.{mg_model.specs.Threads.free_number_from, std.proofs.Common.{ℕ, ◌+◌, ◌≤◌, ◌≡◌, ◌≢◌, eqb, List, [], ◌∷◌, Some, None, refl, arith, All}}
+use Rattle.std.{proofs.lemmas.{Bool.{cond_both, eqb-false, eqb-true}, List.Elements.{All-cons, All-head, All-nil, All-tail}}, specs.Prelude.find}
 
 -- the thread has another number
 abbrev Differs : ℕ → Thread → Type 0

@@ -1,22 +1,13 @@
 -- The lines of any input have their arguments in range.
-use Rattle.std.proofs.Common.{ℕ, ◌+◌, ◌/◌, ◌%◌, ◌≤◌, ◌≡◌, ◌≢◌, ◌==◌, cond, eqb, ltb, List, [], ◌∷◌, length, Option, Some, None, refl, subst, sym, arith, All}
-use Rattle.std.proofs.lemmas.Bool.{cases_lt, cond_both, eqb-false, leb-true, ltb-true}
-use Rattle.std.proofs.lemmas.List.{get_or_past}
-use Rattle.std.proofs.lemmas.List.Elements.{All-cons, All-nil}
-use Rattle.std.proofs.lemmas.Option.{same_Some}
-use Rattle.std.specs.Prelude.{option_map, slice_index}
-use Rattle.std.specs.List.{cons_option, filter_map, slice_split}
-use Rattle.std.specs.Option.{ForSome, option_map_or}
-use Rattle.mg_model.specs.declared.calls.Call.{Call}
-use Rattle.mg_model.specs.declared.calls.Call.TheVariants as call
-use Rattle.mg_model.specs.declared.calls.Line.{Line}
-use Rattle.mg_model.specs.Abbreviations.{below_word, is_among, lone_words, pdx_of}
-use Rattle.mg_model.specs.Lines.{CallRow, bad_line, call_by, call_line, call_table, exactly, form, form_pwadd, line_of, line_of_words, line_with, lines, pwadd_of, spelled_line, thread_line}
-use Rattle.mg_model.specs.Ranges.{IsWord}
-use Rattle.mg_model.specs.Rights.{IsRights}
-use Rattle.mg_model.specs.WellFormed.{HasRanges, IsInRange}
+use Rattle.mg_model.specs.{Abbreviations.{below_word, is_among, lone_words, pdx_of}, Lines.{CallRow, bad_line, call_by, call_line, call_table}}
+use Rattle.mg_model.specs.Lines.{exactly, form, form_pwadd, line_of, line_of_words, line_with, lines, pwadd_of, spelled_line, thread_line}
+use Rattle.mg_model.specs.{Ranges.IsWord, Rights.IsRights, StepwiseLemmas.{rights_from, rights_of-from}, WellFormed.{HasRanges, IsInRange}}
 use Rattle.mg_model.specs.Words.{and_then, hex_part, is_newline, letter_weight, number_of, numbers_of, rights_of, same_bytes, value_of_digits, words}
-use Rattle.mg_model.specs.StepwiseLemmas.{rights_from, rights_of-from}
+use Rattle.{mg_model.specs.declared.calls.{Call.Call, Line.Line}, std.proofs.Common.{ℕ, ◌+◌, ◌/◌, ◌%◌, ◌≤◌, ◌≡◌, ◌≢◌, ◌==◌, cond, eqb, ltb, List, []}}
+use Rattle.std.proofs.{Common.{◌∷◌, length, Option, Some, None, refl, subst, sym, arith, All}, lemmas.Bool.{cases_lt, cond_both, eqb-false, leb-true}}
+use Rattle.std.{proofs.lemmas.{Bool.ltb-true, List.{get_or_past, Elements.{All-cons, All-nil}}, Option.same_Some}, specs.List.cons_option}
+use Rattle.std.specs.{List.{filter_map, slice_split}, Option.{ForSome, option_map_or}, Prelude.{option_map, slice_index}}
+use Rattle.mg_model.specs.declared.calls.Call.TheVariants as call
 
 -- a fact of each result for a value holds for the result of an option
 and_then-some : {X Y : Type 0} (Q : Y → Type 0) (o : Option X) (f : X → Option Y) → ((x : X) → o ≡ Some x → ForSome (f x) Q) → ForSome (and_then o f) Q

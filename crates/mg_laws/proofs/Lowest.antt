@@ -1,16 +1,11 @@
 -- The lowest free pages: they exist, they meet no object, and no lower pages meet none.
-use Rattle.std.proofs.Common.{◌≡◌, ℕ, ◌+◌, ◌*◌, ◌<◌, ◌≤◌, ◌⊎◌, Bool, true, min, List, [], ◌∷◌, map, filter, length, All, AllPairs, inl, inr, arith}
-use Rattle.std.proofs.lemmas.Bool.{cases_lt, cond_both, le-leb, leb-true, or_cases, or_left, or_right}
-use Rattle.std.proofs.lemmas.List.Elements.{All-cons, All-filter, All-head, All-nil, All-tail, All-weaker, filter_passes}
-use Rattle.std.proofs.lemmas.List.Sums.{AllPass-from_list_all, list_all-from_AllPass, sum_by-cons}
-use Rattle.mg_model.specs.Abbreviations.{is_apart, least}
-use Rattle.mg_model.specs.Bank.{used}
-use Rattle.mg_model.specs.KeptListLemmas.{All-both, All-change, All-unmap, AllPairs-head, AllPairs-tail}
-use Rattle.mg_laws.specs.Laws.{IsLowest}
-use Rattle.mg_model.specs.Limits.{first_page, page_end}
-use Rattle.mg_model.specs.Objects.{is_free, lowest_free, page_behind, page_of}
-use Rattle.mg_model.specs.State.{Object}
-use Rattle.mg_model.specs.WellFormed.{AreObjects, IsBefore, IsObject}
+use Rattle.{mg_laws.specs.Laws.IsLowest, mg_model.specs.{Abbreviations.{is_apart, least}, Bank.used, KeptListLemmas.{All-both, All-change}}}
+use Rattle.mg_model.specs.{KeptListLemmas.{All-unmap, AllPairs-head, AllPairs-tail}, Limits.{first_page, page_end}, Objects.{is_free, lowest_free}}
+use Rattle.{mg_model.specs.{Objects.{page_behind, page_of}, State.Object, WellFormed.{AreObjects, IsBefore, IsObject}}, std.proofs.Common.{◌≡◌, ℕ}}
+use Rattle.std.proofs.Common.{◌+◌, ◌*◌, ◌<◌, ◌≤◌, ◌⊎◌, Bool, true, min, List, [], ◌∷◌, map, filter, length, All, AllPairs, inl, inr, arith}
+use Rattle.std.proofs.lemmas.{Bool.{cases_lt, cond_both, le-leb, leb-true, or_cases, or_left, or_right}, List.Elements.{All-cons, All-filter}}
+use Rattle.std.proofs.lemmas.List.{Elements.{All-head, All-nil, All-tail, All-weaker, filter_passes}, Sums.AllPass-from_list_all}
+use Rattle.std.proofs.lemmas.List.Sums.{list_all-from_AllPass, sum_by-cons}
 
 -- the n pages from this one on are before the object or after it
 abbrev pub IsApart : ℕ → ℕ → Object → Type 0

@@ -1,16 +1,11 @@
 -- The pages that a new object takes, by addresses: no object covers an address there, and each lower place has an address
 -- that an object covers.
-use Rattle.std.proofs.Common.{◌≡◌, ℕ, ◌+◌, ◌*◌, ◌<◌, ◌≤◌, nat_le, nat_lt, true, false, List, [], ◌∷◌, get_or, length, All, Some, None, refl, sym, ◌∙◌, inl, inr, arith}
+use Rattle.mg_laws.{proofs.{KeepsCreate.frames-few, Lowest.{IsApart, apart-is_free, is_free-true, lowest_free-exists}}, specs.Laws.MeetsNone}
+use Rattle.{mg_laws.specs.Laws.TakesLowest, mg_model.specs.{Access.{at, covers}, KeptListLemmas.All-both, Objects.{is_free, lowest_free}}}
+use Rattle.{mg_model.specs.{Objects.{page_behind, page_of}, State.Object, WellFormed.IsObject}, std.proofs.Common.{◌≡◌, ℕ, ◌+◌, ◌*◌, ◌<◌, ◌≤◌}}
+use Rattle.std.proofs.Common.{nat_le, nat_lt, true, false, List, [], ◌∷◌, get_or, length, All, Some, None, refl, sym, ◌∙◌, inl, inr, arith}
 use Rattle.std.proofs.lemmas.Bool.{and_from, and_left, and_right, cases_lt, cond_both, false≢true, le-leb, le-ltb, lt-leb, lt-ltb}
 use Rattle.std.proofs.lemmas.List.Elements.{All-cons, All-head, All-nil, All-tail}
-use Rattle.mg_model.specs.Access.{at, covers}
-use Rattle.mg_laws.proofs.KeepsCreate.{frames-few}
-use Rattle.mg_model.specs.KeptListLemmas.{All-both}
-use Rattle.mg_laws.specs.Laws.{MeetsNone, TakesLowest}
-use Rattle.mg_laws.proofs.Lowest.{IsApart, apart-is_free, is_free-true, lowest_free-exists}
-use Rattle.mg_model.specs.Objects.{is_free, lowest_free, page_behind, page_of}
-use Rattle.mg_model.specs.State.{Object}
-use Rattle.mg_model.specs.WellFormed.{IsObject}
 
 -- no object covers the address
 abbrev Misses : ℕ → Object → Type 0

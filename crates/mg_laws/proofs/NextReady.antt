@@ -1,16 +1,10 @@
 -- The thread that `next` runs is the least Ready one above the cursor, or else the least Ready one.
-use Rattle.std.proofs.Common.{ℕ, ◌<◌, ◌≤◌, ◌≡◌, ◌≢◌, ◌&&◌, Bool, true, false, eqb, ltb, List, [], ◌∷◌, Option, Some, None, refl, sym, ap, ◌∙◌, subst, arith, All, AllPairs}
-use Rattle.std.proofs.lemmas.Bool.{and_parts, and_from, cond_both, cond-false, cond-true, eq-eqb, eqb-true, false≢true, ltb-false, ltb-true, ne_eqb}
-use Rattle.std.proofs.lemmas.List.Elements.{All-head, All-tail}
-use Rattle.std.specs.Prelude.{find}
-use Rattle.std.specs.Option.{option_map_or, option_or}
-use Rattle.mg_laws.proofs.KeepsRows.{IsBelow}
-use Rattle.mg_laws.specs.Laws.{RanNext, RunsNextReady}
-use Rattle.mg_model.specs.Access.{thread_of}
-use Rattle.mg_model.specs.KeptListLemmas.{AllPairs-head, AllPairs-tail}
-use Rattle.mg_model.specs.State.{State, Thread, ThreadRow}
-use Rattle.mg_model.specs.Turn.{is_ready, next, ready_above, run_next, thread_is_ready}
-use Rattle.mg_model.specs.WellFormed.{IsWellFormed}
+use Rattle.{mg_laws.{proofs.KeepsRows.IsBelow, specs.Laws.{RanNext, RunsNextReady}}, mg_model.specs.{Access.thread_of, KeptListLemmas.AllPairs-head}}
+use Rattle.mg_model.specs.{KeptListLemmas.AllPairs-tail, State.{State, Thread, ThreadRow}, Turn.{is_ready, next, ready_above, run_next}}
+use Rattle.{mg_model.specs.{Turn.thread_is_ready, WellFormed.IsWellFormed}, std.proofs.Common.{ℕ, ◌<◌, ◌≤◌, ◌≡◌, ◌≢◌, ◌&&◌, Bool, true, false, eqb}}
+use Rattle.std.proofs.{Common.{ltb, List, [], ◌∷◌, Option, Some, None, refl, sym, ap, ◌∙◌, subst, arith, All, AllPairs}, lemmas.Bool.and_parts}
+use Rattle.std.proofs.lemmas.Bool.{and_from, cond_both, cond-false, cond-true, eq-eqb, eqb-true, false≢true, ltb-false, ltb-true, ne_eqb}
+use Rattle.std.{proofs.lemmas.List.Elements.{All-head, All-tail}, specs.{Option.{option_map_or, option_or}, Prelude.find}}
 
 abbrev ready_of : Option Thread → Bool
 ready_of found = option_map_or (λ (thread : Thread). is_ready thread.row.state) found false

@@ -1,25 +1,13 @@
 -- A line that is refused leaves the state as it was.
-use Rattle.std.proofs.Common.{arith}
-use Rattle.std.proofs.Common.{ℕ, ◌+◌, ◌-◌, ◌*◌, ◌≡◌, length, Option, Some, None, refl}
+use Rattle.{mg_laws.specs.Laws.RefusedLeaves, mg_model.specs.{Abbreviations.{free_number, unless_refused}, Access.domain_of, Bank.balance_of}}
+use Rattle.mg_model.specs.{Bank.{owed_by, pages_of, rate_now, rent_paid}, Domains.frames_of, ObjectCalls.{about, next_password, row_at}}
+use Rattle.mg_model.specs.{Objects.{lowest_free, word_at}, Refused.Answer, State.{State, Thread}, Step.{of_thread, step, step_of}, Turn.after_of}
+use Rattle.mg_model.specs.{Turn.{picked, run_next, thread_call, turn, turn_state}, declared.{calls.Call.Call, replies.{Refusal.Refusal, Reply.Reply}}}
+use Rattle.{mg_model.specs.declared.threads.After.After, std.proofs.Common.{arith, ℕ, ◌+◌, ◌-◌, ◌*◌, ◌≡◌, length, Option, Some, None, refl}}
 use Rattle.std.proofs.lemmas.Bool.{cond_both}
-use Rattle.mg_model.specs.declared.calls.Call.{Call}
 use Rattle.mg_model.specs.declared.calls.Call.TheVariants as call
-use Rattle.mg_model.specs.declared.threads.After.{After}
-use Rattle.mg_model.specs.declared.replies.Refusal.{Refusal}
 use Rattle.mg_model.specs.declared.replies.Refusal.TheVariants as refusal
-use Rattle.mg_model.specs.declared.replies.Reply.{Reply}
 use Rattle.mg_model.specs.declared.replies.Reply.TheVariants as reply
-use Rattle.mg_model.specs.Abbreviations.{free_number, unless_refused}
-use Rattle.mg_model.specs.Access.{domain_of}
-use Rattle.mg_model.specs.Bank.{balance_of, owed_by, pages_of, rate_now, rent_paid}
-use Rattle.mg_model.specs.Domains.{frames_of}
-use Rattle.mg_laws.specs.Laws.{RefusedLeaves}
-use Rattle.mg_model.specs.ObjectCalls.{about, next_password, row_at}
-use Rattle.mg_model.specs.Objects.{lowest_free, word_at}
-use Rattle.mg_model.specs.Refused.{Answer}
-use Rattle.mg_model.specs.State.{State, Thread}
-use Rattle.mg_model.specs.Step.{of_thread, step, step_of}
-use Rattle.mg_model.specs.Turn.{after_of, picked, run_next, thread_call, turn, turn_state}
 
 -- an answer that is no refusal
 pub record IsOk (answer : Reply) : Type 0 where

@@ -1,39 +1,18 @@
 -- The values of each reply to a thread are numbers of 64 bits, so they fit its registers.
-use Rattle.std.proofs.Common.{ℕ, zero, suc, ◌+◌, ◌-◌, ◌*◌, ◌/◌, ◌^◌, ◌<◌, ◌≤◌, ◌≡◌, not, leb, ◌||◌, List, [], ◌∷◌, length, get_or, filter, map, min, Option, Some, None, refl, ap, subst, arith, All}
-use Rattle.std.proofs.lemmas.Bool.{and_parts, cond_both, leb-false, leb-true, or_parts}
-use Rattle.std.proofs.lemmas.List.Elements.{All-cons, All-nil}
-use Rattle.std.proofs.lemmas.List.Sums.{get_or-le-sum_by}
-use Rattle.std.proofs.lemmas.Option.{get_or_from_slice_get, slice_get_within}
-use Rattle.std.specs.Prelude.{slice_get}
-use Rattle.std.specs.Option.{option_map_or}
-use Rattle.mg_model.specs.declared.accounts.AccRow.{AccRow}
-use Rattle.mg_model.specs.declared.calls.Call.{Call}
+use Rattle.mg_laws.proofs.{KeepsDomains.{domain_of-formed, find-All}, KeepsRows.thread-formed, KeepsThreads.free_number-free}
+use Rattle.{mg_laws.proofs.{KeptRegisters.word-in_list, Passed.unrefused}, mg_model.specs.Abbreviations.{free_number, least, no_row, unless_refused}}
+use Rattle.mg_model.specs.{Access.{allowed, at, covers, domain_of, thread_of}, Bank.{balance_of, owed_by, pages_of}, BankCalls.balance}
+use Rattle.mg_model.specs.{Domains.frames_of, DrawnLemmas.drawn-IsWord, KeptListLemmas.sum_by-filter-le, Limits.{first_page, page_end}}
+use Rattle.mg_model.specs.{ObjectCalls.{about, create, entry, info, is_aligned, next_password, row_at}, Objects.{is_free, lowest_free, page_behind}}
+use Rattle.mg_model.specs.{Objects.word_at, Ranges.IsWord, Refused.Answer, State.{Object, ObjectRow, State, Thread}, Threads.make_thread}
+use Rattle.mg_model.specs.{Turn.{thread_call, values_of}, WellFormed.{AreAccounts, IsAccount, IsObject, IsWellFormed}}
+use Rattle.mg_model.specs.declared.{accounts.AccRow.AccRow, calls.Call.Call, replies.{Refusal.Refusal, Reply.{Reply, TheVariants.{Count, Done}}}}
+use Rattle.{mg_model.specs.declared.{replies.Reply.TheVariants.{Funds, Made, Opened, Value}, rights.Right.TheVariants.O}, std.proofs.Common.{ℕ, zero}}
+use Rattle.std.proofs.Common.{suc, ◌+◌, ◌-◌, ◌*◌, ◌/◌, ◌^◌, ◌<◌, ◌≤◌, ◌≡◌, not, leb, ◌||◌, List, [], ◌∷◌, length, get_or, filter, map, min, Option}
+use Rattle.std.proofs.{Common.{Some, None, refl, ap, subst, arith, All}, lemmas.Bool.{and_parts, cond_both, leb-false, leb-true, or_parts}}
+use Rattle.std.proofs.lemmas.{List.{Elements.{All-cons, All-nil}, Sums.get_or-le-sum_by}, Option.{get_or_from_slice_get, slice_get_within}}
+use Rattle.std.specs.{Option.option_map_or, Prelude.slice_get}
 use Rattle.mg_model.specs.declared.calls.Call.TheVariants as call
-use Rattle.mg_model.specs.declared.replies.Refusal.{Refusal}
-use Rattle.mg_model.specs.declared.replies.Reply.{Reply}
-use Rattle.mg_model.specs.declared.replies.Reply.TheVariants.{Count, Done, Funds, Made, Opened, Value}
-use Rattle.mg_model.specs.declared.rights.Right.TheVariants.{O}
-use Rattle.mg_model.specs.Abbreviations.{free_number, least, no_row, unless_refused}
-use Rattle.mg_model.specs.Access.{allowed, at, covers, domain_of, thread_of}
-use Rattle.mg_model.specs.Bank.{balance_of, owed_by, pages_of}
-use Rattle.mg_model.specs.BankCalls.{balance}
-use Rattle.mg_model.specs.Domains.{frames_of}
-use Rattle.mg_model.specs.DrawnLemmas.{drawn-IsWord}
-use Rattle.mg_laws.proofs.KeepsDomains.{domain_of-formed, find-All}
-use Rattle.mg_laws.proofs.KeepsRows.{thread-formed}
-use Rattle.mg_laws.proofs.KeepsThreads.{free_number-free}
-use Rattle.mg_model.specs.KeptListLemmas.{sum_by-filter-le}
-use Rattle.mg_laws.proofs.KeptRegisters.{word-in_list}
-use Rattle.mg_model.specs.ObjectCalls.{about, create, entry, info, is_aligned, next_password, row_at}
-use Rattle.mg_model.specs.Limits.{first_page, page_end}
-use Rattle.mg_model.specs.Objects.{is_free, lowest_free, page_behind, word_at}
-use Rattle.mg_laws.proofs.Passed.{unrefused}
-use Rattle.mg_model.specs.Ranges.{IsWord}
-use Rattle.mg_model.specs.Refused.{Answer}
-use Rattle.mg_model.specs.State.{Object, ObjectRow, State, Thread}
-use Rattle.mg_model.specs.Threads.{make_thread}
-use Rattle.mg_model.specs.Turn.{thread_call, values_of}
-use Rattle.mg_model.specs.WellFormed.{AreAccounts, IsAccount, IsObject, IsWellFormed}
 
 -- the values of a reply are words
 pub record HasWords (answer : Reply) : Type 0 where

@@ -1,34 +1,18 @@
 -- A thread's row may be replaced before a call of the thread or after it.
-use Rattle.std.proofs.Common.{ℕ, suc, ◌+◌, ◌++◌, ◌<◌, ◌≡◌, ◌≢◌, Bool, true, false, cond, eqb, not, List, [], ◌∷◌, filter, get_or, length, map, Option, Some, None, refl, sym, ap, ◌∙◌, subst, arith, ◌*◌}
-use Rattle.std.proofs.lemmas.Bool.{cond_both, cond-false, eqb-true, ne_eqb}
-use Rattle.std.proofs.lemmas.List.{length-map}
-use Rattle.std.proofs.lemmas.Option.{same_Some}
+use Rattle.mg_laws.proofs.{Finds.{find-map, read-map}, KeepsRows.{IsBelow, changed, changed-number}, LeastNumber.free_number-least}
+use Rattle.{mg_laws.specs.Scripts.{IsRowOf, RestsOnNoRegister, is_by_script, with_frames_of}, mg_model.specs.Abbreviations.{born, free_number}}
+use Rattle.mg_model.specs.{Abbreviations.unless_refused, Access.{domain_of, thread_of}, Bank.{balance_of, credited, owed_by, pages_of, debited}}
+use Rattle.mg_model.specs.{Domains.{row_of, with_last_slots, with_slots, with_thread}, KeptListLemmas.{AllPairs-head, AllPairs-tail}, Limits.never}
+use Rattle.mg_model.specs.{ObjectCalls.{about, drawn, extension_of, has_password, next_password, row_at, with_entry, with_row_at}, Objects.with_word}
+use Rattle.mg_model.specs.{Objects.{without_object, word_at, lowest_free, new_object, with_object}, Refused.Answer, State.{State, Thread, ThreadRow}}
+use Rattle.mg_model.specs.{Threads.{birth_of, creator_of, free_number_from, is_thread, new_thread, with_new_thread}, Turn.thread_call}
+use Rattle.mg_model.specs.{WellFormed.IsWellFormed, declared.{calls.Call.Call, replies.{Refusal.Refusal, Reply.Reply}, slots.Slot.Slot}}
+use Rattle.{mg_model.specs.declared.threads.ThrState.TheVariants.Ready, std.proofs.Common.{ℕ, suc, ◌+◌, ◌++◌, ◌<◌, ◌≡◌, ◌≢◌, Bool, true, false, cond}}
+use Rattle.std.proofs.Common.{eqb, not, List, [], ◌∷◌, filter, get_or, length, map, Option, Some, None, refl, sym, ap, ◌∙◌, subst, arith, ◌*◌}
+use Rattle.std.{proofs.lemmas.{Bool.{cond_both, cond-false, eqb-true, ne_eqb}, List.length-map, Option.same_Some}, specs.Option.option_map_or}
 use Rattle.std.specs.Prelude.{AllPairs, find, option_map, unwrap_or}
-use Rattle.std.specs.Option.{option_map_or}
-use Rattle.mg_laws.proofs.Finds.{find-map, read-map}
-use Rattle.mg_laws.proofs.KeepsRows.{IsBelow, changed, changed-number}
-use Rattle.mg_laws.proofs.LeastNumber.{free_number-least}
-use Rattle.mg_laws.specs.Scripts.{IsRowOf, RestsOnNoRegister, is_by_script, with_frames_of}
-use Rattle.mg_model.specs.declared.calls.Call.{Call}
 use Rattle.mg_model.specs.declared.calls.Call.TheVariants as call
-use Rattle.mg_model.specs.declared.replies.Refusal.{Refusal}
-use Rattle.mg_model.specs.declared.replies.Reply.{Reply}
 use Rattle.mg_model.specs.declared.replies.Reply.TheVariants as reply
-use Rattle.mg_model.specs.declared.slots.Slot.{Slot}
-use Rattle.mg_model.specs.declared.threads.ThrState.TheVariants.{Ready}
-use Rattle.mg_model.specs.Abbreviations.{born, free_number, unless_refused}
-use Rattle.mg_model.specs.Access.{domain_of, thread_of}
-use Rattle.mg_model.specs.Bank.{balance_of, credited, owed_by, pages_of, debited}
-use Rattle.mg_model.specs.Limits.{never}
-use Rattle.mg_model.specs.ObjectCalls.{about, drawn, extension_of, has_password, next_password, row_at, with_entry, with_row_at}
-use Rattle.mg_model.specs.Objects.{with_word, without_object, word_at, lowest_free, new_object, with_object}
-use Rattle.mg_model.specs.Domains.{row_of, with_last_slots, with_slots, with_thread}
-use Rattle.mg_model.specs.KeptListLemmas.{AllPairs-head, AllPairs-tail}
-use Rattle.mg_model.specs.Refused.{Answer}
-use Rattle.mg_model.specs.State.{State, Thread, ThreadRow}
-use Rattle.mg_model.specs.Threads.{birth_of, creator_of, free_number_from, is_thread, new_thread, with_new_thread}
-use Rattle.mg_model.specs.Turn.{thread_call}
-use Rattle.mg_model.specs.WellFormed.{IsWellFormed}
 
 -- Two changes of threads, in either order.
 either : (t : ℕ) (g : ThreadRow → ThreadRow) (x : Thread) (v : Bool) → eqb x.number t ≡ v → changed t g x ≡ cond v (record x { row = g x.row }) x

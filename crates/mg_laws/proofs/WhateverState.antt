@@ -1,29 +1,15 @@
 -- A line that is no turn gets the same answer whatever the state of any thread is.
-use Rattle.std.proofs.Common.{arith}
-use Rattle.std.proofs.Common.{ℕ, ◌+◌, ◌-◌, ◌*◌, ◌≡◌, Bool, true, false, cond, eqb, List, [], ◌∷◌, length, map, is_some, Option, Some, None, refl}
-use Rattle.std.proofs.lemmas.List.{length-map}
-use Rattle.std.specs.Prelude.{find}
-use Rattle.std.specs.Option.{option_map_or}
-use Rattle.mg_model.specs.declared.calls.Call.{Call}
+use Rattle.mg_laws.{proofs.KeepsRows.{changed, changed-number}, specs.Laws.{AnswersWhateverState, as_state, is_turn}}
+use Rattle.mg_model.specs.{Abbreviations.{free_number, unless_refused}, Access.{domain_of, last_slots}, Bank.{balance_of, owed_by, pages_of}}
+use Rattle.mg_model.specs.{Bank.{rate_now, rent_paid}, BankCalls.rent, Domains.{frames_of, pdx}, ObjectCalls.{about, next_password, row_at}}
+use Rattle.mg_model.specs.{Objects.{lowest_free, word_at}, Refused.Answer, State.{State, Thread}, Step.{of_thread, step, step_of}, Threads.birth_of}
+use Rattle.mg_model.specs.{Threads.{creator_of, end_thread, free_number_from, is_thread, make_thread, resume}, Turn.thread_call}
+use Rattle.{mg_model.specs.declared.{calls.Call.Call, replies.Refusal.Refusal, threads.ThrState.ThrState}, std.proofs.Common.{arith, ℕ, ◌+◌, ◌-◌}}
+use Rattle.std.proofs.Common.{◌*◌, ◌≡◌, Bool, true, false, cond, eqb, List, [], ◌∷◌, length, map, is_some, Option, Some, None, refl}
+use Rattle.std.{proofs.lemmas.List.length-map, specs.{Option.option_map_or, Prelude.find}}
 use Rattle.mg_model.specs.declared.calls.Call.TheVariants as call
-use Rattle.mg_model.specs.declared.replies.Refusal.{Refusal}
 use Rattle.mg_model.specs.declared.replies.Refusal.TheVariants as refusal
 use Rattle.mg_model.specs.declared.replies.Reply.TheVariants as reply
-use Rattle.mg_model.specs.declared.threads.ThrState.{ThrState}
-use Rattle.mg_model.specs.Abbreviations.{free_number, unless_refused}
-use Rattle.mg_model.specs.Access.{domain_of, last_slots}
-use Rattle.mg_model.specs.Bank.{balance_of, owed_by, pages_of, rate_now, rent_paid}
-use Rattle.mg_model.specs.BankCalls.{rent}
-use Rattle.mg_model.specs.Domains.{frames_of, pdx}
-use Rattle.mg_laws.proofs.KeepsRows.{changed, changed-number}
-use Rattle.mg_laws.specs.Laws.{AnswersWhateverState, as_state, is_turn}
-use Rattle.mg_model.specs.ObjectCalls.{about, next_password, row_at}
-use Rattle.mg_model.specs.Objects.{lowest_free, word_at}
-use Rattle.mg_model.specs.Refused.{Answer}
-use Rattle.mg_model.specs.State.{State, Thread}
-use Rattle.mg_model.specs.Step.{of_thread, step, step_of}
-use Rattle.mg_model.specs.Threads.{birth_of, creator_of, end_thread, free_number_from, is_thread, make_thread, resume}
-use Rattle.mg_model.specs.Turn.{thread_call}
 
 -- the answer of a row is a function of its refusals and of its reply
 same_answer : (refused : Option Refusal) (s new : State) (done other : Answer) → done.1 ≡ other.1 → (unless_refused refused s done).1 ≡ (unless_refused refused new other).1

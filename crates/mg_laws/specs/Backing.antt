@@ -1,17 +1,10 @@
 -- Laws on what a seat of the validation cache rests on.
-use Rattle.std.specs.Prelude.{◌≡◌, ℕ, Bool, true, Contains, Some, ◌&&◌, ◌==◌}
-use Rattle.std.specs.List.{list_any}
-use Rattle.mg_model.specs.declared.calls.Call.{Call}
-use Rattle.mg_model.specs.declared.calls.Line.{Line}
-use Rattle.mg_model.specs.declared.rights.Right.{Right}
-use Rattle.mg_model.specs.declared.seats.Seat.{Seat}
-use Rattle.mg_model.specs.declared.slots.Slot.{Slot}
-use Rattle.mg_model.specs.Access.{at, domain_of, pairs_under, holds}
-use Rattle.mg_model.specs.Backed.{IsBacked, KeepsBacked, by_list, by_none, by_via, by_word, ended_by, ended_by_call}
-use Rattle.mg_model.specs.Domains.{row_of, with_thread}
-use Rattle.mg_model.specs.Objects.{with_row, without_object}
-use Rattle.mg_model.specs.State.{Object, ObjectRow, State, ThreadRow}
-use Rattle.mg_model.specs.WellFormed.{IsWellFormed}
+use Rattle.std.specs.{List.list_any, Prelude.{◌≡◌, ℕ, Bool, true, Contains, Some, ◌&&◌, ◌==◌}}
+use Rattle.mg_model.specs.{Access.{at, domain_of, pairs_under, holds}, Backed.{IsBacked, KeepsBacked, by_list, by_none}}
+use Rattle.mg_model.specs.{Backed.{by_via, by_word, ended_by, ended_by_call}, Domains.{row_of, with_thread}}
+use Rattle.mg_model.specs.{Objects.{with_row, without_object}, State.{Object, ObjectRow, State, ThreadRow}}
+use Rattle.mg_model.specs.{WellFormed.IsWellFormed, declared.{calls.{Call.Call, Line.Line}, rights.Right.Right}}
+use Rattle.mg_model.specs.declared.{seats.Seat.Seat, slots.Slot.Slot}
 
 -- a line leaves each seat backed that was backed, except those that it ends
 abbrev pub StepsKeepBacked : (State → Line → State) → Type 0

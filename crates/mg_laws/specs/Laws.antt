@@ -1,23 +1,12 @@
 -- Laws of the machine, as statements on its steps, its access and its input.
 use Rattle.std.specs.Prelude.{◌≡◌, ◌<◌, ◌≤◌, ◌+◌, ◌*◌, ℕ, Bool, true, false, List, All, None}
-use Rattle.mg_model.specs.declared.calls.Call.{Call}
-use Rattle.mg_model.specs.declared.calls.Call.TheVariants as call
-use Rattle.mg_model.specs.declared.calls.Line.{Line}
-use Rattle.mg_model.specs.declared.replies.Refusal.{Refusal}
-use Rattle.mg_model.specs.declared.replies.Refusal.TheVariants.{Idle}
-use Rattle.mg_model.specs.declared.replies.Reply.{Reply}
-use Rattle.mg_model.specs.declared.replies.Reply.TheVariants.{No, Ran}
-use Rattle.mg_model.specs.declared.rights.Right.{Right}
+use Rattle.mg_model.specs.{Access.{at, domain_of, thread_of}, Domains.with_thread, Limits.{first_page, page_end}}
+use Rattle.mg_model.specs.{Objects.is_free, Refused.Answer, Settings.Settings, State.{Object, State, Thread}}
+use Rattle.mg_model.specs.{Turn.thread_is_ready, WellFormed.{AreObjects, IsInRange, IsSettings, IsWellFormed}}
+use Rattle.mg_model.specs.declared.{calls.{Call.Call, Line.Line}, replies.Refusal.{Refusal, TheVariants.Idle}}
+use Rattle.mg_model.specs.declared.{replies.Reply.{Reply, TheVariants.{No, Ran}}, rights.Right.Right}
 use Rattle.mg_model.specs.declared.threads.ThrState.{ThrState}
-use Rattle.mg_model.specs.Access.{at, domain_of, thread_of}
-use Rattle.mg_model.specs.Domains.{with_thread}
-use Rattle.mg_model.specs.Limits.{first_page, page_end}
-use Rattle.mg_model.specs.Objects.{is_free}
-use Rattle.mg_model.specs.Refused.{Answer}
-use Rattle.mg_model.specs.Settings.{Settings}
-use Rattle.mg_model.specs.State.{Object, State, Thread}
-use Rattle.mg_model.specs.Turn.{thread_is_ready}
-use Rattle.mg_model.specs.WellFormed.{AreObjects, IsInRange, IsSettings, IsWellFormed}
+use Rattle.mg_model.specs.declared.calls.Call.TheVariants as call
 
 -- the state of settings within their limits is well formed
 abbrev pub BeginsWellFormed : (Settings → State) → Type 0

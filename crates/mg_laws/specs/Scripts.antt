@@ -1,13 +1,8 @@
 -- A law on calls that a script makes.
 use Rattle.std.specs.Prelude.{◌≡◌, ℕ, Bool, true, false, Some}
-use Rattle.mg_model.specs.declared.calls.Call.{Call}
+use Rattle.mg_model.specs.{Domains.{row_of, with_thread}, Refused.Answer, State.{State, ThreadRow}, Turn.put_row}
+use Rattle.mg_model.specs.{WellFormed.IsWellFormed, declared.{calls.Call.Call, threads.ThrState.TheVariants.Ready}}
 use Rattle.mg_model.specs.declared.calls.Call.TheVariants as call
-use Rattle.mg_model.specs.declared.threads.ThrState.TheVariants.{Ready}
-use Rattle.mg_model.specs.Domains.{row_of, with_thread}
-use Rattle.mg_model.specs.Refused.{Answer}
-use Rattle.mg_model.specs.State.{State, ThreadRow}
-use Rattle.mg_model.specs.Turn.{put_row}
-use Rattle.mg_model.specs.WellFormed.{IsWellFormed}
 
 -- whether a script's registers can spell the call; a script enters and leaves objects by instructions of its own
 abbrev pub is_by_script : Call → Bool

@@ -1,13 +1,8 @@
 -- Which blocks such an image has.
-use Rattle.std.specs.Prelude.{◌≡◌, ◌≢◌, ℕ, zero, suc, ◌+◌, ◌<◌, ◌≤◌, IsTrue, length}
-use Rattle.std.proofs.Common.{refl, sym, ap, ◌∙◌, arith, add-one}
-use Rattle.std.proofs.lemmas.Bool.Decides.{nat_tests}
-use Rattle.std.proofs.lemmas.List.{get_or-set_other, get_or-set_same, length-set}
-use Rattle.mg_disk.specs.Disk.{Image, block_at}
-use Rattle.mg_model.specs.Layout.{first_frame, super_block}
-use Rattle.mg_model.specs.Settings.{Settings}
-use Rattle.mg_layout.specs.FreshBelow.{fresh_until, with_block}
-use Rattle.mg_layout.specs.FreshImage.{fresh_bytes, is_written}
+use Rattle.{mg_disk.specs.Disk.{Image, block_at}, mg_layout.specs.{FreshBelow.{fresh_until, with_block}, FreshImage.{fresh_bytes, is_written}}}
+use Rattle.{mg_model.specs.{Layout.{first_frame, super_block}, Settings.Settings}, std.proofs.Common.{refl, sym, ap, ◌∙◌, arith, add-one}}
+use Rattle.std.{proofs.lemmas.{Bool.Decides.nat_tests, List.{get_or-set_other, get_or-set_same, length-set}}, specs.Prelude.{◌≡◌, ◌≢◌, ℕ, zero, suc}}
+use Rattle.std.specs.Prelude.{◌+◌, ◌<◌, ◌≤◌, IsTrue, length}
 
 pub until-none : (settings : Settings) (image : Image) → fresh_until settings 0 image ≡ image
 unfolding fresh_until

@@ -1,20 +1,11 @@
 -- Images that are no volume, and what they spell.
-use Rattle.std.proofs.Common.{rules}
-use Rattle.std.proofs.lemmas.Bool.Decides.{nat_tests}
-use Rattle.std.specs.Prelude.{◌≡◌, ◌⊎◌, Bool, ℕ, zero, suc, ◌+◌, ◌<◌, ◌≤◌, nat_le, true, false, List, if◌then◌else◌, length, Some, None}
-use Rattle.std.specs.Option.{option_map_or}
-use Rattle.std.proofs.Common.{refl, ap, ◌∙◌, arith}
-use Rattle.std.proofs.lemmas.Bool.{and_left, and_right, cases_eq, false_from_ne_true, lt-leb}
-use Rattle.mg_model.specs.Bytes.{bytes_at, number_at}
-use Rattle.mg_model.specs.Layout.{body_limit, magic, segment_count, super_block, total_blocks, version}
-use Rattle.mg_model.specs.Abbreviations.{segments_fit, writes_since}
-use Rattle.mg_model.specs.Replay.{block_of, body_count, is_open, replay, segment_fits, written}
-use Rattle.mg_model.specs.Settings.{Settings}
-use Rattle.mg_model.specs.Spelling.{are_settings, super_bytes, super_fields, super_read, Spells}
-use Rattle.mg_model.specs.SuperblockLemmas.{super_read-bad, super_read-old}
-use Rattle.mg_model.specs.Volume.{Damaged, OldVolume, replayed_volume, volume, volume_behind, IsOpened}
-use Rattle.mg_model.specs.VolumeLemmas.{volume-opened}
-use Rattle.mg_model.specs.Words.{same_bytes}
+use Rattle.mg_model.specs.{Abbreviations.{segments_fit, writes_since}, Bytes.{bytes_at, number_at}, Layout.{body_limit, magic, segment_count}}
+use Rattle.mg_model.specs.{Layout.{super_block, total_blocks, version}, Replay.{block_of, body_count, is_open, replay, segment_fits, written}}
+use Rattle.mg_model.specs.{Settings.Settings, Spelling.{are_settings, super_bytes, super_fields, super_read, Spells}, SuperblockLemmas.super_read-bad}
+use Rattle.mg_model.specs.{SuperblockLemmas.super_read-old, Volume.{Damaged, OldVolume, replayed_volume, volume, volume_behind, IsOpened}}
+use Rattle.{mg_model.specs.{VolumeLemmas.volume-opened, Words.same_bytes}, std.proofs.{Common.{rules, refl, ap, ◌∙◌, arith}, lemmas.Bool.and_left}}
+use Rattle.std.{proofs.lemmas.Bool.{and_right, cases_eq, false_from_ne_true, lt-leb, Decides.nat_tests}, specs.{Option.option_map_or, Prelude.◌≡◌}}
+use Rattle.std.specs.Prelude.{◌⊎◌, Bool, ℕ, zero, suc, ◌+◌, ◌<◌, ◌≤◌, nat_le, true, false, List, if◌then◌else◌, length, Some, None}
 
 pub old_version : (image : List (List ℕ)) → IsOpened image → same_bytes magic (bytes_at (block_of image super_block) 0 8) ≡ true → number_at (block_of image super_block) 8 < version → volume image ≡ OldVolume
 old_version image opened begins older = volume-opened image opened ∙ ap (volume_behind image) (super_read-old (block_of image super_block) begins older)

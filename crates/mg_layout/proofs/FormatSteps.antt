@@ -1,25 +1,13 @@
 -- The steps of making a volume, from the gate closed to the gate open.
-use Rattle.std.specs.Prelude.{◌≡◌, ◌≢◌, ℕ, ◌+◌, ◌≤◌, IsTrue, List, [], ◌∷◌, drop, length, option_map, replicate, slice_set, Option, Some, None}
-use Rattle.std.specs.Option.{ForSome}
-use Rattle.std.proofs.Common.{refl, inl, sym, ap, subst, ◌∙◌, arith}
-use Rattle.std.proofs.lemmas.Bool.Decides.{nat_tests}
-use Rattle.std.proofs.lemmas.List.{get_or-set_other, get_or-set_same, length-set}
-use Rattle.mg_disk.specs.Disk.{Image, SameBut, only_place}
-use Rattle.mg_disk.specs.Runs.{from_then, from_wider}
-use Rattle.mg_disk.specs.Stops.{FromLeft, Leaves, NothingPending}
-use Rattle.mg_disk.specs.declared.disk.Disk.{Ghosts}
-use Rattle.mg_model.specs.Fresh.{fresh}
-use Rattle.mg_model.specs.Layout.{first_frame, gate_block, gate_open, total_blocks}
-use Rattle.mg_model.specs.Replay.{block_of}
-use Rattle.mg_model.specs.Settings.{Settings, within_limits}
-use Rattle.mg_model.specs.Volume.{Is, NotVolume, VolumeRead, volume, gate_byte}
-use Rattle.mg_model.specs.VolumeLemmas.{volume-closed, volume-same_behind, volume-short}
-use Rattle.mg_model.specs.WellFormed.{IsSettings}
-use Rattle.mg_layout.proofs.BlocksBelow.{length-until, until-block, until-more, until-none, written-low}
-use Rattle.mg_layout.specs.FreshBelow.{fresh_until, with_block}
-use Rattle.mg_layout.specs.FreshImage.{IsFreshImage, gate_bytes}
-use Rattle.mg_layout.proofs.FreshVolume.{fresh_volume}
-use Rattle.mg_layout.specs.MayFormat.{IsNoState, MayFormat, ReadsFresh, opened}
+use Rattle.mg_disk.specs.{Disk.{Image, SameBut, only_place}, Runs.{from_then, from_wider}, Stops.{FromLeft, Leaves, NothingPending}}
+use Rattle.{mg_disk.specs.declared.disk.Disk.Ghosts, mg_layout.proofs.BlocksBelow.{length-until, until-block, until-more, until-none, written-low}}
+use Rattle.mg_layout.{proofs.FreshVolume.fresh_volume, specs.{FreshBelow.{fresh_until, with_block}, FreshImage.{IsFreshImage, gate_bytes}}}
+use Rattle.{mg_layout.specs.MayFormat.{IsNoState, MayFormat, ReadsFresh, opened}, mg_model.specs.{Fresh.fresh, Layout.{first_frame, gate_block}}}
+use Rattle.mg_model.specs.{Layout.{gate_open, total_blocks}, Replay.block_of, Settings.{Settings, within_limits}, Volume.{Is, NotVolume, VolumeRead}}
+use Rattle.mg_model.specs.{Volume.{volume, gate_byte}, VolumeLemmas.{volume-closed, volume-same_behind, volume-short}, WellFormed.IsSettings}
+use Rattle.std.proofs.{Common.{refl, inl, sym, ap, subst, ◌∙◌, arith}, lemmas.{Bool.Decides.nat_tests, List.{get_or-set_other, get_or-set_same}}}
+use Rattle.std.{proofs.lemmas.List.length-set, specs.{Option.ForSome, Prelude.{◌≡◌, ◌≢◌, ℕ, ◌+◌, ◌≤◌, IsTrue, List, [], ◌∷◌, drop, length}}}
+use Rattle.std.specs.Prelude.{option_map, replicate, slice_set, Option, Some, None}
 
 pub map_none : (settings : Settings) (o : Option Image) → o ≡ option_map (fresh_until settings 0) o
 map_none settings None = refl

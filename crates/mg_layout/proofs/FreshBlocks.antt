@@ -1,12 +1,8 @@
 -- Each block of a fresh volume by its number.
-use Rattle.std.specs.Prelude.{◌≡◌, ◌≢◌, ℕ, ◌≤◌, ◌==◌, if◌then◌else◌, replicate}
-use Rattle.std.proofs.Common.{refl, arith}
-use Rattle.std.proofs.lemmas.Bool.{eq-eqb, ne_eqb}
-use Rattle.mg_model.specs.Layout.{first_account_block, first_frame, first_object_block, first_thread_block, gate_block, globals_block, super_block, table_block}
-use Rattle.mg_model.specs.Settings.{Settings}
-use Rattle.mg_model.specs.Spelling.{globals_bytes, super_bytes}
-use Rattle.mg_model.specs.State.{State}
 use Rattle.mg_layout.specs.FreshImage.{accounts_bytes, block_bytes, frame_bytes, gate_bytes, objects_bytes, table_bytes, threads_bytes}
+use Rattle.mg_model.specs.Layout.{first_account_block, first_frame, first_object_block, first_thread_block, gate_block, globals_block, super_block}
+use Rattle.{mg_model.specs.{Layout.table_block, Settings.Settings, Spelling.{globals_bytes, super_bytes}, State.State}, std.proofs.Common.refl}
+use Rattle.std.{proofs.{Common.arith, lemmas.Bool.{eq-eqb, ne_eqb}}, specs.Prelude.{◌≡◌, ◌≢◌, ℕ, ◌≤◌, ◌==◌, if◌then◌else◌, replicate}}
 
 module _ (settings : Settings) (state : State) where
   pub at_gate : block_bytes settings state gate_block ≡ gate_bytes

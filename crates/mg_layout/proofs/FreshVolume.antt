@@ -1,33 +1,24 @@
 -- A fresh image has the fresh state as its volume.
-use Rattle.std.proofs.Common.{rules}
-use Rattle.std.specs.Prelude.{◌≡◌, ℕ, zero, suc, ◌+◌, ◌-◌, ◌*◌, ◌/◌, ◌%◌, ◌^◌, ◌<◌, ◌≤◌, ◌==◌, true, false, cond, not, IsTrue, All, List, [], ◌∷◌, ◌++◌, drop, filter, length, position, replicate, take, Some, None}
-use Rattle.std.specs.Option.{option_map_or}
-use Rattle.std.proofs.Common.{refl, sym, ap, ◌∙◌, ⊎_elim, arith, add-zero, zero-add}
-use Rattle.std.proofs.lemmas.Bool.{and_from, cases_lt, eq-eqb, le-leb, lt-ltb, or_left, or_right}
-use Rattle.std.proofs.lemmas.Bool.Decides.{nat_tests}
-use Rattle.std.proofs.lemmas.List.{append-nil, length-replicate, replicate-append-replicate, take-replicate}
-use Rattle.std.proofs.lemmas.List.Elements.{All-cons, All-replicate}
-use Rattle.std.proofs.lemmas.Nat.{from_le_bytes-to_le_bytes_8}
-use Rattle.mg_model.specs.declared.accounts.AccRow.{AccRow}
-use Rattle.mg_model.specs.Abbreviations.{account_row_bytes, object_row_bytes, table_entries, thread_row_bytes, whole_table, word_bytes}
-use Rattle.mg_model.specs.Bytes.{are_zeros, block_words, padded_to, words_bytes}
-use Rattle.mg_model.specs.BytesLemmas.{length-words_bytes, padded_to-full}
-use Rattle.mg_model.specs.Draw.{password_drawn}
-use Rattle.mg_model.specs.DrawnLemmas.{drawn-IsWord}
-use Rattle.mg_model.specs.Fresh.{first_thread, fresh, root_base, root_object, root_words}
-use Rattle.mg_model.specs.Layout.{first_account_block, first_frame, first_object_block, first_thread_block, globals_block, segment_count, segment_gate, super_block, table_block, table_blocks}
-use Rattle.mg_model.specs.Limits.{first_page, account_limit, thread_limit, object_limit}
-use Rattle.mg_model.specs.Ranges.{IsWord}
-use Rattle.mg_model.specs.Replay.{block_of, is_open}
-use Rattle.mg_model.specs.RowLemmas.{account-live, account_fields-written, are_zeros-drop, are_zeros-replicate, block_words-words, globals-read, live_rows-first, object-live, read-free, table_entries-zeros, thread-live, words_bytes-zeros, zeros-behind, zeros-in}
-use Rattle.mg_model.specs.Settings.{Settings}
-use Rattle.mg_model.specs.Spelling.{account_bytes, account_fields, account_read, globals_bytes, globals_fields, globals_read, object_bytes, object_read, super_read, Spells, thread_bytes, thread_fields, thread_read}
-use Rattle.mg_model.specs.SuperblockLemmas.{super_read-written}
-use Rattle.mg_model.specs.Volume.{Is, live_rows, page_words, replayed_volume, rows_of, state_fits, state_spelled, volume}
-use Rattle.mg_model.specs.VolumeLemmas.{rows-read, rows_with, settled-closed, state_with, volume-opened}
-use Rattle.mg_model.specs.WellFormed.{IsSettings}
 use Rattle.mg_layout.proofs.FreshBlocks.{IsOther, at_accounts, at_frame, at_globals, at_objects, at_other, at_super, at_table, at_threads}
 use Rattle.mg_layout.specs.FreshImage.{IsFreshImage, frame_bytes, fresh_bytes, is_written, table_bytes}
+use Rattle.mg_model.specs.Abbreviations.{account_row_bytes, object_row_bytes, table_entries, thread_row_bytes, whole_table, word_bytes}
+use Rattle.mg_model.specs.{Bytes.{are_zeros, block_words, padded_to, words_bytes}, BytesLemmas.{length-words_bytes, padded_to-full}}
+use Rattle.mg_model.specs.{Draw.password_drawn, DrawnLemmas.drawn-IsWord, Fresh.{first_thread, fresh, root_base, root_object, root_words}}
+use Rattle.mg_model.specs.Layout.{first_account_block, first_frame, first_object_block, first_thread_block, globals_block, segment_count}
+use Rattle.mg_model.specs.{Layout.{segment_gate, super_block, table_block, table_blocks}, Limits.{first_page, account_limit, thread_limit}}
+use Rattle.mg_model.specs.{Limits.object_limit, Ranges.IsWord, Replay.{block_of, is_open}, RowLemmas.{account-live, account_fields-written}}
+use Rattle.mg_model.specs.RowLemmas.{are_zeros-drop, are_zeros-replicate, block_words-words, globals-read, live_rows-first, object-live, read-free}
+use Rattle.mg_model.specs.{RowLemmas.{table_entries-zeros, thread-live, words_bytes-zeros, zeros-behind, zeros-in}, Settings.Settings}
+use Rattle.mg_model.specs.Spelling.{account_bytes, account_fields, account_read, globals_bytes, globals_fields, globals_read, object_bytes}
+use Rattle.mg_model.specs.{Spelling.{object_read, super_read, Spells, thread_bytes, thread_fields, thread_read}, SuperblockLemmas.super_read-written}
+use Rattle.mg_model.specs.{Volume.{Is, live_rows, page_words, replayed_volume, rows_of, state_fits, state_spelled, volume}, VolumeLemmas.rows-read}
+use Rattle.mg_model.specs.{VolumeLemmas.{rows_with, settled-closed, state_with, volume-opened}, WellFormed.IsSettings}
+use Rattle.{mg_model.specs.declared.accounts.AccRow.AccRow, std.proofs.Common.{rules, refl, sym, ap, ◌∙◌, ⊎_elim, arith, add-zero, zero-add}}
+use Rattle.std.proofs.lemmas.{Bool.{and_from, cases_lt, eq-eqb, le-leb, lt-ltb, or_left, or_right, Decides.nat_tests}, List.append-nil}
+use Rattle.std.proofs.lemmas.List.{length-replicate, replicate-append-replicate, take-replicate, Elements.{All-cons, All-replicate}}
+use Rattle.std.{proofs.lemmas.Nat.from_le_bytes-to_le_bytes_8, specs.{Option.option_map_or, Prelude.{◌≡◌, ℕ, zero, suc, ◌+◌, ◌-◌, ◌*◌, ◌/◌, ◌%◌}}}
+use Rattle.std.specs.Prelude.{◌^◌, ◌<◌, ◌≤◌, ◌==◌, true, false, cond, not, IsTrue, All, List, [], ◌∷◌, ◌++◌, drop, filter, length, position}
+use Rattle.std.specs.Prelude.{replicate, take, Some, None}
 
 -- blocks that are written
 pub written-gate : (frames s : ℕ) → s < segment_count → IsTrue (is_written frames (segment_gate s))

@@ -1,8 +1,7 @@
 -- The image with the blocks of a fresh volume below a number.
 use Rattle.std.specs.Prelude.{ℕ, zero, suc, if◌then◌else◌, slice_set}
-use Rattle.mg_disk.specs.Disk.{Image}
+use Rattle.{mg_disk.specs.Disk.Image, mg_layout.specs.FreshImage.{fresh_bytes, is_written}}
 use Rattle.mg_model.specs.Settings.{Settings}
-use Rattle.mg_layout.specs.FreshImage.{fresh_bytes, is_written}
 
 -- the image with block i of a fresh volume, if i is one of the blocks after the gate that are written
 abbrev pub with_block : Settings → ℕ → Image → Image

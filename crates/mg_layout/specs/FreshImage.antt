@@ -1,13 +1,11 @@
 -- The blocks of a fresh volume.
-use Rattle.std.specs.Prelude.{◌≡◌, ℕ, ◌%◌, ◌≤◌, ◌==◌, ◌&&◌, ◌||◌, nat_le, nat_lt, Bool, IsTrue, List, [], ◌∷◌, flat_map, if◌then◌else◌, length, map, replicate, slice_index}
-use Rattle.mg_model.specs.Bytes.{padded_to, words_bytes}
-use Rattle.mg_model.specs.Fresh.{fresh}
-use Rattle.mg_model.specs.Layout.{first_account_block, first_frame, first_object_block, first_thread_block, gate_block, gate_open, globals_block, segment_gate, segment_size, super_block, table_block, total_blocks}
-use Rattle.mg_model.specs.Objects.{page_of}
-use Rattle.mg_model.specs.Replay.{block_of}
-use Rattle.mg_model.specs.Settings.{Settings}
-use Rattle.mg_model.specs.Spelling.{account_bytes, globals_bytes, object_bytes, super_bytes, thread_bytes}
-use Rattle.mg_model.specs.State.{Object, State, Thread}
+use Rattle.std.specs.Prelude.{◌≡◌, ℕ, ◌%◌, ◌≤◌, ◌==◌, ◌&&◌, ◌||◌, nat_le, nat_lt, Bool, IsTrue, List, [], ◌∷◌, flat_map}
+use Rattle.std.specs.Prelude.{if◌then◌else◌, length, map, replicate, slice_index}
+use Rattle.mg_model.specs.{Bytes.{padded_to, words_bytes}, Fresh.fresh, Layout.{first_account_block, first_frame}}
+use Rattle.mg_model.specs.Layout.{first_object_block, first_thread_block, gate_block, gate_open, globals_block}
+use Rattle.mg_model.specs.{Layout.{segment_gate, segment_size, super_block, table_block, total_blocks}, Objects.page_of}
+use Rattle.mg_model.specs.{Replay.block_of, Settings.Settings, Spelling.{account_bytes, globals_bytes, object_bytes}}
+use Rattle.mg_model.specs.{Spelling.{super_bytes, thread_bytes}, State.{Object, State, Thread}}
 
 -- the first block of each part that a state with few rows fills: its rows, from row 0 on
 abbrev pub gate_bytes : List ℕ

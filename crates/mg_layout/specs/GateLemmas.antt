@@ -1,14 +1,10 @@
 -- An image that differs from another one in its gate alone: it is no volume, or spells the same as the other's blocks after
 -- the gate.
-use Rattle.std.specs.Prelude.{◌≡◌, ◌⊎◌, ℕ, ◌≤◌, List, [], ◌∷◌, drop, length, slice_index}
-use Rattle.std.proofs.Common.{inl, inr, sym, ap, ◌∙◌, ⊎_elim, arith}
-use Rattle.std.proofs.lemmas.Bool.{cases_eq, cases_lt}
-use Rattle.std.proofs.lemmas.List.{get_or-set_other, get_or-set_same, length-set}
-use Rattle.mg_disk.specs.Disk.{Image, SameBut, only_place}
-use Rattle.mg_layout.specs.MayFormat.{opened}
-use Rattle.mg_model.specs.Layout.{gate_block, gate_open}
-use Rattle.mg_model.specs.Replay.{block_of}
-use Rattle.mg_model.specs.Volume.{NotVolume, gate_byte, volume}
+use Rattle.std.proofs.{Common.{inl, inr, sym, ap, ◌∙◌, ⊎_elim, arith}, lemmas.Bool.{cases_eq, cases_lt}}
+use Rattle.std.{proofs.lemmas.List.{get_or-set_other, get_or-set_same, length-set}, specs.Prelude.{◌≡◌, ◌⊎◌, ℕ, ◌≤◌}}
+use Rattle.std.specs.Prelude.{List, [], ◌∷◌, drop, length, slice_index}
+use Rattle.{mg_disk.specs.Disk.{Image, SameBut, only_place}, mg_layout.specs.MayFormat.opened}
+use Rattle.mg_model.specs.{Layout.{gate_block, gate_open}, Replay.block_of, Volume.{NotVolume, gate_byte, volume}}
 use Rattle.mg_model.specs.VolumeLemmas.{volume-closed, volume-same_behind, volume-short}
 
 pub gate_alone : (image c : Image) → SameBut (only_place gate_block) image c → (volume c ≡ NotVolume) ⊎ (volume c ≡ volume (opened image))

@@ -1,15 +1,10 @@
 -- What images spell, on the images that a volume begins with.
 use Rattle.std.specs.Prelude.{◌≡◌, ◌≢◌, ℕ, ◌<◌, true, List}
-use Rattle.mg_model.specs.Bytes.{bytes_at, number_at}
-use Rattle.mg_model.specs.Fresh.{fresh}
-use Rattle.mg_model.specs.Layout.{body_limit, gate_open, magic, segment_count, super_block, version}
-use Rattle.mg_model.specs.Replay.{block_of, body_count, is_open}
-use Rattle.mg_model.specs.Settings.{Settings}
-use Rattle.mg_model.specs.Spelling.{Spells, super_read}
+use Rattle.{mg_layout.specs.FreshImage.IsFreshImage, mg_model.specs.{Bytes.{bytes_at, number_at}, Fresh.fresh}}
+use Rattle.mg_model.specs.{Layout.{body_limit, gate_open, magic, segment_count, super_block, version}, Replay.block_of}
+use Rattle.mg_model.specs.{Replay.{body_count, is_open}, Settings.Settings, Spelling.{Spells, super_read}}
 use Rattle.mg_model.specs.Volume.{Damaged, Is, NotVolume, OldVolume, volume, IsOpened, gate_byte}
-use Rattle.mg_model.specs.WellFormed.{IsSettings}
-use Rattle.mg_model.specs.Words.{same_bytes}
-use Rattle.mg_layout.specs.FreshImage.{IsFreshImage}
+use Rattle.mg_model.specs.{WellFormed.IsSettings, Words.same_bytes}
 
 -- a fresh image spells the fresh state
 abbrev pub FreshIsFresh : Type 0

@@ -1,13 +1,10 @@
 -- What a stop may leave while a volume is made, and what the call answers.
-use Rattle.std.specs.Prelude.{◌≡◌, ◌⊎◌, ℕ, ◌<◌, ◌≤◌, ◌∷◌, drop, slice_set, Option, Some, None, IsSomeAnd, Result, Ok, Err}
-use Rattle.mg_disk.specs.Disk.{Image}
-use Rattle.mg_layout.specs.declared.formatting.FormatFault.{FormatFault}
+use Rattle.std.specs.Prelude.{◌≡◌, ◌⊎◌, ℕ, ◌<◌, ◌≤◌, ◌∷◌, drop, slice_set, Option, Some, None, IsSomeAnd, Result, Ok}
+use Rattle.std.specs.Prelude.{Err}
+use Rattle.{mg_disk.specs.Disk.Image, mg_layout.specs.declared.formatting.FormatFault.FormatFault}
+use Rattle.mg_model.specs.{Fresh.fresh, Layout.{gate_block, gate_open}, Replay.block_of, Settings.Settings, Volume.Is}
+use Rattle.mg_model.specs.Volume.{VolumeRead, volume}
 use Rattle.mg_layout.specs.declared.formatting.FormatFault.TheVariants as fault
-use Rattle.mg_model.specs.Fresh.{fresh}
-use Rattle.mg_model.specs.Layout.{gate_block, gate_open}
-use Rattle.mg_model.specs.Replay.{block_of}
-use Rattle.mg_model.specs.Settings.{Settings}
-use Rattle.mg_model.specs.Volume.{Is, VolumeRead, volume}
 
 -- it is not a state of the machine
 abbrev pub IsNoState : VolumeRead → Type 0

@@ -1,7 +1,7 @@
 -- What reading a superblock answers.
 use Rattle.std.specs.Prelude.{◌≡◌}
-use Rattle.mg_model.specs.Spelling.{BadSuper, NotSuper, OldSuper, Spells, SuperRead}
-use Rattle.mg_layout.specs.declared.superblock.Super.{Super}
+use Rattle.{mg_layout.specs.declared.superblock.Super.Super, mg_model.specs.Spelling.{BadSuper, NotSuper, OldSuper}}
+use Rattle.mg_model.specs.Spelling.{Spells, SuperRead}
 use Rattle.mg_layout.specs.declared.superblock.Super.TheVariants as super_variant
 
 -- the answer is what the bytes spell

@@ -1,19 +1,10 @@
 -- How the copying of contents proceeds, from the gate closed to the gate open.
+use Rattle.mg_disk.specs.{Disk.{HasBlocks, Image, InRange, SameBut, SeenBut, no_image, only_place}, Runs.{from_then, from_wider, leaves_quiet}}
+use Rattle.{mg_disk.specs.{Stops.{FromLeft, Leaves, NothingPending, TimeGoes}, declared.disk.Disk.Ghosts}, mg_layout.specs.GateLemmas.gate_alone}
+use Rattle.{mg_migrate.specs.Copied.{AreCopied, AreSame, IsClosed, IsCopy, MayCopy, ReadsNow, StandsClosed}, mg_model.specs.Layout.gate_block}
+use Rattle.mg_model.specs.{Layout.gate_open, Replay.block_of, Volume.{NotVolume, gate_byte, volume}, VolumeLemmas.volume-closed, Words.and_then}
+use Rattle.std.{proofs.{Common.{refl, inl, inr, sym, ap, subst, ◌∙◌, ⊎_elim, arith}, lemmas.Bool.{cases_eq, cases_lt}}, specs.Option.ForSome}
 use Rattle.std.specs.Prelude.{◌≡◌, ℕ, ◌+◌, ◌-◌, ◌<◌, ◌≤◌, IsTrue, List, length, slice_index, Option, Some, None, IsSomeAnd}
-use Rattle.std.specs.Option.{ForSome}
-use Rattle.std.proofs.Common.{refl, inl, inr, sym, ap, subst, ◌∙◌, ⊎_elim, arith}
-use Rattle.std.proofs.lemmas.Bool.{cases_eq, cases_lt}
-use Rattle.mg_disk.specs.Disk.{HasBlocks, Image, InRange, SameBut, SeenBut, no_image, only_place}
-use Rattle.mg_disk.specs.declared.disk.Disk.{Ghosts}
-use Rattle.mg_disk.specs.Runs.{from_then, from_wider, leaves_quiet}
-use Rattle.mg_disk.specs.Stops.{FromLeft, Leaves, NothingPending, TimeGoes}
-use Rattle.mg_layout.specs.GateLemmas.{gate_alone}
-use Rattle.mg_migrate.specs.Copied.{AreCopied, AreSame, IsClosed, IsCopy, MayCopy, ReadsNow, StandsClosed}
-use Rattle.mg_model.specs.Layout.{gate_block, gate_open}
-use Rattle.mg_model.specs.Replay.{block_of}
-use Rattle.mg_model.specs.Volume.{NotVolume, gate_byte, volume}
-use Rattle.mg_model.specs.VolumeLemmas.{volume-closed}
-use Rattle.mg_model.specs.Words.{and_then}
 
 -- the blocks before this one, of n, are those of the contents
 abbrev pub AreBefore : ℕ → ℕ → Image → Image → Type 0

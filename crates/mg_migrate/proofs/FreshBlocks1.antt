@@ -1,13 +1,7 @@
 -- Each block of a fresh volume of version 1 by its number.
-use Rattle.std.specs.Prelude.{◌≡◌, ◌≢◌, ℕ, ◌+◌, ◌<◌, ◌≤◌}
-use Rattle.std.proofs.Common.{refl, sym, subst}
-use Rattle.std.proofs.lemmas.Bool.{le-ltb, lt-ltb, ne_eqb}
-use Rattle.mg_layout.specs.FreshImage.{fresh_bytes}
-use Rattle.mg_model.specs.Layout.{first_object_block, super_block}
-use Rattle.mg_model.specs.Settings.{Settings}
-use Rattle.mg_migrate.specs.Fresh1.{fresh1_bytes, objects1_bytes}
-use Rattle.mg_migrate.specs.Layout1.{table1_block}
-use Rattle.mg_migrate.specs.Spelling1.{super1_bytes}
+use Rattle.{mg_layout.specs.FreshImage.fresh_bytes, mg_migrate.specs.{Fresh1.{fresh1_bytes, objects1_bytes}, Layout1.table1_block}}
+use Rattle.{mg_migrate.specs.Spelling1.super1_bytes, mg_model.specs.{Layout.{first_object_block, super_block}, Settings.Settings}}
+use Rattle.std.{proofs.{Common.{refl, sym, subst}, lemmas.Bool.{le-ltb, lt-ltb, ne_eqb}}, specs.Prelude.{◌≡◌, ◌≢◌, ℕ, ◌+◌, ◌<◌, ◌≤◌}}
 
 module _ (settings : Settings) where
   is_super : fresh1_bytes settings super_block ≡ super1_bytes settings

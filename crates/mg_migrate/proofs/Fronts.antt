@@ -1,17 +1,10 @@
 -- Numbers and bytes in lists that are joined.
-use Rattle.std.specs.Prelude.{◌≡◌, ℕ, zero, suc, ◌+◌, ◌*◌, ◌<◌, ◌≤◌, ◌==◌, ◌&&◌, true, List, [], ◌∷◌, ◌++◌, drop, get_or, length, replicate, take}
-use Rattle.std.specs.Int.{from_le_bytes, w64}
-use Rattle.std.proofs.Common.{refl, sym, ap, ◌∙◌, arith, append_assoc}
-use Rattle.std.proofs.lemmas.Bool.{and_parts, eqb-true}
-use Rattle.std.proofs.lemmas.List.{drop-append-le, get_or-append-add, length-drop, replicate-append-replicate, take-append-le}
-use Rattle.std.proofs.lemmas.List.Folds.{list_all-append}
-use Rattle.std.proofs.Math.Bool.{and-true}
-use Rattle.mg_model.specs.Abbreviations.{word_bytes}
-use Rattle.mg_model.specs.Bytes.{are_zeros, number_at, numbers_at, padded_to, words_bytes}
-use Rattle.mg_model.specs.BytesLemmas.{number_at-behind, number_at-first}
-use Rattle.mg_model.specs.Ranges.{IsWord}
-use Rattle.mg_model.specs.RowLemmas.{are_zeros-replicate}
-use Rattle.mg_model.specs.Words.{same_bytes}
+use Rattle.mg_model.specs.{Abbreviations.word_bytes, Bytes.{are_zeros, number_at, numbers_at, padded_to, words_bytes}, BytesLemmas.number_at-behind}
+use Rattle.{mg_model.specs.{BytesLemmas.number_at-first, Ranges.IsWord, RowLemmas.are_zeros-replicate, Words.same_bytes}, std.proofs.Common.refl}
+use Rattle.std.proofs.{Common.{sym, ap, ◌∙◌, arith, append_assoc}, Math.Bool.and-true, lemmas.{Bool.{and_parts, eqb-true}, List.drop-append-le}}
+use Rattle.std.proofs.lemmas.List.{get_or-append-add, length-drop, replicate-append-replicate, take-append-le, Folds.list_all-append}
+use Rattle.std.specs.{Int.{from_le_bytes, w64}, Prelude.{◌≡◌, ℕ, zero, suc, ◌+◌, ◌*◌, ◌<◌, ◌≤◌, ◌==◌, ◌&&◌, true, List, [], ◌∷◌, ◌++◌, drop, get_or}}
+use Rattle.std.specs.Prelude.{length, replicate, take}
 
 -- what lies in the first of two lists
 pub number_at-front : (xs ys : List ℕ) (k : ℕ) → k + 8 ≤ length xs → number_at (xs ++ ys) k ≡ number_at xs k

@@ -1,23 +1,12 @@
 -- Each block of a lifted image by its number, and the rows in it.
-use Rattle.std.specs.Prelude.{◌≡◌, ◌≢◌, ℕ, zero, suc, ◌+◌, ◌-◌, ◌*◌, ◌/◌, ◌%◌, ◌<◌, ◌≤◌, false, List, [], ◌∷◌, ◌++◌, get_or, length, replicate, Some}
-use Rattle.std.proofs.Common.{refl, sym, ap, ◌∙◌, arith, add-zero, append_assoc}
-use Rattle.std.proofs.lemmas.Bool.{le-ltb, lt-ltb, ne_eqb}
-use Rattle.std.proofs.lemmas.List.{append-nil, take_at}
-use Rattle.std.proofs.lemmas.List.FromFn.{get_or-map-range_with_len, length-map-range_with_len}
-use Rattle.mg_model.specs.Abbreviations.{object_row_bytes}
-use Rattle.mg_model.specs.Bytes.{bytes_at, padded_to}
-use Rattle.mg_model.specs.BytesLemmas.{bytes_at-behind, padded_to-full}
-use Rattle.mg_model.specs.Layout.{first_object_block, globals_block, segment_count, super_block, table_block, total_blocks}
-use Rattle.mg_model.specs.Limits.{object_limit}
-use Rattle.mg_model.specs.Replay.{block_of, is_open, replay}
-use Rattle.mg_model.specs.Settings.{Settings}
-use Rattle.mg_model.specs.Spelling.{super_bytes}
-use Rattle.mg_model.specs.VolumeLemmas.{replay-closed}
-use Rattle.mg_migrate.proofs.LiftedRows.{length-lifted_row}
-use Rattle.mg_migrate.specs.Laws.{KeepsPlaces}
-use Rattle.mg_migrate.specs.Layout1.{table1_block}
-use Rattle.mg_migrate.specs.Lifted.{lifted, lifted_block, lifted_objects, lifted_row, object1_bytes_in}
-use Rattle.mg_migrate.specs.Version1.{object1_row_bytes}
+use Rattle.mg_migrate.{proofs.LiftedRows.length-lifted_row, specs.{Laws.KeepsPlaces, Layout1.table1_block, Lifted.{lifted, lifted_block}}}
+use Rattle.mg_migrate.specs.{Lifted.{lifted_objects, lifted_row, object1_bytes_in}, Version1.object1_row_bytes}
+use Rattle.mg_model.specs.{Abbreviations.object_row_bytes, Bytes.{bytes_at, padded_to}, BytesLemmas.{bytes_at-behind, padded_to-full}}
+use Rattle.mg_model.specs.{Layout.{first_object_block, globals_block, segment_count, super_block, table_block, total_blocks}, Limits.object_limit}
+use Rattle.mg_model.specs.{Replay.{block_of, is_open, replay}, Settings.Settings, Spelling.super_bytes, VolumeLemmas.replay-closed}
+use Rattle.std.proofs.{Common.{refl, sym, ap, ◌∙◌, arith, add-zero, append_assoc}, lemmas.{Bool.{le-ltb, lt-ltb, ne_eqb}, List.{append-nil, take_at}}}
+use Rattle.std.{proofs.lemmas.List.FromFn.{get_or-map-range_with_len, length-map-range_with_len}, specs.Prelude.{◌≡◌, ◌≢◌, ℕ, zero, suc, ◌+◌, ◌-◌}}
+use Rattle.std.specs.Prelude.{◌*◌, ◌/◌, ◌%◌, ◌<◌, ◌≤◌, false, List, [], ◌∷◌, ◌++◌, get_or, length, replicate, Some}
 
 module _ (settings : Settings) (r : List (List ℕ)) where
   -- its blocks

@@ -1,34 +1,14 @@
 -- What a copy of a lifted volume spells, and what is said of the old one.
-use Rattle.std.specs.Prelude.{◌≡◌, ◌⊎◌, ℕ, ◌<◌, ◌≤◌, option_map, Option, Some, None}
-use Rattle.std.proofs.Common.{refl, sym, ap, subst, ◌∙◌, inl, inr, ⊎_elim, arith}
-use Rattle.mg_check.specs.Reads.{contents}
-use Rattle.mg_rules.specs.RowsRead.{state_in}
-use Rattle.mg_check.specs.Summaries.{TellsOf, summary_of}
-use Rattle.mg_check.specs.declared.examining.Summary.{Summary}
-use Rattle.mg_rules.specs.declared.volume_rows.VolumeRows.{VolumeRows}
-use Rattle.mg_disk.specs.Disk.{Image, only_place}
-use Rattle.mg_disk.specs.PlaceLemmas.{same_as}
-use Rattle.mg_disk.specs.Runs.{from_yet}
-use Rattle.mg_disk.specs.Stops.{FromLeft, Leaves}
-use Rattle.mg_disk.specs.declared.disk.Disk.{Ghosts}
-use Rattle.mg_layout.specs.MayFormat.{IsNoState, opened}
-use Rattle.mg_layout.specs.GateLemmas.{gate_alone}
-use Rattle.mg_migrate.proofs.LiftedBlocks.{block-of-lifted}
-use Rattle.mg_migrate.proofs.LiftedState.{replayed-lifted}
-use Rattle.mg_migrate.proofs.LiftedVolume.{volume-lifted}
-use Rattle.mg_migrate.proofs.Volume1Reads.{replayed1-is}
-use Rattle.mg_migrate.specs.Copied.{IsCopy, MayCopy, ReadsNow}
-use Rattle.mg_migrate.specs.Layout1.{total1_blocks}
-use Rattle.mg_migrate.specs.Lifted.{IsLifted, lifted}
-use Rattle.mg_migrate.specs.LiftedView.{LiftedView}
-use Rattle.mg_migrate.specs.Migrated.{HasLifted, IsLiftOf, IsMigrated, IsState1, MayMigrate, needed}
-use Rattle.mg_migrate.specs.MigratedLemmas.{reads-wider}
-use Rattle.mg_migrate.specs.OldRead.{IsOldRead}
-use Rattle.mg_migrate.specs.Version1.{Volume1Read, as_volume1, lift, lift_volume, replayed1_volume, volume1}
-use Rattle.mg_model.specs.Layout.{gate_block, total_blocks}
-use Rattle.mg_model.specs.Replay.{replay}
-use Rattle.mg_model.specs.State.{State}
-use Rattle.mg_model.specs.Volume.{Damaged, Is, NotVolume, OldVolume, VolumeRead, volume}
+use Rattle.{mg_check.specs.{Reads.contents, Summaries.{TellsOf, summary_of}, declared.examining.Summary.Summary}, mg_disk.specs.Disk.Image}
+use Rattle.mg_disk.specs.{Disk.only_place, PlaceLemmas.same_as, Runs.from_yet, Stops.{FromLeft, Leaves}, declared.disk.Disk.Ghosts}
+use Rattle.{mg_layout.specs.{GateLemmas.gate_alone, MayFormat.{IsNoState, opened}}, mg_migrate.proofs.LiftedBlocks.block-of-lifted}
+use Rattle.mg_migrate.{proofs.{LiftedState.replayed-lifted, LiftedVolume.volume-lifted, Volume1Reads.replayed1-is}, specs.Copied.{IsCopy, MayCopy}}
+use Rattle.mg_migrate.specs.{Copied.ReadsNow, Layout1.total1_blocks, Lifted.{IsLifted, lifted}, LiftedView.LiftedView, Migrated.{HasLifted, IsLiftOf}}
+use Rattle.mg_migrate.specs.{Migrated.{IsMigrated, IsState1, MayMigrate, needed}, MigratedLemmas.reads-wider, OldRead.IsOldRead, Version1.Volume1Read}
+use Rattle.{mg_migrate.specs.Version1.{as_volume1, lift, lift_volume, replayed1_volume, volume1}, mg_model.specs.Layout.{gate_block, total_blocks}}
+use Rattle.mg_model.specs.{Replay.replay, State.State, Volume.{Damaged, Is, NotVolume, OldVolume, VolumeRead, volume}}
+use Rattle.{mg_rules.specs.{RowsRead.state_in, declared.volume_rows.VolumeRows.VolumeRows}, std.proofs.Common.{refl, sym, ap, subst, ◌∙◌, inl, inr}}
+use Rattle.std.{proofs.Common.{⊎_elim, arith}, specs.Prelude.{◌≡◌, ◌⊎◌, ℕ, ◌<◌, ◌≤◌, option_map, Option, Some, None}}
 
 -- a volume whose lifted one is a state is a state, and what holds of each such state holds of it
 of_state : (v : VolumeRead) (x : State) (P : State → Type 0) → lift_volume v ≡ Is x → ((s : State) → v ≡ Is s → lift s ≡ x → P s) → IsState1 (as_volume1 v) P

@@ -1,17 +1,10 @@
 -- Reading the blocks of a lifted image.
-use Rattle.std.specs.Prelude.{◌≡◌, ℕ, ◌+◌, ◌-◌, ◌/◌, ◌%◌, ◌<◌, ◌≤◌, List, length, Option, None, Some, option_map}
-use Rattle.std.specs.Option.{ForSome}
-use Rattle.std.proofs.Common.{refl, sym, ap, subst, ◌∙◌, arith}
-use Rattle.mg_disk.specs.Disk.{HasBlocks, Image, block_at}
-use Rattle.mg_journal.specs.Looked.{Fits, Placed}
-use Rattle.mg_model.specs.Layout.{first_object_block, globals_block, super_block, table_block, total_blocks}
-use Rattle.mg_model.specs.Replay.{block_of, replay}
-use Rattle.mg_model.specs.Settings.{Settings}
-use Rattle.mg_model.specs.Spelling.{super_bytes}
-use Rattle.mg_migrate.proofs.LiftedBlocks.{at_behind, at_object, at_row, at_super, block-of-lifted}
-use Rattle.mg_migrate.specs.Layout1.{table1_block}
-use Rattle.mg_migrate.specs.Lifted.{lifted, lifted_block, lifted_objects}
-use Rattle.mg_migrate.specs.LiftedView.{LiftedView}
+use Rattle.{mg_disk.specs.Disk.{HasBlocks, Image, block_at}, mg_journal.specs.Looked.{Fits, Placed}, mg_migrate.proofs.LiftedBlocks.at_behind}
+use Rattle.mg_migrate.{proofs.LiftedBlocks.{at_object, at_row, at_super, block-of-lifted}, specs.{Layout1.table1_block, Lifted.lifted}}
+use Rattle.{mg_migrate.specs.{Lifted.{lifted_block, lifted_objects}, LiftedView.LiftedView}, mg_model.specs.Layout.first_object_block}
+use Rattle.mg_model.specs.{Layout.{globals_block, super_block, table_block, total_blocks}, Replay.{block_of, replay}, Settings.Settings}
+use Rattle.{mg_model.specs.Spelling.super_bytes, std.{proofs.Common.{refl, sym, ap, subst, ◌∙◌, arith}, specs.{Option.ForSome, Prelude.{◌≡◌, ℕ}}}}
+use Rattle.std.specs.Prelude.{◌+◌, ◌-◌, ◌/◌, ◌%◌, ◌<◌, ◌≤◌, List, length, Option, None, Some, option_map}
 
 pub super_at : (settings : Settings) (r : Image) (i : ℕ) → i ≡ super_block → lifted_block settings r i ≡ super_bytes settings
 super_at settings r i is = ap (lifted_block settings r) is ∙ at_super settings r

@@ -1,24 +1,15 @@
 -- A row of version 1 and what it becomes are read alike.
-use Rattle.std.specs.Prelude.{◌≡◌, ℕ, ◌+◌, ◌<◌, ◌≤◌, ◌&&◌, nat_le, Bool, true, false, List, ◌++◌, drop, length, replicate, take, Option, Some, None}
-use Rattle.std.specs.Option.{option_map_or}
-use Rattle.std.proofs.Common.{refl, sym, ap, subst, ◌∙◌, arith, ⊎_elim}
+use Rattle.mg_migrate.proofs.{Fronts.{same_bytes-tells, zeros-replicate}, WideBytes.{length-entries1, length-passwords1, lifted-spelled, narrow-same}}
+use Rattle.mg_migrate.proofs.{WideBytes.{read-widened, read1-live-as, row-long, row_entries, row_head, row_passwords, row_rights}, WideRow.AreLong}
+use Rattle.mg_migrate.{proofs.WideRow.{length-wide, narrow}, specs.{Lifted.{lifted_row, row_lifted}, Spelling1.{is_object1_row, lift_read, lift_row}}}
+use Rattle.mg_migrate.specs.{Spelling1.{object1_bytes, object1_fields, object1_read}, Widened.{joined, may_widen, widened}}
+use Rattle.mg_model.specs.{Abbreviations.live_if, Bytes.{are_zeros, bytes_at, number_at}, BytesLemmas.{length-padded_to, length-words_bytes}}
+use Rattle.mg_model.specs.{RowLemmas.{are_zeros-replicate, read-free}, Spelling.{Read, object_bytes, object_fields, object_read}, State.ObjectRow}
+use Rattle.{mg_model.specs.{Tests.is_object_row, Words.same_bytes}, std.proofs.Common.{refl, sym, ap, subst, ◌∙◌, arith, ⊎_elim}}
 use Rattle.std.proofs.lemmas.Bool.{and_from, le-leb, and_left, and_parts, and_right, both_ways, cases_Bool, cond_both, leb-true, lt-leb, cases_lt}
-use Rattle.std.proofs.lemmas.List.{drop-drop, length-append, length-drop, length-replicate, length-take, take-append-drop}
-use Rattle.std.proofs.lemmas.Option.{same_Some}
-use Rattle.mg_model.specs.Bytes.{are_zeros, bytes_at, number_at}
-use Rattle.mg_model.specs.BytesLemmas.{length-padded_to, length-words_bytes}
-use Rattle.mg_model.specs.RowLemmas.{are_zeros-replicate, read-free}
-use Rattle.mg_model.specs.Abbreviations.{live_if}
-use Rattle.mg_model.specs.Spelling.{Read, object_bytes, object_fields, object_read}
-use Rattle.mg_model.specs.State.{ObjectRow}
-use Rattle.mg_model.specs.Tests.{is_object_row}
-use Rattle.mg_model.specs.Words.{same_bytes}
-use Rattle.mg_migrate.proofs.Fronts.{same_bytes-tells, zeros-replicate}
-use Rattle.mg_migrate.proofs.WideBytes.{length-entries1, length-passwords1, lifted-spelled, narrow-same, read-widened, read1-live-as, row-long, row_entries, row_head, row_passwords, row_rights}
-use Rattle.mg_migrate.proofs.WideRow.{AreLong, length-wide, narrow}
-use Rattle.mg_migrate.specs.Lifted.{lifted_row, row_lifted}
-use Rattle.mg_migrate.specs.Spelling1.{is_object1_row, lift_read, lift_row, object1_bytes, object1_fields, object1_read}
-use Rattle.mg_migrate.specs.Widened.{joined, may_widen, widened}
+use Rattle.std.proofs.lemmas.{List.{drop-drop, length-append, length-drop, length-replicate, length-take, take-append-drop}, Option.same_Some}
+use Rattle.std.specs.{Option.option_map_or, Prelude.{◌≡◌, ℕ, ◌+◌, ◌<◌, ◌≤◌, ◌&&◌, nat_le, Bool, true, false, List, ◌++◌, drop, length, replicate}}
+use Rattle.std.specs.Prelude.{take, Option, Some, None}
 
 none-behind : (a b c d : Bool) → (a && (b && (c && (d && false)))) ≡ false
 none-behind a b c d = and_right a (b && (c && (d && false))) (and_right b (c && (d && false)) (and_right c (d && false) (and_right d false refl)))

@@ -1,32 +1,19 @@
 -- A lifted image spells the lifted state.
-use Rattle.std.specs.Prelude.{◌≡◌, ℕ, zero, suc, ◌+◌, ◌*◌, ◌/◌, ◌%◌, ◌<◌, ◌≤◌, ◌==◌, ◌&&◌, ◌||◌, nat_le, Bool, true, false, List, [], ◌∷◌, ◌++◌, drop, if◌then◌else◌, length, map, position, replicate, take, Option, Some, None, option_map}
-use Rattle.std.specs.Option.{option_map_or}
-use Rattle.std.specs.List.{fold, list_all, list_any}
-use Rattle.std.proofs.Common.{refl, ap, ◌∙◌, arith}
-use Rattle.std.proofs.lemmas.Bool.Decides.{nat_tests}
-use Rattle.std.proofs.lemmas.List.{length-take}
-use Rattle.std.proofs.lemmas.List.Folds.{list_all-map}
-use Rattle.mg_model.specs.declared.accounts.AccRow.{AccRow}
-use Rattle.mg_model.specs.Abbreviations.{account_row_bytes, fitting, is_page_of, object_row_bytes, pages_words, table_entries, thread_row_bytes, whole_table, with_live}
-use Rattle.mg_model.specs.Bank.{used}
-use Rattle.mg_model.specs.Bytes.{are_zeros, block_words}
-use Rattle.mg_model.specs.Layout.{first_frame, globals_block, table_block, table_blocks, total_blocks}
-use Rattle.mg_model.specs.Limits.{account_limit, thread_limit, object_limit}
-use Rattle.mg_model.specs.Objects.{page_of, with_object}
-use Rattle.mg_model.specs.Replay.{block_of}
-use Rattle.mg_model.specs.Settings.{Settings}
-use Rattle.mg_model.specs.Spelling.{Read, account_read, globals_read, object_read, thread_read}
-use Rattle.mg_model.specs.State.{Counters, Object, ObjectRow, State, ThreadRow}
-use Rattle.mg_model.specs.Tests.{all_distinct}
-use Rattle.mg_model.specs.Volume.{Damaged, Is, Rows, are_apart, bound_pages, live_rows, objects_fit, objects_spelled, page_words, replayed_volume, rows_of, state_fits, state_spelled, table_fits}
-use Rattle.mg_model.specs.VolumeLemmas.{live_rows-same, rows_from, rows_with, state_with}
-use Rattle.mg_model.specs.Words.{and_then}
-use Rattle.mg_migrate.proofs.LiftedBlocks.{at_behind, at_row, block-of-lifted, object-row-lifted}
-use Rattle.mg_migrate.proofs.LiftedRows.{lifted-read}
-use Rattle.mg_migrate.specs.Layout1.{first_frame1, table1_block}
-use Rattle.mg_migrate.specs.Lifted.{lifted}
-use Rattle.mg_migrate.specs.Spelling1.{lift_read, lift_row, object1_read}
-use Rattle.mg_migrate.specs.Version1.{lift, lift_object, lift_volume, object1_row_bytes, objects1_spelled, page1_words, pages1_words, replayed1_volume, rows1_of, state1_spelled, whole_table1}
+use Rattle.mg_migrate.proofs.{LiftedBlocks.{at_behind, at_row, block-of-lifted, object-row-lifted}, LiftedRows.lifted-read}
+use Rattle.mg_migrate.specs.{Layout1.{first_frame1, table1_block}, Lifted.lifted, Spelling1.{lift_read, lift_row, object1_read}, Version1.lift}
+use Rattle.mg_migrate.specs.Version1.{lift_object, lift_volume, object1_row_bytes, objects1_spelled, page1_words, pages1_words, replayed1_volume}
+use Rattle.{mg_migrate.specs.Version1.{rows1_of, state1_spelled, whole_table1}, mg_model.specs.Abbreviations.{account_row_bytes, fitting, is_page_of}}
+use Rattle.mg_model.specs.{Abbreviations.{object_row_bytes, pages_words, table_entries, thread_row_bytes, whole_table, with_live}, Bank.used}
+use Rattle.mg_model.specs.{Bytes.{are_zeros, block_words}, Layout.{first_frame, globals_block, table_block, table_blocks, total_blocks}}
+use Rattle.mg_model.specs.{Limits.{account_limit, thread_limit, object_limit}, Objects.{page_of, with_object}, Replay.block_of, Settings.Settings}
+use Rattle.mg_model.specs.{Spelling.{Read, account_read, globals_read, object_read, thread_read}, State.{Counters, Object, ObjectRow, State}}
+use Rattle.mg_model.specs.{State.ThreadRow, Tests.all_distinct, Volume.{Damaged, Is, Rows, are_apart, bound_pages, live_rows, objects_fit}}
+use Rattle.mg_model.specs.Volume.{objects_spelled, page_words, replayed_volume, rows_of, state_fits, state_spelled, table_fits}
+use Rattle.mg_model.specs.{VolumeLemmas.{live_rows-same, rows_from, rows_with, state_with}, Words.and_then, declared.accounts.AccRow.AccRow}
+use Rattle.std.{proofs.{Common.{refl, ap, ◌∙◌, arith}, lemmas.{Bool.Decides.nat_tests, List.{length-take, Folds.list_all-map}}}, specs.List.fold}
+use Rattle.std.specs.{List.{list_all, list_any}, Option.option_map_or, Prelude.{◌≡◌, ℕ, zero, suc, ◌+◌, ◌*◌, ◌/◌, ◌%◌, ◌<◌, ◌≤◌, ◌==◌, ◌&&◌, ◌||◌}}
+use Rattle.std.specs.Prelude.{nat_le, Bool, true, false, List, [], ◌∷◌, ◌++◌, drop, if◌then◌else◌, length, map, position, replicate, take, Option}
+use Rattle.std.specs.Prelude.{Some, None, option_map}
 
 -- rows with their places
 abbrev lift_placed : ℕ × ObjectRow → ℕ × ObjectRow

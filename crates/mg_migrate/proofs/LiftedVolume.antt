@@ -1,25 +1,13 @@
 -- An image with the lifted blocks spells the lifted state.
-use Rattle.std.specs.Prelude.{◌≡◌, ℕ, ◌-◌, ◌≤◌, ◌&&◌, nat_lt, true, not, List, [], ◌∷◌, ◌++◌, drop, if◌then◌else◌, length, replicate}
-use Rattle.std.proofs.Common.{refl, sym, ap, subst, ◌∙◌, arith}
-use Rattle.std.proofs.lemmas.Bool.{and_parts, cond_both}
-use Rattle.std.proofs.lemmas.List.{length-append, length-drop, length-replicate, length-take}
-use Rattle.mg_model.specs.Bytes.{bytes_at, number_at, padded_to, words_bytes}
-use Rattle.mg_model.specs.Layout.{magic, super_block, total_blocks}
-use Rattle.mg_model.specs.Replay.{block_of}
-use Rattle.mg_model.specs.Settings.{Settings, within_limits}
-use Rattle.mg_model.specs.Abbreviations.{step_words}
-use Rattle.mg_model.specs.Spelling.{Spells, are_settings, super_bytes, super_fields, super_read}
-use Rattle.mg_model.specs.SuperblockLemmas.{super_read-back}
-use Rattle.mg_model.specs.Tariff.{is_tariff}
-use Rattle.mg_model.specs.Volume.{volume, volume_behind}
-use Rattle.mg_model.specs.VolumeLemmas.{settled-closed, settled-same, volume-opened}
-use Rattle.mg_model.specs.Words.{same_bytes}
-use Rattle.mg_migrate.proofs.Fronts.{same_bytes-tells}
-use Rattle.mg_migrate.proofs.LiftedBlocks.{at_super, block-of-lifted, closed, length-lifted}
-use Rattle.mg_migrate.proofs.LiftedState.{replayed-lifted}
-use Rattle.mg_migrate.specs.Lifted.{IsLifted, lifted}
-use Rattle.mg_migrate.specs.Spelling1.{BadSuper1, NewSuper1, NotSuper1, OldSuper1, Spells1, Super1Read, super1_bytes, super1_read}
-use Rattle.mg_migrate.specs.Version1.{lift_volume, replayed1_volume}
+use Rattle.mg_migrate.proofs.{Fronts.same_bytes-tells, LiftedBlocks.{at_super, block-of-lifted, closed, length-lifted}, LiftedState.replayed-lifted}
+use Rattle.mg_migrate.specs.{Lifted.{IsLifted, lifted}, Spelling1.{BadSuper1, NewSuper1, NotSuper1, OldSuper1, Spells1, Super1Read, super1_bytes}}
+use Rattle.{mg_migrate.specs.{Spelling1.super1_read, Version1.{lift_volume, replayed1_volume}}, mg_model.specs.Abbreviations.step_words}
+use Rattle.mg_model.specs.{Bytes.{bytes_at, number_at, padded_to, words_bytes}, Layout.{magic, super_block, total_blocks}, Replay.block_of}
+use Rattle.mg_model.specs.{Settings.{Settings, within_limits}, Spelling.{Spells, are_settings, super_bytes, super_fields, super_read}}
+use Rattle.mg_model.specs.{SuperblockLemmas.super_read-back, Tariff.is_tariff, Volume.{volume, volume_behind}, VolumeLemmas.settled-closed}
+use Rattle.{mg_model.specs.{VolumeLemmas.{settled-same, volume-opened}, Words.same_bytes}, std.proofs.Common.{refl, sym, ap, subst, ◌∙◌, arith}}
+use Rattle.std.{proofs.lemmas.{Bool.{and_parts, cond_both}, List.{length-append, length-drop, length-replicate, length-take}}, specs.Prelude.{◌≡◌, ℕ}}
+use Rattle.std.specs.Prelude.{◌-◌, ◌≤◌, ◌&&◌, nat_lt, true, not, List, [], ◌∷◌, ◌++◌, drop, if◌then◌else◌, length, replicate}
 
 -- what is known of the settings in a superblock of version 1
 record AreTold1 (bytes : List ℕ) (settings : Settings) : Type 0 where

@@ -1,8 +1,6 @@
 -- The parts of a moved row, added one by one.
-use Rattle.std.proofs.Common.{arith}
-use Rattle.std.specs.Prelude.{◌≡◌, ℕ, ◌-◌, List, ◌++◌, length, replicate}
-use Rattle.std.proofs.Common.{ap, ◌∙◌, append_assoc}
-use Rattle.mg_model.specs.Bytes.{padded_to}
+use Rattle.{mg_model.specs.Bytes.padded_to, std.{proofs.Common.{arith, ap, ◌∙◌, append_assoc}, specs.Prelude.{◌≡◌, ℕ, ◌-◌, List, ◌++◌, length}}}
+use Rattle.std.specs.Prelude.{replicate}
 
 pub parts : (s1 s2 s3 s4 s5 s6 s7 h p g e u z1 z2 z3 : List ℕ) → s1 ≡ h → s2 ≡ s1 ++ p → s3 ≡ s2 ++ z1 → s4 ≡ s3 ++ g → s5 ≡ s4 ++ z2 → s6 ≡ s5 ++ e → s7 ≡ s6 ++ u
     → s7 ++ z3 ≡ h ++ ((p ++ z1) ++ ((g ++ z2) ++ (e ++ (u ++ z3))))

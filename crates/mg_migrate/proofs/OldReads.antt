@@ -1,26 +1,13 @@
 -- What was read of an old image says this of it.
-use Rattle.std.proofs.Common.{arith}
-use Rattle.std.specs.Prelude.{◌≡◌, ◌<◌, ◌≤◌, ◌==◌, true, length, IsSome, Option, None, Some, option_map}
-use Rattle.std.proofs.Common.{refl, sym, ap, subst, ◌∙◌}
-use Rattle.std.proofs.lemmas.Bool.{eqb-true}
-use Rattle.mg_rules.specs.declared.volume_rows.VolumeRows.{VolumeRows}
-use Rattle.mg_check.specs.Reads.{contents}
-use Rattle.mg_rules.specs.RowsTold.{HasNoState, TellsRows}
-use Rattle.mg_disk.specs.declared.disk.Disk.{Ghosts}
-use Rattle.mg_disk.specs.Disk.{Image}
-use Rattle.mg_journal.specs.Looked.{Fits, Placed}
-use Rattle.mg_model.specs.Layout.{gate_open, super_block}
-use Rattle.mg_model.specs.Replay.{block_of, replay}
-use Rattle.mg_model.specs.Settings.{Settings}
-use Rattle.mg_model.specs.Volume.{Damaged, Is, IsOpened, NotVolume, OldVolume, VolumeRead, gate_byte, replayed_volume}
-use Rattle.mg_migrate.proofs.LiftedState.{replayed-lifted}
-use Rattle.mg_migrate.proofs.Volume1Reads.{replayed1-is, settled1-none, settled1-short, volume1-opened}
-use Rattle.mg_migrate.specs.Layout1.{total1_blocks}
-use Rattle.mg_migrate.specs.Lifted.{lifted}
-use Rattle.mg_migrate.specs.LiftedView.{LiftedView}
-use Rattle.mg_migrate.specs.OldRead.{HasSettings1, IsOldRead, IsSeen1}
-use Rattle.mg_migrate.specs.Spelling1.{Spells1, Super1Read, super1_read}
-use Rattle.mg_migrate.specs.Version1.{Damaged1, as_volume1, lift_volume, replayed1_volume, settled1_volume, volume1, volume1_behind}
+use Rattle.{mg_check.specs.Reads.contents, mg_disk.specs.{Disk.Image, declared.disk.Disk.Ghosts}, mg_journal.specs.Looked.{Fits, Placed}}
+use Rattle.mg_migrate.proofs.{LiftedState.replayed-lifted, Volume1Reads.{replayed1-is, settled1-none, settled1-short, volume1-opened}}
+use Rattle.mg_migrate.specs.{Layout1.total1_blocks, Lifted.lifted, LiftedView.LiftedView, OldRead.{HasSettings1, IsOldRead, IsSeen1}}
+use Rattle.mg_migrate.specs.{Spelling1.{Spells1, Super1Read, super1_read}, Version1.{Damaged1, as_volume1, lift_volume, replayed1_volume}}
+use Rattle.{mg_migrate.specs.Version1.{settled1_volume, volume1, volume1_behind}, mg_model.specs.{Layout.{gate_open, super_block}, Replay.block_of}}
+use Rattle.mg_model.specs.{Replay.replay, Settings.Settings, Volume.{Damaged, Is, IsOpened, NotVolume, OldVolume, VolumeRead, gate_byte}}
+use Rattle.{mg_model.specs.Volume.replayed_volume, mg_rules.specs.{RowsTold.{HasNoState, TellsRows}, declared.volume_rows.VolumeRows.VolumeRows}}
+use Rattle.std.{proofs.{Common.{arith, refl, sym, ap, subst, ◌∙◌}, lemmas.Bool.eqb-true}, specs.Prelude.{◌≡◌, ◌<◌, ◌≤◌, ◌==◌, true, length, IsSome}}
+use Rattle.std.specs.Prelude.{Option, None, Some, option_map}
 
 -- an image with an open gate, and what its superblock spells
 pub opened-by : (image : Image) → 2 ≤ length image → (gate_byte image == gate_open) ≡ true → IsOpened image

@@ -1,21 +1,12 @@
 -- A superblock of version 1 is one of this version but for its version.
-use Rattle.std.specs.Prelude.{◌≡◌, ℕ, zero, suc, ◌+◌, ◌<◌, ◌≤◌, ◌&&◌, nat_lt, Bool, true, false, not, List, [], ◌∷◌, get_or, if◌then◌else◌, length, slice_set, take, Option, Some, None}
-use Rattle.std.specs.Int.{from_le_bytes, w64}
-use Rattle.std.proofs.Common.{refl, sym, ap, subst, ◌∙◌, ⊎_elim, arith}
-use Rattle.std.proofs.lemmas.Bool.{and_parts, cases_Bool, cond_both, le-ltb, lt-ltb}
-use Rattle.std.proofs.lemmas.List.{drop-set-lt, get_or-drop, get_or-take, set-get_or}
-use Rattle.mg_model.specs.Bytes.{bytes_at, number_at}
-use Rattle.mg_model.specs.BytesLemmas.{same_bytes-refl}
-use Rattle.mg_model.specs.Layout.{magic}
-use Rattle.mg_model.specs.Settings.{Settings, within_limits}
-use Rattle.mg_model.specs.Abbreviations.{steps_at}
-use Rattle.mg_model.specs.Spelling.{BadSuper, NotSuper, OldSuper, Spells, SuperRead, are_settings, super_bytes, super_fields, super_read}
-use Rattle.mg_model.specs.SuperblockLemmas.{super_read-back}
-use Rattle.mg_model.specs.Tariff.{is_tariff}
-use Rattle.mg_model.specs.Words.{same_bytes}
-use Rattle.mg_migrate.proofs.Fronts.{same_bytes-tells}
-use Rattle.mg_migrate.proofs.LiftedVolume.{long-super1, seed-long}
-use Rattle.mg_migrate.specs.Spelling1.{BadSuper1, NewSuper1, OldSuper1, Spells1, super1_bytes, super1_read}
+use Rattle.mg_migrate.{proofs.{Fronts.same_bytes-tells, LiftedVolume.{long-super1, seed-long}}, specs.Spelling1.{BadSuper1, NewSuper1, OldSuper1}}
+use Rattle.{mg_migrate.specs.Spelling1.{Spells1, super1_bytes, super1_read}, mg_model.specs.{Abbreviations.steps_at, Bytes.{bytes_at, number_at}}}
+use Rattle.mg_model.specs.{BytesLemmas.same_bytes-refl, Layout.magic, Settings.{Settings, within_limits}, Spelling.{BadSuper, NotSuper, OldSuper}}
+use Rattle.mg_model.specs.{Spelling.{Spells, SuperRead, are_settings, super_bytes, super_fields, super_read}, SuperblockLemmas.super_read-back}
+use Rattle.{mg_model.specs.{Tariff.is_tariff, Words.same_bytes}, std.proofs.Common.{refl, sym, ap, subst, ◌∙◌, ⊎_elim, arith}}
+use Rattle.std.proofs.lemmas.{Bool.{and_parts, cases_Bool, cond_both, le-ltb, lt-ltb}, List.{drop-set-lt, get_or-drop, get_or-take, set-get_or}}
+use Rattle.std.specs.{Int.{from_le_bytes, w64}, Prelude.{◌≡◌, ℕ, zero, suc, ◌+◌, ◌<◌, ◌≤◌, ◌&&◌, nat_lt, Bool, true, false, not, List, [], ◌∷◌}}
+use Rattle.std.specs.Prelude.{get_or, if◌then◌else◌, length, slice_set, take, Option, Some, None}
 
 -- a byte that is written twice
 set-twice : (xs : List ℕ) (i a b : ℕ) → slice_set (slice_set xs i a) i b ≡ slice_set xs i b

@@ -1,17 +1,9 @@
 -- What an image spells as a volume of version 1, case by case.
-use Rattle.std.proofs.Common.{arith}
-use Rattle.std.specs.Prelude.{◌≡◌, ◌≢◌, ℕ, ◌<◌, ◌≤◌, Bool, List, length, if◌then◌else◌, Option, Some, None}
-use Rattle.std.specs.Option.{option_map_or}
-use Rattle.std.proofs.Common.{ap}
-use Rattle.std.proofs.lemmas.Bool.{and_left, and_right, eq-eqb, le-leb, lt-leb, ne_eqb}
-use Rattle.mg_model.specs.Layout.{gate_open, super_block}
-use Rattle.mg_model.specs.Replay.{block_of, replay}
-use Rattle.mg_model.specs.Settings.{Settings}
-use Rattle.mg_model.specs.Volume.{Damaged, VolumeRead, gate_byte, IsOpened}
-use Rattle.mg_migrate.specs.Layout1.{total1_blocks}
-use Rattle.mg_migrate.specs.Lifted.{IsReplayed1}
-use Rattle.mg_migrate.specs.Spelling1.{super1_read}
-use Rattle.mg_migrate.specs.Version1.{NotVolume1, as_volume1, replayed1_volume, settled1_volume, volume1, volume1_behind}
+use Rattle.mg_migrate.specs.{Layout1.total1_blocks, Lifted.IsReplayed1, Spelling1.super1_read, Version1.{NotVolume1, as_volume1, replayed1_volume}}
+use Rattle.{mg_migrate.specs.Version1.{settled1_volume, volume1, volume1_behind}, mg_model.specs.{Layout.{gate_open, super_block}, Replay.block_of}}
+use Rattle.{mg_model.specs.{Replay.replay, Settings.Settings, Volume.{Damaged, VolumeRead, gate_byte, IsOpened}}, std.proofs.Common.{arith, ap}}
+use Rattle.std.{proofs.lemmas.Bool.{and_left, and_right, eq-eqb, le-leb, lt-leb, ne_eqb}, specs.{Option.option_map_or, Prelude.{◌≡◌, ◌≢◌, ℕ, ◌<◌}}}
+use Rattle.std.specs.Prelude.{◌≤◌, Bool, List, length, if◌then◌else◌, Option, Some, None}
 
 pub volume1-closed : (image : List (List ℕ)) → gate_byte image ≢ gate_open → volume1 image ≡ NotVolume1
 unfolding volume1

@@ -1,26 +1,13 @@
 -- A row of version 1 is spelled exactly if its bytes spell the lifted row, once they are moved.
-use Rattle.std.specs.Prelude.{◌≡◌, ℕ, zero, suc, ◌+◌, ◌≤◌, ◌&&◌, Bool, true, false, List, [], ◌∷◌, ◌++◌, if◌then◌else◌, is_some, length, map, min, replicate, Some, None}
-use Rattle.std.specs.Option.{option_map_or}
-use Rattle.std.proofs.Common.{refl, sym, ap, ◌∙◌, arith}
-use Rattle.std.proofs.Math.Bool.{and-true}
-use Rattle.std.proofs.lemmas.Bool.{le-leb}
-use Rattle.std.proofs.lemmas.List.{length-append, length-map}
-use Rattle.std.proofs.lemmas.List.Folds.{list_all-append}
-use Rattle.mg_model.specs.declared.slots.Pw.{Pw}
-use Rattle.mg_model.specs.declared.slots.Slot.{Slot}
-use Rattle.mg_model.specs.Bytes.{are_zeros, number_at, numbers_at, padded_to, words_bytes}
-use Rattle.mg_model.specs.BytesLemmas.{length-padded_to, length-words_bytes, same_bytes-refl}
-use Rattle.mg_model.specs.Limits.{never}
-use Rattle.mg_model.specs.RowLemmas.{are_zeros-replicate}
-use Rattle.mg_model.specs.Abbreviations.{live_if, object_head}
-use Rattle.mg_model.specs.Spelling.{Read, object_bytes, object_fields, object_read}
-use Rattle.mg_model.specs.State.{ObjectRow}
-use Rattle.mg_model.specs.Tests.{is_object_row}
-use Rattle.mg_model.specs.Words.{same_bytes}
-use Rattle.mg_migrate.proofs.Fronts.{are_zeros-behind, padded_to-further, same_bytes-append}
-use Rattle.mg_migrate.proofs.WideRow.{AreLong, fields-are, narrow}
+use Rattle.mg_migrate.proofs.{Fronts.{are_zeros-behind, padded_to-further, same_bytes-append}, WideRow.{AreLong, fields-are, narrow}}
 use Rattle.mg_migrate.specs.Spelling1.{is_object1_row, lift_password, lift_read, lift_row, object1_bytes, object1_fields, object1_read, passwords1_at}
-use Rattle.mg_migrate.specs.Widened.{joined, untils}
+use Rattle.{mg_migrate.specs.Widened.{joined, untils}, mg_model.specs.{Abbreviations.{live_if, object_head}, Bytes.{are_zeros, number_at}}}
+use Rattle.mg_model.specs.{Bytes.{numbers_at, padded_to, words_bytes}, BytesLemmas.{length-padded_to, length-words_bytes, same_bytes-refl}}
+use Rattle.mg_model.specs.{Limits.never, RowLemmas.are_zeros-replicate, Spelling.{Read, object_bytes, object_fields, object_read}, State.ObjectRow}
+use Rattle.{mg_model.specs.{Tests.is_object_row, Words.same_bytes, declared.slots.{Pw.Pw, Slot.Slot}}, std.proofs.Common.{refl, sym, ap, ◌∙◌, arith}}
+use Rattle.std.proofs.{Math.Bool.and-true, lemmas.{Bool.le-leb, List.{length-append, length-map, Folds.list_all-append}}}
+use Rattle.std.specs.{Option.option_map_or, Prelude.{◌≡◌, ℕ, zero, suc, ◌+◌, ◌≤◌, ◌&&◌, Bool, true, false, List, [], ◌∷◌, ◌++◌, if◌then◌else◌}}
+use Rattle.std.specs.Prelude.{is_some, length, map, min, replicate, Some, None}
 
 -- the columns of lifted passwords
 passwords-lifted : (pws : List Pw) → map (λ (pw : Pw). pw.password) (map lift_password pws) ≡ map (λ (pw : Pw). pw.password) pws

@@ -1,17 +1,11 @@
 -- A row of version 1 and its bytes where this version has them: both are read alike.
-use Rattle.std.specs.Prelude.{◌≡◌, ℕ, zero, suc, ◌+◌, ◌*◌, ◌<◌, ◌≤◌, ◌==◌, List, [], ◌++◌, get_or, if◌then◌else◌, length, map, min, replicate, slice_index, Some, None}
-use Rattle.std.proofs.Common.{refl, sym, ap, ◌∙◌, arith, append_assoc}
-use Rattle.std.proofs.Math.ListN.{get_or-append}
-use Rattle.std.proofs.lemmas.List.{length-replicate, length-append}
-use Rattle.mg_model.specs.Abbreviations.{extension_at, passwords_at}
-use Rattle.mg_model.specs.Bytes.{number_at, numbers_at}
-use Rattle.mg_model.specs.BytesLemmas.{number_at-behind, numbers_at-behind}
-use Rattle.mg_model.specs.Limits.{never}
-use Rattle.mg_model.specs.Ranges.{IsWord}
-use Rattle.mg_model.specs.Spelling.{object_fields}
-use Rattle.mg_migrate.proofs.Fronts.{get_or-behind, number_at-front, number_at-replicate, numbers_at-front}
-use Rattle.mg_migrate.specs.Spelling1.{lift_password, lift_row, object1_fields, passwords1_at}
-use Rattle.mg_migrate.specs.Widened.{joined, untils}
+use Rattle.mg_migrate.{proofs.Fronts.{get_or-behind, number_at-front, number_at-replicate, numbers_at-front}, specs.Spelling1.lift_password}
+use Rattle.mg_migrate.specs.{Spelling1.{lift_row, object1_fields, passwords1_at}, Widened.{joined, untils}}
+use Rattle.mg_model.specs.{Abbreviations.{extension_at, passwords_at}, Bytes.{number_at, numbers_at}, BytesLemmas.number_at-behind}
+use Rattle.{mg_model.specs.{BytesLemmas.numbers_at-behind, Limits.never, Ranges.IsWord, Spelling.object_fields}, std.proofs.Common.{refl, sym, ap}}
+use Rattle.std.proofs.{Common.{◌∙◌, arith, append_assoc}, Math.ListN.get_or-append, lemmas.List.{length-replicate, length-append}}
+use Rattle.std.specs.Prelude.{◌≡◌, ℕ, zero, suc, ◌+◌, ◌*◌, ◌<◌, ◌≤◌, ◌==◌, List, [], ◌++◌, get_or, if◌then◌else◌, length, map, min, replicate}
+use Rattle.std.specs.Prelude.{slice_index, Some, None}
 
 -- the bytes of a row of version 1, from its parts
 abbrev pub narrow : List ℕ → List ℕ → List ℕ → List ℕ → List ℕ → List ℕ

@@ -1,13 +1,8 @@
 -- What a disk holds while the contents of another one are copied to it, and then.
-use Rattle.std.specs.Prelude.{◌≡◌, ◌≢◌, ◌⊎◌, ℕ, ◌<◌, ◌≤◌, length, Option, Some, None, IsSomeAnd}
-use Rattle.std.specs.Option.{ForSome}
-use Rattle.mg_disk.specs.Disk.{Image, InRange}
-use Rattle.mg_disk.specs.Stops.{NothingPending}
-use Rattle.mg_disk.specs.declared.disk.Disk.{Ghosts}
-use Rattle.mg_layout.specs.MayFormat.{opened}
-use Rattle.mg_model.specs.Layout.{gate_open}
-use Rattle.mg_model.specs.Replay.{block_of}
-use Rattle.mg_model.specs.Volume.{NotVolume, gate_byte, volume}
+use Rattle.std.specs.{Option.ForSome, Prelude.{◌≡◌, ◌≢◌, ◌⊎◌, ℕ, ◌<◌, ◌≤◌, length, Option, Some, None, IsSomeAnd}}
+use Rattle.mg_disk.specs.{Disk.{Image, InRange}, Stops.NothingPending, declared.disk.Disk.Ghosts}
+use Rattle.{mg_layout.specs.MayFormat.opened, mg_model.specs.{Layout.gate_open, Replay.block_of, Volume.NotVolume}}
+use Rattle.mg_model.specs.Volume.{gate_byte, volume}
 
 -- the blocks after the gate and below n are those of the contents
 abbrev pub AreCopied : ℕ → Image → Image → Type 0

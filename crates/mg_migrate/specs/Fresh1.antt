@@ -1,14 +1,8 @@
 -- The blocks of a fresh volume of version 1, which only tests write.
 use Rattle.std.specs.Prelude.{ℕ, ◌+◌, ◌==◌, nat_lt, List, flat_map, if◌then◌else◌}
-use Rattle.mg_layout.specs.FreshImage.{fresh_bytes}
-use Rattle.mg_model.specs.Bytes.{padded_to}
-use Rattle.mg_model.specs.Fresh.{fresh}
-use Rattle.mg_model.specs.Layout.{first_object_block, super_block}
-use Rattle.mg_model.specs.Settings.{Settings}
-use Rattle.mg_model.specs.State.{Object}
-use Rattle.mg_migrate.specs.Layout1.{table1_block}
-use Rattle.mg_migrate.specs.Lifted.{table_shift}
-use Rattle.mg_migrate.specs.Spelling1.{object1_bytes, super1_bytes}
+use Rattle.{mg_layout.specs.FreshImage.fresh_bytes, mg_migrate.specs.{Layout1.table1_block, Lifted.table_shift}}
+use Rattle.{mg_migrate.specs.Spelling1.{object1_bytes, super1_bytes}, mg_model.specs.{Bytes.padded_to, Fresh.fresh}}
+use Rattle.mg_model.specs.{Layout.{first_object_block, super_block}, Settings.Settings, State.Object}
 
 -- the objects of a fresh state, from row 0 on
 abbrev pub objects1_bytes : Settings → List ℕ

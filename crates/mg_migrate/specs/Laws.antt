@@ -1,15 +1,11 @@
 -- What is true of lifted images.
 use Rattle.std.specs.Prelude.{◌≡◌, ℕ, ◌+◌, ◌<◌, ◌≤◌, List, Some}
-use Rattle.mg_model.specs.Abbreviations.{object_row_bytes}
-use Rattle.mg_model.specs.Layout.{first_frame, first_object_block, globals_block, super_block, table_block, table_blocks}
-use Rattle.mg_model.specs.Limits.{most_frames, object_limit}
-use Rattle.mg_model.specs.Replay.{block_of, replay}
-use Rattle.mg_model.specs.Settings.{Settings}
-use Rattle.mg_model.specs.Volume.{replayed_volume, volume}
-use Rattle.mg_migrate.specs.Layout1.{first_frame1, table1_block, total1_blocks}
-use Rattle.mg_migrate.specs.Lifted.{IsLifted, IsReplayed1, lifted, lifted_row}
-use Rattle.mg_migrate.specs.Spelling1.{Spells1, super1_read}
-use Rattle.mg_migrate.specs.Version1.{as_volume1, lift_volume, object1_row_bytes, replayed1_volume, volume1}
+use Rattle.mg_migrate.specs.{Layout1.{first_frame1, table1_block, total1_blocks}, Lifted.{IsLifted, IsReplayed1}}
+use Rattle.mg_migrate.specs.{Lifted.{lifted, lifted_row}, Spelling1.{Spells1, super1_read}, Version1.as_volume1}
+use Rattle.mg_migrate.specs.Version1.{lift_volume, object1_row_bytes, replayed1_volume, volume1}
+use Rattle.mg_model.specs.{Abbreviations.object_row_bytes, Layout.{first_frame, first_object_block, globals_block}}
+use Rattle.mg_model.specs.{Layout.{super_block, table_block, table_blocks}, Limits.{most_frames, object_limit}}
+use Rattle.mg_model.specs.{Replay.{block_of, replay}, Settings.Settings, Volume.{replayed_volume, volume}}
 
 -- how many blocks a volume of version 1 has: of 64 frames, and of as many as a volume may have
 pub record AreSizes : Type 0 where

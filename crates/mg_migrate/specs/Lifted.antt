@@ -1,15 +1,11 @@
 -- The image that a replayed one of version 1 is copied to, block by block: it spells the lifted state.
-use Rattle.std.specs.Prelude.{◌≡◌, ℕ, ◌+◌, ◌-◌, ◌*◌, ◌/◌, ◌%◌, ◌<◌, ◌≤◌, ◌==◌, nat_lt, List, ◌++◌, if◌then◌else◌, length, map, replicate, Some, None}
-use Rattle.std.specs.List.{range_with_len}
-use Rattle.mg_model.specs.Bytes.{bytes_at}
-use Rattle.mg_model.specs.Layout.{first_object_block, gate_open, globals_block, object_size, super_block, table_block, total_blocks}
-use Rattle.mg_model.specs.Replay.{block_of, replay}
-use Rattle.mg_model.specs.Settings.{Settings}
-use Rattle.mg_model.specs.Spelling.{Read, object_bytes, super_bytes}
-use Rattle.mg_model.specs.State.{ObjectRow}
-use Rattle.mg_model.specs.Volume.{IsOpened, gate_byte}
-use Rattle.mg_migrate.specs.Layout1.{object1_size, table1_block, total1_blocks}
-use Rattle.mg_migrate.specs.Spelling1.{Spells1, lift_row, object1_read, super1_read}
+use Rattle.std.specs.{List.range_with_len, Prelude.{◌≡◌, ℕ, ◌+◌, ◌-◌, ◌*◌, ◌/◌, ◌%◌, ◌<◌, ◌≤◌, ◌==◌, nat_lt, List}}
+use Rattle.std.specs.Prelude.{◌++◌, if◌then◌else◌, length, map, replicate, Some, None}
+use Rattle.mg_migrate.specs.{Layout1.{object1_size, table1_block, total1_blocks}, Spelling1.{Spells1, lift_row}}
+use Rattle.{mg_migrate.specs.Spelling1.{object1_read, super1_read}, mg_model.specs.Bytes.bytes_at}
+use Rattle.mg_model.specs.Layout.{first_object_block, gate_open, globals_block, object_size, super_block, table_block}
+use Rattle.mg_model.specs.{Layout.total_blocks, Replay.{block_of, replay}, Settings.Settings, Spelling.Read}
+use Rattle.mg_model.specs.{Spelling.{object_bytes, super_bytes}, State.ObjectRow, Volume.{IsOpened, gate_byte}}
 
 -- what a row becomes: a free row is free, and one that spells nothing spells nothing
 abbrev pub row_lifted : Read ObjectRow → List ℕ

@@ -1,17 +1,11 @@
 -- What is said of a migration: by its answer, and of what a stop may leave on the new disk.
 use Rattle.std.specs.Prelude.{◌≡◌, ◌⊎◌, ℕ, ◌<◌, ◌≤◌, Result, Ok, Err}
-use Rattle.mg_check.specs.declared.examining.Summary.{Summary}
-use Rattle.mg_check.specs.Summaries.{summary_of}
-use Rattle.mg_disk.specs.Disk.{Image}
-use Rattle.mg_layout.specs.MayFormat.{IsNoState, opened}
-use Rattle.mg_migrate.specs.Lifted.{IsLifted, IsReplayed1}
+use Rattle.{mg_check.specs.{Summaries.summary_of, declared.examining.Summary.Summary}, mg_disk.specs.Disk.Image}
+use Rattle.{mg_layout.specs.MayFormat.{IsNoState, opened}, mg_migrate.specs.Lifted.{IsLifted, IsReplayed1}}
 use Rattle.mg_migrate.specs.Version1.{Damaged1, Is1, NewVolume1, NotVolume1, OldVolume1, Volume1Read, lift, volume1}
-use Rattle.mg_migrate.specs.declared.migrating.MigrateFault.{MigrateFault}
+use Rattle.{mg_migrate.specs.declared.migrating.MigrateFault.MigrateFault, mg_model.specs.Layout.total_blocks}
+use Rattle.mg_model.specs.{Settings.Settings, State.State, Volume.{Is, volume}}
 use Rattle.mg_migrate.specs.declared.migrating.MigrateFault.TheVariants as fault
-use Rattle.mg_model.specs.Layout.{total_blocks}
-use Rattle.mg_model.specs.Settings.{Settings}
-use Rattle.mg_model.specs.State.{State}
-use Rattle.mg_model.specs.Volume.{Is, volume}
 
 -- the old image is a volume of version 1, and its state has P
 abbrev pub IsState1 : Volume1Read → (State → Type 0) → Type 0

@@ -1,10 +1,7 @@
 -- Lemmas on what a migration leaves, for crates above.
 use Rattle.std.specs.Prelude.{Option, Some, None}
-use Rattle.mg_disk.specs.Disk.{Image}
-use Rattle.mg_disk.specs.declared.disk.Disk.{Ghosts}
-use Rattle.mg_migrate.specs.Copied.{HoldsNow, ReadsNow}
-use Rattle.mg_migrate.specs.Migrated.{HasLifted, IsLiftOf, IsMigrated}
-use Rattle.mg_migrate.specs.Version1.{volume1}
+use Rattle.{mg_disk.specs.{Disk.Image, declared.disk.Disk.Ghosts}, mg_migrate.specs.Copied.{HoldsNow, ReadsNow}}
+use Rattle.mg_migrate.specs.{Migrated.{HasLifted, IsLiftOf, IsMigrated}, Version1.volume1}
 
 -- what reads give has what follows of what it has
 pub reads-wider : (P Q : Image → Type 0) → ((c : Image) → P c → Q c) → (old new : Option Image) → ReadsNow P old new → ReadsNow Q old new

@@ -1,20 +1,12 @@
 -- What was read of a volume of version 1.
 use Rattle.std.specs.Prelude.{◌≡◌, Result, Ok, Err}
-use Rattle.mg_rules.specs.declared.volume_rows.VolumeRows.{VolumeRows}
-use Rattle.mg_rules.specs.RowsRead.{state_in}
-use Rattle.mg_disk.specs.Disk.{Image}
-use Rattle.mg_journal.specs.Looked.{Fits}
-use Rattle.mg_migrate.specs.Layout1.{total1_blocks}
-use Rattle.mg_migrate.specs.Lifted.{IsReplayed1, lifted}
-use Rattle.mg_migrate.specs.LiftedView.{LiftedView}
-use Rattle.mg_migrate.specs.Spelling1.{Spells1, super1_read}
+use Rattle.{mg_disk.specs.Disk.Image, mg_journal.specs.Looked.Fits, mg_migrate.specs.Layout1.total1_blocks}
+use Rattle.mg_migrate.specs.{Lifted.{IsReplayed1, lifted}, LiftedView.LiftedView, Spelling1.{Spells1, super1_read}}
 use Rattle.mg_migrate.specs.Version1.{Damaged1, NewVolume1, NotVolume1, OldVolume1, Volume1Read}
-use Rattle.mg_migrate.specs.declared.migrating.MigrateFault.{MigrateFault}
+use Rattle.{mg_migrate.specs.declared.migrating.MigrateFault.MigrateFault, mg_model.specs.Layout.super_block}
+use Rattle.mg_model.specs.{Replay.block_of, Settings.Settings, Volume.{Is, IsOpened, replayed_volume}}
+use Rattle.mg_rules.specs.{RowsRead.state_in, declared.volume_rows.VolumeRows.VolumeRows}
 use Rattle.mg_migrate.specs.declared.migrating.MigrateFault.TheVariants as fault
-use Rattle.mg_model.specs.Layout.{super_block}
-use Rattle.mg_model.specs.Replay.{block_of}
-use Rattle.mg_model.specs.Settings.{Settings}
-use Rattle.mg_model.specs.Volume.{Is, IsOpened, replayed_volume}
 
 -- its gate is open, and its superblock spells these settings as version 1 does
 pub record HasSettings1 (settings : Settings) (image : Image) : Type 0 where

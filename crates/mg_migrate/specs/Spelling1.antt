@@ -1,17 +1,13 @@
 -- How a superblock and an object are spelled in version 1, where a password never ends and its row has no until. Of a row that
 -- was read the untils are 0; the row that it becomes has the until of a password that never ends.
-use Rattle.std.specs.Prelude.{ℕ, zero, suc, ◌+◌, ◌-◌, ◌*◌, ◌&&◌, nat_le, nat_lt, Bool, not, min, List, [], ◌∷◌, ◌++◌, if◌then◌else◌, length, map, replicate, slice_index, ◌==◌, Option, Some, None, option_map}
+use Rattle.std.specs.Prelude.{ℕ, zero, suc, ◌+◌, ◌-◌, ◌*◌, ◌&&◌, nat_le, nat_lt, Bool, not, min, List, [], ◌∷◌, ◌++◌}
+use Rattle.std.specs.Prelude.{if◌then◌else◌, length, map, replicate, slice_index, ◌==◌, Option, Some, None, option_map}
+use Rattle.mg_migrate.specs.Layout1.{object1_end, object1_entries, object1_rights, object1_size, password1_limit}
+use Rattle.{mg_migrate.specs.Layout1.version1, mg_model.specs.Abbreviations.{free_or, live_if, object_head, step_words}}
+use Rattle.mg_model.specs.{Bytes.{bytes_at, number_at, numbers_at, padded_to, words_bytes}, Layout.{block_size, magic}}
+use Rattle.mg_model.specs.{Limits.{entry_point_limit, never}, Settings.Settings, Spelling.{Read, are_settings}}
+use Rattle.mg_model.specs.{Spelling.super_fields, State.ObjectRow, Tests.is_object_row, Words.same_bytes}
 use Rattle.mg_model.specs.declared.slots.Pw.{Pw}
-use Rattle.mg_model.specs.Bytes.{bytes_at, number_at, numbers_at, padded_to, words_bytes}
-use Rattle.mg_model.specs.Layout.{block_size, magic}
-use Rattle.mg_model.specs.Limits.{entry_point_limit, never}
-use Rattle.mg_model.specs.Settings.{Settings}
-use Rattle.mg_model.specs.Abbreviations.{free_or, live_if, object_head, step_words}
-use Rattle.mg_model.specs.Spelling.{Read, are_settings, super_fields}
-use Rattle.mg_model.specs.State.{ObjectRow}
-use Rattle.mg_model.specs.Tests.{is_object_row}
-use Rattle.mg_model.specs.Words.{same_bytes}
-use Rattle.mg_migrate.specs.Layout1.{object1_end, object1_entries, object1_rights, object1_size, password1_limit, version1}
 
 -- the superblock: it differs in its version alone
 abbrev pub super1_bytes : Settings → List ℕ

@@ -1,20 +1,16 @@
 -- What an image spells as a volume of version 1, and the state of this version that comes of it.
-use Rattle.std.specs.Prelude.{ℕ, zero, suc, ◌+◌, ◌==◌, nat_le, List, [], ◌∷◌, ◌++◌, drop, if◌then◌else◌, length, map, position, replicate, take, Option, Some, None}
-use Rattle.std.specs.Option.{option_map_or}
+use Rattle.std.specs.{Option.option_map_or, Prelude.{ℕ, zero, suc, ◌+◌, ◌==◌, nat_le, List, [], ◌∷◌, ◌++◌, drop}}
+use Rattle.std.specs.Prelude.{if◌then◌else◌, length, map, position, replicate, take, Option, Some, None}
+use Rattle.mg_migrate.specs.{Layout1.{first_frame1, object1_size, table1_block, total1_blocks}, Spelling1.BadSuper1}
+use Rattle.mg_migrate.specs.Spelling1.{NewSuper1, NotSuper1, OldSuper1, Spells1, Super1Read, lift_row, object1_read}
+use Rattle.{mg_migrate.specs.Spelling1.super1_read, mg_model.specs.Abbreviations.{fitting, table_entries}}
+use Rattle.mg_model.specs.{Bytes.{are_zeros, block_words}, Layout.{account_size, first_account_block}}
+use Rattle.mg_model.specs.Layout.{first_object_block, first_thread_block, globals_block, super_block, table_blocks}
+use Rattle.mg_model.specs.{Limits.{account_limit, thread_limit, object_limit}, Objects.{page_of, with_object}}
+use Rattle.mg_model.specs.{Replay.{block_of, replay}, Settings.Settings, Spelling.{account_read, globals_read}}
+use Rattle.mg_model.specs.{Spelling.thread_read, State.{Object, ObjectRow, State, ThreadRow}, Volume.{Damaged, Is}}
+use Rattle.mg_model.specs.{Volume.{Rows, VolumeRead, has_open_gate, live_rows, row_bytes}, Words.and_then}
 use Rattle.mg_model.specs.declared.accounts.AccRow.{AccRow}
-use Rattle.mg_model.specs.Bytes.{are_zeros, block_words}
-use Rattle.mg_model.specs.Layout.{account_size, first_account_block, first_object_block, first_thread_block, globals_block, super_block, table_blocks}
-use Rattle.mg_model.specs.Limits.{account_limit, thread_limit, object_limit}
-use Rattle.mg_model.specs.Objects.{page_of, with_object}
-use Rattle.mg_model.specs.Replay.{block_of, replay}
-use Rattle.mg_model.specs.Settings.{Settings}
-use Rattle.mg_model.specs.Spelling.{account_read, globals_read, thread_read}
-use Rattle.mg_model.specs.State.{Object, ObjectRow, State, ThreadRow}
-use Rattle.mg_model.specs.Abbreviations.{fitting, table_entries}
-use Rattle.mg_model.specs.Volume.{Damaged, Is, Rows, VolumeRead, has_open_gate, live_rows, row_bytes}
-use Rattle.mg_model.specs.Words.{and_then}
-use Rattle.mg_migrate.specs.Layout1.{first_frame1, object1_size, table1_block, total1_blocks}
-use Rattle.mg_migrate.specs.Spelling1.{BadSuper1, NewSuper1, NotSuper1, OldSuper1, Spells1, Super1Read, lift_row, object1_read, super1_read}
 
 -- What an image spells to who looks for version 1: no volume, an older one, a newer one, a damaged one, or a state.
 pub data Volume1Read : Type 0 where

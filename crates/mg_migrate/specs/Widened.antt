@@ -1,8 +1,7 @@
 -- The bytes of an object's row of version 1 moved to where this version has them, with untils of passwords that never end.
 use Rattle.std.specs.Prelude.{ℕ, ◌&&◌, nat_le, Bool, List, ◌++◌, drop, replicate, take}
-use Rattle.mg_model.specs.Bytes.{are_zeros, bytes_at, number_at, padded_to, words_bytes}
-use Rattle.mg_model.specs.Limits.{entry_point_limit, never}
-use Rattle.mg_migrate.specs.Layout1.{object1_end, password1_limit}
+use Rattle.{mg_migrate.specs.Layout1.{object1_end, password1_limit}, mg_model.specs.Bytes.{are_zeros, bytes_at}}
+use Rattle.mg_model.specs.{Bytes.{number_at, padded_to, words_bytes}, Limits.{entry_point_limit, never}}
 
 -- no more passwords and entries than a row may have, and zeros after the columns
 abbrev pub may_widen : List ℕ → Bool

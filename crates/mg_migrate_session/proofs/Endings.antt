@@ -1,26 +1,15 @@
 -- What the command keeps when a line says what the old image is, and when nothing is printed.
-use Rattle.std.specs.Prelude.{ℕ, ◌≡◌, ◌⊎◌, ◌<◌, ◌≤◌, nat_lt, List, Bool, true, false, if◌then◌else◌}
-use Rattle.std.specs.Io.KnownBytes.{Appends}
-use Rattle.std.specs.Option.{ForSome}
-use Rattle.std.proofs.Common.{refl, sym, ap, subst, ◌∙◌, inl, inr, ⊎_elim, arith}
-use Rattle.std.proofs.lemmas.Bool.{le-ltb, lt-ltb}
-use Rattle.mg_check.specs.declared.examining.Summary.{Summary}
-use Rattle.mg_check.specs.Summaries.{summary_of}
-use Rattle.mg_disk.specs.Disk.{Image}
-use Rattle.mg_disk.specs.Stops.{CountRose, FromLeft, Leaves, NothingPending, WritesNothing}
+use Rattle.{mg_check.specs.{Summaries.summary_of, declared.examining.Summary.Summary}, mg_commands.specs.{Headline.small_line, Unopened.summary_line}}
+use Rattle.{mg_disk.specs.{Disk.Image, Stops.{CountRose, FromLeft, Leaves, NothingPending, WritesNothing}}, mg_faults.specs.Faults.Rose}
+use Rattle.{mg_io.specs.Known.{AppendsPrefix, AppendsPrefix-none}, mg_migrate.specs.{Copied.{ReadsNow, StandsClosed}, Migrated.{Fits1, IsLiftOf}}}
+use Rattle.mg_migrate.specs.{Migrated.{IsState1, MayMigrate, StandsBack, needed}, Version1.{Damaged1, Is1, NewVolume1, NotVolume1, OldVolume1}}
+use Rattle.{mg_migrate.specs.Version1.{Volume1Read, lift, volume1}, mg_migrate_session.specs.Headline.{GoesWith, HasPlaces, HasPut, IfState1}}
+use Rattle.{mg_migrate_session.specs.Headline.{MigrateKeeps, StandsAfter, migrate_line, migrate_status}, mg_model.specs.State.State}
+use Rattle.{mg_serve.specs.{Sessions.use_of, declared.status.Status.Status}, std.proofs.Common.{refl, sym, ap, subst, ◌∙◌, inl, inr, ⊎_elim, arith}}
+use Rattle.std.{proofs.lemmas.Bool.{le-ltb, lt-ltb}, specs.{Io.KnownBytes.Appends, Option.ForSome, Prelude.{ℕ, ◌≡◌, ◌⊎◌, ◌<◌, ◌≤◌, nat_lt, List}}}
+use Rattle.std.specs.Prelude.{Bool, true, false, if◌then◌else◌}
 use Rattle.mg_disk.specs.declared.disk.Disk as disks
-use Rattle.mg_faults.specs.Faults.{Rose}
-use Rattle.mg_io.specs.Known.{AppendsPrefix, AppendsPrefix-none}
 use Rattle.mg_io.specs.declared.traits.Sink as sinks
-use Rattle.mg_migrate.specs.Copied.{ReadsNow, StandsClosed}
-use Rattle.mg_migrate.specs.Migrated.{Fits1, IsLiftOf, IsState1, MayMigrate, StandsBack, needed}
-use Rattle.mg_migrate.specs.Version1.{Damaged1, Is1, NewVolume1, NotVolume1, OldVolume1, Volume1Read, lift, volume1}
-use Rattle.mg_migrate_session.specs.Headline.{GoesWith, HasPlaces, HasPut, IfState1, MigrateKeeps, StandsAfter, migrate_line, migrate_status}
-use Rattle.mg_model.specs.State.{State}
-use Rattle.mg_serve.specs.Sessions.{use_of}
-use Rattle.mg_commands.specs.Headline.{small_line}
-use Rattle.mg_commands.specs.Unopened.{summary_line}
-use Rattle.mg_serve.specs.declared.status.Status.{Status}
 use Rattle.mg_serve.specs.declared.status.Status.TheVariants as status
 
 -- a promise on a state, from another one, and from one on every state

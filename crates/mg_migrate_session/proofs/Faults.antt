@@ -1,25 +1,15 @@
 -- What the command keeps when the volume was not migrated.
-use Rattle.std.specs.Prelude.{ℕ, ◌≡◌, ◌⊎◌, List, Result, Err}
-use Rattle.std.specs.Io.KnownBytes.{Appends}
-use Rattle.std.specs.Option.{ForSome}
-use Rattle.std.proofs.Common.{refl, sym, subst, inl, inr}
-use Rattle.mg_check.specs.declared.examining.Summary.{Summary}
-use Rattle.mg_disk.specs.Stops.{CountRose, FromLeft, Leaves, WritesNothing}
+use Rattle.{mg_check.specs.declared.examining.Summary.Summary, mg_disk.specs.Stops.{CountRose, FromLeft, Leaves, WritesNothing}}
+use Rattle.{mg_faults.specs.Faults.Rose, mg_io.specs.Known.AppendsPrefix, mg_migrate.specs.{Copied.StandsClosed, Migrated.{Fits1, IsUntouched}}}
+use Rattle.mg_migrate.specs.{Migrated.{MayMigrate, StandsBack, Tells1}, Version1.{Damaged1, NewVolume1, NotVolume1, OldVolume1, Volume1Read, volume1}}
+use Rattle.{mg_migrate.specs.declared.migrating.MigrateFault.MigrateFault, mg_migrate_session.proofs.Endings.{IsTold, disk_keeps, memory_keeps}}
+use Rattle.mg_migrate_session.{proofs.Endings.{small_state1, told_keeps, too_small}, specs.FaultText.{EndsUnmigratedBy, TellsNothingOld, fault_line}}
+use Rattle.{mg_migrate_session.specs.Headline.{HasPut, IfState1, MigrateKeeps}, mg_model.specs.State.State, mg_serve.specs.Sessions.use_of}
+use Rattle.{mg_serve.specs.declared.status.Status.Status, std.{proofs.Common.{refl, sym, subst, inl, inr}, specs.Io.KnownBytes.Appends}}
+use Rattle.std.specs.{Option.ForSome, Prelude.{ℕ, ◌≡◌, ◌⊎◌, List, Result, Err}}
 use Rattle.mg_disk.specs.declared.disk.Disk as disks
-use Rattle.mg_faults.specs.Faults.{Rose}
-use Rattle.mg_io.specs.Known.{AppendsPrefix}
 use Rattle.mg_io.specs.declared.traits.Sink as sinks
-use Rattle.mg_migrate.specs.Copied.{StandsClosed}
-use Rattle.mg_migrate.specs.Migrated.{Fits1, IsUntouched, MayMigrate, StandsBack, Tells1}
-use Rattle.mg_migrate.specs.Version1.{Damaged1, NewVolume1, NotVolume1, OldVolume1, Volume1Read, volume1}
-use Rattle.mg_migrate.specs.declared.migrating.MigrateFault.{MigrateFault}
 use Rattle.mg_migrate.specs.declared.migrating.MigrateFault.TheVariants as fault
-use Rattle.mg_migrate_session.specs.Headline.{HasPut, IfState1, MigrateKeeps}
-use Rattle.mg_migrate_session.specs.FaultText.{EndsUnmigratedBy, TellsNothingOld, fault_line}
-use Rattle.mg_migrate_session.proofs.Endings.{IsTold, disk_keeps, memory_keeps, small_state1, told_keeps, too_small}
-use Rattle.mg_model.specs.State.{State}
-use Rattle.mg_serve.specs.Sessions.{use_of}
-use Rattle.mg_serve.specs.declared.status.Status.{Status}
 use Rattle.mg_serve.specs.declared.status.Status.TheVariants as status
 
 -- what is said of the image, as it is this kind of none

@@ -1,10 +1,9 @@
 -- What a fault of a migration says, and how the command ends with it.
 use Rattle.std.specs.Prelude.{ℕ, ◌≡◌, ◌⊎◌, List, [], ◌∷◌, ◌++◌, codes}
-use Rattle.mg_migrate.specs.declared.migrating.MigrateFault.{MigrateFault}
-use Rattle.mg_migrate.specs.declared.migrating.MigrateFault.TheVariants as fault
-use Rattle.mg_model.specs.Volume.{Damaged, NotVolume, OldVolume}
 use Rattle.mg_commands.specs.Headline.{check_line, small_line}
-use Rattle.mg_serve.specs.declared.status.Status.{Status}
+use Rattle.{mg_migrate.specs.declared.migrating.MigrateFault.MigrateFault, mg_model.specs.Volume.{Damaged, NotVolume}}
+use Rattle.{mg_model.specs.Volume.OldVolume, mg_serve.specs.declared.status.Status.Status}
+use Rattle.mg_migrate.specs.declared.migrating.MigrateFault.TheVariants as fault
 use Rattle.mg_serve.specs.declared.status.Status.TheVariants as status
 
 -- the line of a fault, if it has one

@@ -1,24 +1,17 @@
 -- What a migration promises. An object that does not tell its content has None for it; a promise on content is then empty.
-use Rattle.std.specs.Prelude.{ℕ, ◌≡◌, ◌⊎◌, ◌<◌, ◌≤◌, nat_lt, List, [], ◌∷◌, ◌++◌, if◌then◌else◌, codes}
-use Rattle.std.specs.Io.KnownBytes.{Appends}
-use Rattle.std.specs.Option.{ForSome}
-use Rattle.mg_check.specs.declared.examining.Summary.{Summary}
-use Rattle.mg_disk.specs.Disk.{Image}
-use Rattle.mg_disk.specs.Stops.{FromLeft, NothingPending, WritesNothing}
-use Rattle.mg_disk.specs.declared.disk.Disk as disks
-use Rattle.mg_faults.specs.Faults.{Rose}
-use Rattle.mg_io.specs.Known.{AppendsPrefix}
-use Rattle.mg_io.specs.declared.traits.Sink as sinks
-use Rattle.mg_migrate.specs.Copied.{ReadsNow, StandsClosed}
-use Rattle.mg_migrate.specs.Migrated.{Fits1, HasLifted, IsLiftOf, MayMigrate, StandsBack, needed}
-use Rattle.mg_migrate.specs.Version1.{Damaged1, Is1, NewVolume1, NotVolume1, OldVolume1, Volume1Read, lift, volume1}
-use Rattle.mg_model.specs.State.{State}
-use Rattle.mg_model.specs.Volume.{Damaged, Is, NotVolume, OldVolume}
+use Rattle.std.specs.{Io.KnownBytes.Appends, Option.ForSome, Prelude.{ℕ, ◌≡◌, ◌⊎◌, ◌<◌, ◌≤◌, nat_lt, List, [], ◌∷◌}}
+use Rattle.std.specs.Prelude.{◌++◌, if◌then◌else◌, codes}
+use Rattle.{mg_check.specs.declared.examining.Summary.Summary, mg_commands.specs.Headline.{blocks_of, check_line}}
+use Rattle.{mg_commands.specs.{Headline.small_line, Unopened.summary_line}, mg_disk.specs.{Disk.Image, Stops.FromLeft}}
+use Rattle.{mg_disk.specs.Stops.{NothingPending, WritesNothing}, mg_faults.specs.Faults.Rose}
+use Rattle.{mg_io.specs.{Arguments.PutsUsage, Known.AppendsPrefix}, mg_migrate.specs.Copied.{ReadsNow, StandsClosed}}
+use Rattle.mg_migrate.specs.{Migrated.{Fits1, HasLifted, IsLiftOf, MayMigrate, StandsBack, needed}, Version1.Damaged1}
+use Rattle.mg_migrate.specs.Version1.{Is1, NewVolume1, NotVolume1, OldVolume1, Volume1Read, lift, volume1}
+use Rattle.mg_model.specs.{State.State, Volume.{Damaged, Is, NotVolume, OldVolume}}
 use Rattle.mg_serve.specs.Sessions.{AlwaysLeft, DiskRose, DiskUse, IsDoneOrMemory, Puts, PutsPrefix, SinkRose, SinkUse}
-use Rattle.mg_commands.specs.Headline.{blocks_of, check_line, small_line}
-use Rattle.mg_io.specs.Arguments.{PutsUsage}
-use Rattle.mg_commands.specs.Unopened.{summary_line}
 use Rattle.mg_serve.specs.declared.status.Status.{Status}
+use Rattle.mg_disk.specs.declared.disk.Disk as disks
+use Rattle.mg_io.specs.declared.traits.Sink as sinks
 use Rattle.mg_serve.specs.declared.status.Status.TheVariants as status
 
 -- The line, and the status with it

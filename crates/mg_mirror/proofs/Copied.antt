@@ -1,17 +1,12 @@
 -- How a copy proceeds: block 0 closed, the blocks after it, block 0.
-use Rattle.std.specs.Prelude.{◌≡◌, ◌<◌, ◌≤◌, ◌+◌, ◌-◌, [], ℕ, List, Bool, is_some, length, option_map, slice_index, slice_set, take, Option, Some, None, Result, Ok, Err, IfOk, IsTrue, OnErr}
-use Rattle.std.specs.Option.{ForSome}
-use Rattle.std.proofs.Common.{refl, inl, inr, sym, ap, subst, ◌∙◌, ⊎_elim, arith}
-use Rattle.std.proofs.lemmas.Bool.{cases_lt}
-use Rattle.std.proofs.lemmas.List.{ext_get_or, get_or-set_other, get_or-set_same, get_or-take, get_or_past, length-set, length-take-le}
-use Rattle.mg_disk.specs.Disk.{HasBlocks, Image, InRange, SameBut, SeenBut, TornAt, block_at, only_place}
-use Rattle.mg_disk.specs.PlaceLemmas.{same_after}
-use Rattle.mg_disk.specs.Runs.{from_then, from_wider, nothing_none, nothing_then, time_then, time_wider, torn_once}
-use Rattle.mg_disk.specs.Stops.{CountGoes, CountRose, FromLeft, Leaves, MightHaveLeft, NothingPending, TimeGoes}
-use Rattle.mg_disk.specs.declared.disk.Disk.{Ghosts}
-use Rattle.mg_faults.specs.Faults.{count_none, count_then, then_rose}
-use Rattle.mg_mirror.specs.Copy.{AreFrom, AreSame, Copies, CopySteps, IsCopied, LeavesCopy, MayCopy, first_byte}
-use Rattle.mg_mirror.specs.MirrorLemmas.{same_cut}
+use Rattle.mg_disk.specs.{Disk.{HasBlocks, Image, InRange, SameBut, SeenBut, TornAt, block_at, only_place}, PlaceLemmas.same_after, Runs.from_then}
+use Rattle.mg_disk.specs.{Runs.{from_wider, nothing_none, nothing_then, time_then, time_wider, torn_once}, Stops.{CountGoes, CountRose, FromLeft}}
+use Rattle.{mg_disk.specs.{Stops.{Leaves, MightHaveLeft, NothingPending, TimeGoes}, declared.disk.Disk.Ghosts}, mg_faults.specs.Faults.count_none}
+use Rattle.{mg_faults.specs.Faults.{count_then, then_rose}, mg_mirror.specs.Copy.{AreFrom, AreSame, Copies, CopySteps, IsCopied, LeavesCopy, MayCopy}}
+use Rattle.{mg_mirror.specs.{Copy.first_byte, MirrorLemmas.same_cut}, std.proofs.Common.{refl, inl, inr, sym, ap, subst, ◌∙◌, ⊎_elim, arith}}
+use Rattle.std.proofs.lemmas.{Bool.cases_lt, List.{ext_get_or, get_or-set_other, get_or-set_same, get_or-take, get_or_past, length-set}}
+use Rattle.std.{proofs.lemmas.List.length-take-le, specs.{Option.ForSome, Prelude.{◌≡◌, ◌<◌, ◌≤◌, ◌+◌, ◌-◌, [], ℕ, List, Bool, is_some, length}}}
+use Rattle.std.specs.Prelude.{option_map, slice_index, slice_set, take, Option, Some, None, Result, Ok, Err, IfOk, IsTrue, OnErr}
 
 -- what was told is told after a write, whatever it answers
 pub still_told : (places : ℕ → Type 0) (old new : Option Image) → SeenBut places old new → is_some new ≡ is_some old

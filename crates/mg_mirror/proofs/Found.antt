@@ -1,11 +1,7 @@
 -- What a stop may leave of a mirror as it was opened.
-use Rattle.std.specs.Prelude.{◌≡◌, ◌≢◌, ℕ, Bool, IsTrue, Option, Some, None, IsSomeAnd}
-use Rattle.std.proofs.Common.{refl, ◌∙◌, ⊎_elim}
-use Rattle.mg_disk.specs.Disk.{Image, Moment, OnlySeen}
-use Rattle.mg_mirror.specs.Copy.{IsCopied}
-use Rattle.mg_mirror.specs.Mirror.{CutOf, LeftSince, moment_of}
-use Rattle.mg_mirror.specs.declared.mirror.Side.{Side}
-use Rattle.mg_mirror.specs.declared.mirror.Side.TheVariants.{Left, Right}
+use Rattle.{mg_disk.specs.Disk.{Image, Moment, OnlySeen}, mg_mirror.specs.{Copy.IsCopied, Mirror.{CutOf, LeftSince, moment_of}}}
+use Rattle.{mg_mirror.specs.declared.mirror.Side.{Side, TheVariants.{Left, Right}}, std.{proofs.Common.{refl, ◌∙◌, ⊎_elim}, specs.Prelude.{◌≡◌, ◌≢◌}}}
+use Rattle.std.specs.Prelude.{ℕ, Bool, IsTrue, Option, Some, None, IsSomeAnd}
 
 wider : (n : ℕ) (new old : Image → Type 0) (c : Image) → ((a : Image) → new a → old a) → CutOf n new c → CutOf n old c
 wider n new old c all is = record { whole = is.whole; is_one = all is.whole is.is_one; cut = is.cut }

@@ -1,20 +1,11 @@
 -- A call of a mirror, from the calls of its sides.
-use Rattle.std.proofs.lemmas.Bool.Decides.{nat_tests}
-use Rattle.std.specs.Prelude.{◌≡◌, ◌≢◌, ◌⊎◌, ◌+◌, ◌-◌, ◌<◌, ◌≤◌, ◌&&◌, ℕ, List, [], get_or, length, min, take, Option, Some, None, option_map, slice_set}
-use Rattle.std.specs.Option.{ForSome}
-use Rattle.std.proofs.Common.{refl, sym, ap, ◌∙◌, subst, ⊎_elim, arith}
-use Rattle.std.proofs.Math.Nat.{min-le_left}
-use Rattle.std.proofs.lemmas.Bool.{cases_lt}
-use Rattle.std.proofs.lemmas.List.{ext_get_or, length-take}
-use Rattle.mg_disk.specs.Disk.{Image, GoesOn, HasBlocks, InRange, SameBut, SeenBut, TornAt, block_at, no_image}
-use Rattle.mg_disk.specs.Stops.{TimeGoes}
-use Rattle.mg_disk.specs.Runs.{time_none}
-use Rattle.mg_disk.specs.declared.disk.Disk.{Ghosts}
-use Rattle.mg_mirror.specs.Mirror.{told_cut, seen_of, SameWhileBoth, moment_of, Been, LeftSince}
-use Rattle.mg_mirror.specs.MirrorLemmas.{IsToldAs, told_map, both_told, cut_block, cut_set}
-use Rattle.mg_mirror.specs.MomentLemmas.{Cuts, goes_then, goes_same, goes_alone, torn_left, torn_right}
-use Rattle.mg_mirror.specs.declared.mirror.Side.{Side}
-use Rattle.mg_mirror.specs.declared.mirror.Side.TheVariants.{Left, Right}
+use Rattle.mg_disk.specs.{Disk.{Image, GoesOn, HasBlocks, InRange, SameBut, SeenBut, TornAt, block_at, no_image}, Runs.time_none, Stops.TimeGoes}
+use Rattle.{mg_disk.specs.declared.disk.Disk.Ghosts, mg_mirror.specs.Mirror.{told_cut, seen_of, SameWhileBoth, moment_of, Been, LeftSince}}
+use Rattle.mg_mirror.specs.{MirrorLemmas.{IsToldAs, told_map, both_told, cut_block, cut_set}, MomentLemmas.{Cuts, goes_then, goes_same, goes_alone}}
+use Rattle.{mg_mirror.specs.{MomentLemmas.{torn_left, torn_right}, declared.mirror.Side.{Side, TheVariants.{Left, Right}}}, std.proofs.Common.refl}
+use Rattle.std.proofs.{Common.{sym, ap, ◌∙◌, subst, ⊎_elim, arith}, Math.Nat.min-le_left, lemmas.Bool.{cases_lt, Decides.nat_tests}}
+use Rattle.std.{proofs.lemmas.List.{ext_get_or, length-take}, specs.{Option.ForSome, Prelude.{◌≡◌, ◌≢◌, ◌⊎◌, ◌+◌, ◌-◌, ◌<◌, ◌≤◌, ◌&&◌, ℕ, List, []}}}
+use Rattle.std.specs.Prelude.{get_or, length, min, take, Option, Some, None, option_map, slice_set}
 
 pub told_same : (o : Option Image) → IsToldAs o o
 told_same (Some x) = tt

@@ -1,9 +1,8 @@
 -- The first blocks of one image on another, block 0 last.
-use Rattle.std.specs.Prelude.{◌≡◌, ◌⊎◌, ◌<◌, ◌≤◌, ℕ, Bool, false, IsTrue, is_some, length, slice_index, take, Option, Result, IfOk, OnErr}
-use Rattle.std.specs.Option.{ForSome}
-use Rattle.mg_disk.specs.Disk.{HasBlocks, Image, InRange, SameBut, block_at, only_place}
-use Rattle.mg_disk.specs.Stops.{FromLeft, Leaves, NothingPending, WritesNothing, CountGoes, CountRose}
-use Rattle.mg_disk.specs.declared.disk.Disk.{Ghosts}
+use Rattle.std.specs.{Option.ForSome, Prelude.{◌≡◌, ◌⊎◌, ◌<◌, ◌≤◌, ℕ, Bool, false, IsTrue, is_some, length}}
+use Rattle.std.specs.Prelude.{slice_index, take, Option, Result, IfOk, OnErr}
+use Rattle.mg_disk.specs.{Disk.{HasBlocks, Image, InRange, SameBut, block_at, only_place}, Stops.{FromLeft, Leaves}}
+use Rattle.mg_disk.specs.{Stops.{NothingPending, WritesNothing, CountGoes, CountRose}, declared.disk.Disk.Ghosts}
 
 -- two disks have n blocks, and these, no more than n, are the first ones of the one that is copied
 pub record CanCopy {D E : Type 0} (d : Ghosts D) (e : Ghosts E) (n : ℕ) (first : Image) (from : D) (to : E) : Type 0 where

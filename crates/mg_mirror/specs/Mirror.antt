@@ -1,7 +1,6 @@
 -- What a disk made of two gives, and what a stop leaves of it.
 use Rattle.std.specs.Prelude.{◌≡◌, ◌⊎◌, ℕ, Bool, IsTrue, take, Option, Some, None}
-use Rattle.mg_disk.specs.Disk.{Image, Moment, At, Both, Alone}
-use Rattle.mg_mirror.specs.declared.mirror.Side.{Side}
+use Rattle.{mg_disk.specs.Disk.{Image, Moment, At, Both, Alone}, mg_mirror.specs.declared.mirror.Side.Side}
 use Rattle.mg_mirror.specs.declared.mirror.Side.TheVariants.{Left, Right}
 
 -- what the first gives, if both are told, cut to n blocks

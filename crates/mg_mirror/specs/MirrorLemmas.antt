@@ -1,17 +1,11 @@
 -- Lemmas on what such a disk gives, and on what a stop leaves of it.
-use Rattle.std.specs.Prelude.{◌≡◌, ◌⊎◌, ◌&&◌, ◌<◌, ◌≤◌, ℕ, Bool, IsTrue, true, false, List, [], length, take, Option, Some, None, option_map, slice_set}
-use Rattle.std.specs.Option.{ForSome}
-use Rattle.std.proofs.Common.{refl, sym, ap, ◌∙◌, subst, inl, inr, ⊎_elim, arith, min}
-use Rattle.std.proofs.Math.Nat.{min-le_left, min-eq_left}
-use Rattle.std.proofs.Math.Seq.{take-set-lt}
-use Rattle.std.proofs.lemmas.Bool.Decides.{leb_tells}
-use Rattle.std.proofs.lemmas.List.{length-take, get_or-take, get_or_past}
-use Rattle.std.proofs.lemmas.List.Elements.{All-take}
-use Rattle.mg_disk.specs.BlockBytes.{IsBytes}
-use Rattle.mg_disk.specs.Disk.{Image, AreBytes, block_at, SameBut, SeenBut, OnlySeen}
-use Rattle.mg_mirror.specs.declared.mirror.Side.{Side}
-use Rattle.mg_mirror.specs.declared.mirror.Side.TheVariants.{Left, Right}
-use Rattle.mg_mirror.specs.Mirror.{CutOf, seen_of, told_cut}
+use Rattle.std.proofs.{Common.{refl, sym, ap, ◌∙◌, subst, inl, inr, ⊎_elim, arith, min}, Math.Nat.min-le_left}
+use Rattle.std.proofs.{Math.{Nat.min-eq_left, Seq.take-set-lt}, lemmas.{Bool.Decides.leb_tells, List.length-take}}
+use Rattle.std.{proofs.lemmas.List.{get_or-take, get_or_past, Elements.All-take}, specs.{Option.ForSome, Prelude.◌≡◌}}
+use Rattle.std.specs.Prelude.{◌⊎◌, ◌&&◌, ◌<◌, ◌≤◌, ℕ, Bool, IsTrue, true, false, List, [], length, take, Option, Some}
+use Rattle.std.specs.Prelude.{None, option_map, slice_set}
+use Rattle.mg_disk.specs.{BlockBytes.IsBytes, Disk.{Image, AreBytes, block_at, SameBut, SeenBut, OnlySeen}}
+use Rattle.mg_mirror.specs.{Mirror.{CutOf, seen_of, told_cut}, declared.mirror.Side.{Side, TheVariants.{Left, Right}}}
 
 -- both told, and the image is the first one's
 pub record BothTold (n : ℕ) (l r : Option Image) (image : Image) : Type 0 where

@@ -1,11 +1,9 @@
 -- Time passes for a mirror when it passes for its sides.
-use Rattle.std.specs.Prelude.{◌≡◌, ◌⊎◌, ℕ, Bool, IsTrue, take, Option, Some, None, IsSomeAnd}
-use Rattle.std.proofs.Common.{refl, sym, ◌∙◌, subst, inl, inr, ⊎_elim}
+use Rattle.std.{proofs.Common.{refl, sym, ◌∙◌, subst, inl, inr, ⊎_elim}, specs.Prelude.{◌≡◌, ◌⊎◌, ℕ, Bool, IsTrue}}
+use Rattle.std.specs.Prelude.{take, Option, Some, None, IsSomeAnd}
 use Rattle.mg_disk.specs.Disk.{Image, Moment, At, Both, Alone, GoesOn, no_image, TornAt, OnlySeen}
-use Rattle.mg_mirror.specs.Mirror.{told_cut, seen_of, moment_of, Been, CutOf, LeftSince}
-use Rattle.mg_mirror.specs.MirrorLemmas.{same_cut, only_cut}
-use Rattle.mg_mirror.specs.declared.mirror.Side.{Side}
-use Rattle.mg_mirror.specs.declared.mirror.Side.TheVariants.{Left, Right}
+use Rattle.mg_mirror.specs.{Mirror.{told_cut, seen_of, moment_of, Been, CutOf, LeftSince}, MirrorLemmas.same_cut}
+use Rattle.mg_mirror.specs.{MirrorLemmas.only_cut, declared.mirror.Side.{Side, TheVariants.{Left, Right}}}
 
 -- fresh images of a side are fresh ones of the mirror, once cut
 abbrev pub Cuts : ℕ → Bool → (Image → Type 0) → (Image → Type 0) → Type 0

@@ -1,15 +1,9 @@
 -- What opening a mirror from the disk on one side gives.
 use Rattle.std.specs.Prelude.{◌≡◌, ◌≢◌, ◌&&◌, min, Some, Result, IfOk, IfErr}
-use Rattle.mg_disk.specs.Disk.{Image}
-use Rattle.mg_disk.specs.Stops.{WritesNothing, CountRose}
-use Rattle.mg_disk.specs.declared.disk.Disk.{Ghosts}
-use Rattle.mg_mirror.specs.Copy.{LeavesCopy}
-use Rattle.mg_mirror.specs.Mirror.{CutOf, told_cut}
-use Rattle.mg_mirror.specs.declared.mirror.Mirror.{Mirror}
-use Rattle.mg_mirror.specs.declared.mirror.MirrorFailed.{MirrorFailed}
+use Rattle.mg_disk.specs.{Disk.Image, Stops.{WritesNothing, CountRose}, declared.disk.Disk.Ghosts}
+use Rattle.mg_mirror.specs.{Copy.LeavesCopy, Mirror.{CutOf, told_cut}, declared.mirror.Mirror.Mirror}
+use Rattle.mg_mirror.specs.declared.mirror.{MirrorFailed.MirrorFailed, Side.{Side, TheVariants.{Left, Right}}}
 use Rattle.mg_mirror.specs.declared.mirror.Opened as counts
-use Rattle.mg_mirror.specs.declared.mirror.Side.{Side}
-use Rattle.mg_mirror.specs.declared.mirror.Side.TheVariants.{Left, Right}
 
 -- A mirror of two disks that is opened from the one on a side; or both disks as they are, if that one failed.
 pub record Opens {D E K : Type 0} (d : Ghosts D) (e : Ghosts E) (k : counts.Ghosts K D E) (facts : Ghosts (Mirror D E K d e k)) (from : Side) (left : D) (right : E)

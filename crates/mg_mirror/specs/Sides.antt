@@ -1,8 +1,6 @@
 -- What a mirror shows of its sides.
 use Rattle.std.specs.Prelude.{◌≡◌, ◌⊎◌, Option, Some, None, Result, OnErr}
-use Rattle.mg_disk.specs.Stops.{CountRose}
-use Rattle.mg_disk.specs.declared.disk.Disk.{Ghosts}
-use Rattle.mg_mirror.specs.declared.mirror.Side.{Side}
+use Rattle.{mg_disk.specs.{Stops.CountRose, declared.disk.Disk.Ghosts}, mg_mirror.specs.declared.mirror.Side.Side}
 use Rattle.mg_mirror.specs.declared.mirror.Side.TheVariants.{Left, Right}
 
 -- a call fails only if each side in use failed in it

@@ -1,26 +1,13 @@
 -- What a stop within the copy leaves of the other disk, as the promise speaks of it.
-use Rattle.std.specs.Prelude.{ℕ, ◌≡◌, ◌⊎◌, ◌≤◌, List, [], length, slice_index, take, Option, Some, None}
-use Rattle.std.specs.Option.{ForSome}
-use Rattle.std.proofs.Common.{refl, sym, ap, ◌∙◌, inl, inr, ⊎_elim, arith}
-use Rattle.std.proofs.lemmas.Bool.{cases_eq, cases_lt}
-use Rattle.std.proofs.lemmas.List.{get_or-take, length-take}
-use Rattle.std.proofs.Math.Nat.{min-le_left}
-use Rattle.mg_disk.specs.Disk.{Image, SameBut, only_place}
-use Rattle.mg_disk.specs.PlaceLemmas.{same_as}
-use Rattle.mg_disk.specs.Runs.{leaves_quiet, leaves_then, leaves_wider, leaves_yet}
-use Rattle.mg_disk.specs.Stops.{FromLeft, WritesNothing}
+use Rattle.mg_disk.specs.{Disk.{Image, SameBut, only_place}, PlaceLemmas.same_as, Runs.{leaves_quiet, leaves_then, leaves_wider, leaves_yet}}
+use Rattle.{mg_disk.specs.Stops.{FromLeft, WritesNothing}, mg_layout.specs.GateLemmas.gate_alone, mg_mirror.specs.Copy.{LeavesCopy, MayCopy}}
+use Rattle.mg_mirror.specs.{Copy.first_byte, declared.mirror.Side.{Side, TheVariants.{Left, Right}}}
+use Rattle.mg_mirror_session.{proofs.FirstFault.{fault-closed, fault-short}, specs.{Headline.{CopyHolds, MayHold}, Judged.first_fault, Ran.out_left}}
+use Rattle.{mg_mirror_session.specs.Ran.out_right, mg_model.specs.{Layout.{gate_block, gate_open}, Volume.{IsOpened, NotVolume, gate_byte, volume}}}
+use Rattle.{mg_model.specs.VolumeLemmas.{volume-closed, volume-same_behind, volume-short}, std.proofs.Common.{refl, sym, ap, ◌∙◌, inl, inr, ⊎_elim}}
+use Rattle.std.proofs.{Common.arith, Math.Nat.min-le_left, lemmas.{Bool.{cases_eq, cases_lt}, List.{get_or-take, length-take}}}
+use Rattle.std.specs.{Option.ForSome, Prelude.{ℕ, ◌≡◌, ◌⊎◌, ◌≤◌, List, [], length, slice_index, take, Option, Some, None}}
 use Rattle.mg_disk.specs.declared.disk.Disk as disks
-use Rattle.mg_layout.specs.GateLemmas.{gate_alone}
-use Rattle.mg_mirror.specs.Copy.{LeavesCopy, MayCopy, first_byte}
-use Rattle.mg_mirror.specs.declared.mirror.Side.{Side}
-use Rattle.mg_mirror.specs.declared.mirror.Side.TheVariants.{Left, Right}
-use Rattle.mg_mirror_session.proofs.FirstFault.{fault-closed, fault-short}
-use Rattle.mg_mirror_session.specs.Headline.{CopyHolds, MayHold}
-use Rattle.mg_mirror_session.specs.Judged.{first_fault}
-use Rattle.mg_mirror_session.specs.Ran.{out_left, out_right}
-use Rattle.mg_model.specs.Layout.{gate_block, gate_open}
-use Rattle.mg_model.specs.Volume.{IsOpened, NotVolume, gate_byte, volume}
-use Rattle.mg_model.specs.VolumeLemmas.{volume-closed, volume-same_behind, volume-short}
 
 some_none : {A : Type 0} (x : A) → Some x ≡ None → ⊥
 some_none x is = cc

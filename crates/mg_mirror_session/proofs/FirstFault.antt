@@ -1,14 +1,10 @@
 -- What the first two blocks of an image tell of the whole of it.
-use Rattle.std.specs.Prelude.{◌≡◌, ◌≢◌, ◌<◌, ◌≤◌, ◌+◌, ◌==◌, ◌&&◌, ℕ, nat_le, Bool, true, false, List, [], if◌then◌else◌, length, min, slice_index, take, Option, Some, None}
-use Rattle.std.proofs.Common.{sym, ap, subst, ◌∙◌, ⊎_elim, arith}
-use Rattle.std.proofs.lemmas.Bool.{and_left, and_right, cases_lt, eq-eqb, le-leb, lt-leb, ne_eqb}
-use Rattle.std.proofs.lemmas.List.{get_or-take, length-take-le}
-use Rattle.mg_disk.specs.Disk.{HasBlocks, Image}
-use Rattle.mg_model.specs.Layout.{gate_open, super_block}
-use Rattle.mg_model.specs.Replay.{block_of}
-use Rattle.mg_model.specs.Spelling.{BadSuper, NotSuper, OldSuper, Spells, SuperRead, super_read}
-use Rattle.mg_model.specs.Volume.{Damaged, NotVolume, OldVolume, VolumeRead, gate_byte, has_open_gate, volume, volume_behind}
-use Rattle.mg_mirror_session.specs.Judged.{first_fault, super_fault}
+use Rattle.{mg_disk.specs.Disk.{HasBlocks, Image}, mg_mirror_session.specs.Judged.{first_fault, super_fault}, mg_model.specs.Layout.gate_open}
+use Rattle.mg_model.specs.{Layout.super_block, Replay.block_of, Spelling.{BadSuper, NotSuper, OldSuper, Spells, SuperRead, super_read}}
+use Rattle.{mg_model.specs.Volume.{Damaged, NotVolume, OldVolume, VolumeRead, gate_byte, has_open_gate, volume, volume_behind}, std.proofs.Common.sym}
+use Rattle.std.proofs.{Common.{ap, subst, ◌∙◌, ⊎_elim, arith}, lemmas.Bool.{and_left, and_right, cases_lt, eq-eqb, le-leb, lt-leb, ne_eqb}}
+use Rattle.std.{proofs.lemmas.List.{get_or-take, length-take-le}, specs.Prelude.{◌≡◌, ◌≢◌, ◌<◌, ◌≤◌, ◌+◌, ◌==◌, ◌&&◌, ℕ, nat_le, Bool, true, false}}
+use Rattle.std.specs.Prelude.{List, [], if◌then◌else◌, length, min, slice_index, take, Option, Some, None}
 
 some_inj : {A : Type 0} (x y : A) → Some x ≡ Some y → x ≡ y
 some_inj x y is = cc

@@ -1,22 +1,14 @@
 -- How a call over a mirror finds it, from how it finds SIDE's disk.
-use Rattle.std.specs.Prelude.{ℕ, ◌≡◌, ◌&&◌, Bool, IsTrue, take, Option, Some, None, IsSome, IsSomeAnd}
-use Rattle.std.proofs.Common.{true≢false, refl, sym, subst, inl, inr, ⊎_elim}
-use Rattle.mg_disk.specs.Disk.{Alone, Image, Moment}
-use Rattle.mg_disk.specs.Stops.{MightHaveLeft}
+use Rattle.{mg_commands.specs.{History.{Finds, LeftBy, Runs}, HistoryLemmas.runs_hold}, mg_disk.specs.Disk.{Alone, Image, Moment}}
+use Rattle.{mg_disk.specs.Stops.MightHaveLeft, mg_mirror.specs.{Mirror.{CutOf, LeftSince, moment_of, told_cut}, declared.mirror.Side.Side}}
+use Rattle.{mg_mirror.specs.declared.mirror.Side.TheVariants.{Left, Right}, mg_mirror_session.{proofs.Opening.and_true, specs.Headline.OfSide}}
+use Rattle.mg_mirror_session.specs.{Headline.seen_on, History.{FindsSide, IsUsed, MirrorCall, MirrorsFollow, Ran, run_of}, Mirrored.{Two, mirror}}
+use Rattle.{mg_model.specs.State.State, std.{proofs.Common.{true≢false, refl, sym, subst, inl, inr, ⊎_elim}, specs.Prelude.{ℕ, ◌≡◌, ◌&&◌, Bool}}}
+use Rattle.std.specs.Prelude.{IsTrue, take, Option, Some, None, IsSome, IsSomeAnd}
 use Rattle.mg_disk.specs.declared.disk.Disk as disks
 use Rattle.mg_io.specs.declared.traits.Sink as sinks
 use Rattle.mg_io.specs.declared.traits.Source as sources
-use Rattle.mg_mirror.specs.Mirror.{CutOf, LeftSince, moment_of, told_cut}
-use Rattle.mg_mirror.specs.declared.mirror.Side.{Side}
-use Rattle.mg_mirror.specs.declared.mirror.Side.TheVariants.{Left, Right}
-use Rattle.mg_mirror_session.proofs.Opening.{and_true}
-use Rattle.mg_mirror_session.specs.Headline.{OfSide, seen_on}
-use Rattle.mg_mirror_session.specs.History.{FindsSide, IsUsed, MirrorCall, MirrorsFollow, Ran, run_of}
-use Rattle.mg_mirror_session.specs.Mirrored.{Two, mirror}
-use Rattle.mg_model.specs.State.{State}
 use Rattle.mg_commands.specs.History as history
-use Rattle.mg_commands.specs.History.{Finds, LeftBy, Runs}
-use Rattle.mg_commands.specs.HistoryLemmas.{runs_hold}
 
 -- the first one is told, and so is the second
 cut_told : (n : ℕ) (a b : Option Image) (P : Image → Type 0) → IsSome b → IsSomeAnd a (λ x. P (take n x)) → IsSomeAnd (told_cut n a b) P

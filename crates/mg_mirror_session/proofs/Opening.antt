@@ -1,17 +1,10 @@
 -- A mirror that was opened, as the promise speaks of it.
-use Rattle.std.specs.Prelude.{ℕ, ◌≡◌, ◌≢◌, ◌&&◌, Bool, true, false, IsTrue, min, take, option_map, Option, Some, None, IsSomeAnd}
-use Rattle.std.proofs.Common.{refl, sym, subst, ◌∙◌, ap, ⊎_elim}
-use Rattle.mg_disk.specs.Disk.{Image}
-use Rattle.mg_disk.specs.Runs.{nothing_none, nothing_then}
-use Rattle.mg_disk.specs.Stops.{CountGoes, MightHaveLeft, WritesNothing}
+use Rattle.mg_disk.specs.{Disk.Image, Runs.{nothing_none, nothing_then}, Stops.{CountGoes, MightHaveLeft, WritesNothing}}
+use Rattle.{mg_faults.specs.Faults.count_none, mg_mirror.specs.{Mirror.{CutOf, told_cut}, declared.mirror.Side.{Side, TheVariants.{Left, Right}}}}
+use Rattle.mg_mirror_session.{proofs.Copying.copy_since, specs.{Headline.{CopyHolds, IsOpenedFrom, OfSide, seen_on}, Mirrored.{Two, mirror}}}
+use Rattle.std.{proofs.Common.{refl, sym, subst, ◌∙◌, ap, ⊎_elim}, specs.Prelude.{ℕ, ◌≡◌, ◌≢◌, ◌&&◌, Bool, true, false, IsTrue, min, take}}
+use Rattle.std.specs.Prelude.{option_map, Option, Some, None, IsSomeAnd}
 use Rattle.mg_disk.specs.declared.disk.Disk as disks
-use Rattle.mg_faults.specs.Faults.{count_none}
-use Rattle.mg_mirror.specs.Mirror.{CutOf, told_cut}
-use Rattle.mg_mirror.specs.declared.mirror.Side.{Side}
-use Rattle.mg_mirror.specs.declared.mirror.Side.TheVariants.{Left, Right}
-use Rattle.mg_mirror_session.proofs.Copying.{copy_since}
-use Rattle.mg_mirror_session.specs.Headline.{CopyHolds, IsOpenedFrom, OfSide, seen_on}
-use Rattle.mg_mirror_session.specs.Mirrored.{Two, mirror}
 
 false_true : false ≡ true → ⊥
 false_true is = cc

@@ -1,32 +1,18 @@
 -- What was judged before a mirror was opened, and the two ways in which none was.
-use Rattle.std.specs.Prelude.{ℕ, ◌≡◌, ◌≢◌, ◌⊎◌, ◌≤◌, length, min, take, option_map, Option, Some, None, Result, Ok, Err}
-use Rattle.std.specs.Io.KnownBytes.{Appends}
-use Rattle.std.specs.Option.{ForSome}
-use Rattle.std.proofs.Common.{refl, sym, ap, subst, ◌∙◌, inl, inr, ⊎_elim, arith}
-use Rattle.mg_check.specs.declared.examining.OpenFault.{OpenFault}
+use Rattle.{mg_check.specs.declared.examining.OpenFault.OpenFault, mg_commands.specs.{Headline.check_line, Unopened.{EndsUnopenedBy, fault_line}}}
+use Rattle.{mg_disk.specs.{Disk.{HasBlocks, Image}, Runs.nothing_then, Stops.{CountRose, WritesNothing}}, mg_faults.specs.Faults.{Rose, then_rose}}
+use Rattle.{mg_io.specs.Known.AppendsPrefix, mg_layout.specs.MayFormat.IsNoState, mg_mirror.specs.{Copy.LeavesCopy, declared.mirror.Side.Side}}
+use Rattle.{mg_mirror.specs.declared.mirror.Side.TheVariants.{Left, Right}, mg_mirror_session.proofs.Copying.{copy_holds, copy_none, copy_since}}
+use Rattle.mg_mirror_session.proofs.{FirstFault.{fault-cut, fault-read, fault_volume}, Opening.{OnlyRead, left_alone, of_side, same_blocks}}
+use Rattle.mg_mirror_session.specs.{Headline.{CopyHolds, MirrorKeeps, OfSide, seen_behind, seen_on, session_over}, Judged.{IsJudged, IsKind}}
+use Rattle.{mg_mirror_session.specs.Judged.first_fault, mg_model.specs.Volume.{Damaged, NotVolume, OldVolume, VolumeRead}}
+use Rattle.{mg_serve.specs.{Sessions.use_of, declared.status.Status.Status}, std.proofs.Common.{refl, sym, ap, subst, ◌∙◌, inl, inr, ⊎_elim, arith}}
+use Rattle.std.specs.{Io.KnownBytes.Appends, Option.ForSome, Prelude.{ℕ, ◌≡◌, ◌≢◌, ◌⊎◌, ◌≤◌, length, min, take, option_map, Option, Some, None}}
+use Rattle.std.specs.Prelude.{Result, Ok, Err}
 use Rattle.mg_check.specs.declared.examining.OpenFault.TheVariants as fault
-use Rattle.mg_disk.specs.Disk.{HasBlocks, Image}
-use Rattle.mg_disk.specs.Runs.{nothing_then}
-use Rattle.mg_disk.specs.Stops.{CountRose, WritesNothing}
 use Rattle.mg_disk.specs.declared.disk.Disk as disks
-use Rattle.mg_faults.specs.Faults.{Rose, then_rose}
-use Rattle.mg_io.specs.Known.{AppendsPrefix}
 use Rattle.mg_io.specs.declared.traits.Sink as sinks
 use Rattle.mg_io.specs.declared.traits.Source as sources
-use Rattle.mg_layout.specs.MayFormat.{IsNoState}
-use Rattle.mg_mirror.specs.declared.mirror.Side.{Side}
-use Rattle.mg_mirror.specs.declared.mirror.Side.TheVariants.{Left, Right}
-use Rattle.mg_mirror_session.proofs.FirstFault.{fault-cut, fault-read, fault_volume}
-use Rattle.mg_mirror.specs.Copy.{LeavesCopy}
-use Rattle.mg_mirror_session.proofs.Copying.{copy_holds, copy_none, copy_since}
-use Rattle.mg_mirror_session.proofs.Opening.{OnlyRead, left_alone, of_side, same_blocks}
-use Rattle.mg_mirror_session.specs.Headline.{CopyHolds, MirrorKeeps, OfSide, seen_behind, seen_on, session_over}
-use Rattle.mg_mirror_session.specs.Judged.{IsJudged, IsKind, first_fault}
-use Rattle.mg_model.specs.Volume.{Damaged, NotVolume, OldVolume, VolumeRead}
-use Rattle.mg_serve.specs.Sessions.{use_of}
-use Rattle.mg_commands.specs.Headline.{check_line}
-use Rattle.mg_commands.specs.Unopened.{EndsUnopenedBy, fault_line}
-use Rattle.mg_serve.specs.declared.status.Status.{Status}
 use Rattle.mg_serve.specs.declared.status.Status.TheVariants as status
 
 -- what was read and judged of the disk on a side, the other one left alone

@@ -1,29 +1,16 @@
 -- A run over a mirror: what it keeps of the two disks.
-use Rattle.std.specs.Prelude.{ℕ, ◌≡◌, ◌≢◌, ◌<◌, ◌&&◌, Bool, true, false, IsTrue, List, length, Option, Some, None, IfSome}
-use Rattle.std.specs.Option.{ForSome}
-use Rattle.std.proofs.Common.{refl, sym, ap, subst, inl, inr, ⊎_elim, arith, zero, suc}
-use Rattle.mg_disk.specs.Disk.{Image, Moment}
-use Rattle.mg_disk.specs.Stops.{CountRose, WritesNothing}
+use Rattle.mg_commands.specs.{Headline.{RunKeeps, session_of}, LastLemmas.{disk_ran, done_or_memory, ends_run, put_all, put_prefix, sink_failed}}
+use Rattle.{mg_disk.specs.{Disk.{Image, Moment}, Stops.{CountRose, WritesNothing}}, mg_faults.specs.Faults.{CountGoesOn, Rose, is_last, rose_then}}
+use Rattle.mg_mirror.specs.{Mirror.{CutOf, LeftSince, moment_of}, Opened.{BothRose, RoseFrom}, declared.mirror.Side.{Side, TheVariants.{Left, Right}}}
+use Rattle.mg_mirror_session.proofs.{Opening.{and_true, of_side}, Refusing.of_side_too, Through.{if_some_then, on_volume_then}}
+use Rattle.mg_mirror_session.specs.Headline.{PutsSide, IsOpenedFrom, MirrorKeeps, RanOnMirror, last_line, seen_behind, session_over}
+use Rattle.{mg_mirror_session.specs.{Judged.first_fault, Mirrored.{Two, mirror}}, mg_model.specs.Print.replies_text, mg_serve.specs.Serving.IsWithin}
+use Rattle.{mg_serve.specs.{Sessions.{use_of, input_limit}, declared.status.Status.Status}, std.proofs.Common.{refl, sym, ap, subst, inl, inr}}
+use Rattle.std.{proofs.Common.{⊎_elim, arith, zero, suc}, specs.{Option.ForSome, Prelude.{ℕ, ◌≡◌, ◌≢◌, ◌<◌, ◌&&◌, Bool, true, false, IsTrue, List}}}
+use Rattle.std.specs.Prelude.{length, Option, Some, None, IfSome}
 use Rattle.mg_disk.specs.declared.disk.Disk as disks
-use Rattle.mg_faults.specs.Faults.{CountGoesOn, Rose, is_last, rose_then}
 use Rattle.mg_io.specs.declared.traits.Sink as sinks
 use Rattle.mg_io.specs.declared.traits.Source as sources
-use Rattle.mg_mirror.specs.Mirror.{CutOf, LeftSince, moment_of}
-use Rattle.mg_mirror.specs.Opened.{BothRose, RoseFrom}
-use Rattle.mg_mirror.specs.declared.mirror.Side.{Side}
-use Rattle.mg_mirror.specs.declared.mirror.Side.TheVariants.{Left, Right}
-use Rattle.mg_mirror_session.proofs.Opening.{and_true, of_side}
-use Rattle.mg_mirror_session.proofs.Refusing.{of_side_too}
-use Rattle.mg_mirror_session.proofs.Through.{if_some_then, on_volume_then}
-use Rattle.mg_mirror_session.specs.Headline.{PutsSide, IsOpenedFrom, MirrorKeeps, RanOnMirror, last_line, seen_behind, session_over}
-use Rattle.mg_model.specs.Print.{replies_text}
-use Rattle.mg_mirror_session.specs.Judged.{first_fault}
-use Rattle.mg_mirror_session.specs.Mirrored.{Two, mirror}
-use Rattle.mg_serve.specs.Serving.{IsWithin}
-use Rattle.mg_serve.specs.Sessions.{use_of, input_limit}
-use Rattle.mg_commands.specs.Headline.{RunKeeps, session_of}
-use Rattle.mg_commands.specs.LastLemmas.{disk_ran, done_or_memory, ends_run, put_all, put_prefix, sink_failed}
-use Rattle.mg_serve.specs.declared.status.Status.{Status}
 use Rattle.mg_serve.specs.declared.status.Status.TheVariants as status
 
 false_true : false ≡ true → ⊥

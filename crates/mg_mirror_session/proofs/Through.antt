@@ -1,14 +1,9 @@
 -- What is kept of a disk is kept of each view of it that shows the same.
-use Rattle.std.specs.Prelude.{ℕ, Option, Some, None, IfSome}
-use Rattle.mg_disk.specs.Disk.{Image}
-use Rattle.mg_disk.specs.Stops.{Leaves, WritesNothing}
+use Rattle.{mg_commands.specs.Headline.{HoldsSince, OnVolume, RunKeeps, TellsOfNone, session_of}, mg_disk.specs.{Disk.Image, Stops.Leaves}}
+use Rattle.{mg_disk.specs.Stops.WritesNothing, mg_model.specs.{State.State, Step.after}, mg_serve.specs.Sessions.{HoldsExactly, SinkUse, SourceUse}}
+use Rattle.{mg_serve.specs.{Sessions.use_of, declared.status.Status.Status}, std.specs.Prelude.{ℕ, Option, Some, None, IfSome}}
 use Rattle.mg_disk.specs.declared.disk.Disk as disks
 use Rattle.mg_io.specs.declared.traits.Sink as sinks
-use Rattle.mg_model.specs.State.{State}
-use Rattle.mg_model.specs.Step.{after}
-use Rattle.mg_serve.specs.Sessions.{HoldsExactly, SinkUse, SourceUse, use_of}
-use Rattle.mg_commands.specs.Headline.{HoldsSince, OnVolume, RunKeeps, TellsOfNone, session_of}
-use Rattle.mg_serve.specs.declared.status.Status.{Status}
 
 pub if_some_then : {T : Type 0} (o : Option T) (P Q : T → Type 0) → ((x : T) → P x → Q x) → IfSome o P → IfSome o Q
 if_some_then None P Q then h = h

@@ -1,8 +1,6 @@
 -- The words that ask for a run over a mirror.
 use Rattle.std.specs.Prelude.{ℕ, ◌&&◌, not, List, [], ◌∷◌, if◌then◌else◌, Option, Some, None, codes}
-use Rattle.mg_mirror.specs.declared.mirror.Side.{Side}
-use Rattle.mg_mirror.specs.declared.mirror.Side.TheVariants.{Left, Right}
-use Rattle.mg_model.specs.Words.{same_bytes}
+use Rattle.{mg_mirror.specs.declared.mirror.Side.{Side, TheVariants.{Left, Right}}, mg_model.specs.Words.same_bytes}
 
 -- the side that a word names
 abbrev pub side_named : List ℕ → Option Side

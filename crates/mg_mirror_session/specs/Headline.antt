@@ -1,22 +1,17 @@
 -- What a run over a mirror promises. An object that does not tell its content has None for it; a promise on content is then empty.
-use Rattle.std.specs.Prelude.{ℕ, ◌≡◌, ◌≢◌, ◌⊎◌, IsTrue, List, [], ◌∷◌, ◌++◌, codes, min, take, option_map, Option, Some, None}
-use Rattle.std.specs.Option.{ForSome}
-use Rattle.mg_disk.specs.Disk.{Image}
-use Rattle.mg_disk.specs.Stops.{FromLeft, Leaves, MightHaveLeft, WritesNothing}
+use Rattle.std.specs.{Option.ForSome, Prelude.{ℕ, ◌≡◌, ◌≢◌, ◌⊎◌, IsTrue, List, [], ◌∷◌, ◌++◌, codes, min, take}}
+use Rattle.std.specs.Prelude.{option_map, Option, Some, None}
+use Rattle.mg_commands.specs.Headline.{EndsRun, OnVolume, PutsLast, RunKeeps, UsageKeeps, check_line, session_of}
+use Rattle.mg_disk.specs.{Disk.Image, Stops.{FromLeft, Leaves, MightHaveLeft, WritesNothing}}
+use Rattle.{mg_layout.specs.MayFormat.{IsNoState, opened}, mg_mirror.specs.Mirror.{CutOf, told_cut}}
+use Rattle.mg_mirror.specs.declared.mirror.Side.{Side, TheVariants.{Left, Right}}
+use Rattle.{mg_mirror_session.specs.{Judged.first_fault, Mirrored.{Two, mirror}}, mg_model.specs.Lines.lines}
+use Rattle.mg_model.specs.{Print.replies_text, Volume.{NotVolume, VolumeRead, volume}}
+use Rattle.mg_serve.specs.Sessions.{DiskRose, DiskUse, IfShort, IsDoneOrMemory, MayLeave, OfInput, Puts, PutsPrefix}
+use Rattle.mg_serve.specs.Sessions.{SinkRose, SinkUse, SourceRose, SourceUse, use_of, left_now}
+use Rattle.mg_serve.specs.declared.status.Status.{Status}
 use Rattle.mg_disk.specs.declared.disk.Disk as disks
 use Rattle.mg_io.specs.declared.traits.Sink as sinks
-use Rattle.mg_layout.specs.MayFormat.{IsNoState, opened}
-use Rattle.mg_mirror.specs.Mirror.{CutOf, told_cut}
-use Rattle.mg_mirror.specs.declared.mirror.Side.{Side}
-use Rattle.mg_mirror.specs.declared.mirror.Side.TheVariants.{Left, Right}
-use Rattle.mg_mirror_session.specs.Judged.{first_fault}
-use Rattle.mg_mirror_session.specs.Mirrored.{Two, mirror}
-use Rattle.mg_model.specs.Lines.{lines}
-use Rattle.mg_model.specs.Print.{replies_text}
-use Rattle.mg_model.specs.Volume.{NotVolume, VolumeRead, volume}
-use Rattle.mg_serve.specs.Sessions.{DiskRose, DiskUse, IfShort, IsDoneOrMemory, MayLeave, OfInput, Puts, PutsPrefix, SinkRose, SinkUse, SourceRose, SourceUse, use_of, left_now}
-use Rattle.mg_commands.specs.Headline.{EndsRun, OnVolume, PutsLast, RunKeeps, UsageKeeps, check_line, session_of}
-use Rattle.mg_serve.specs.declared.status.Status.{Status}
 use Rattle.mg_serve.specs.declared.status.Status.TheVariants as status
 
 -- The side that the mirror is opened from

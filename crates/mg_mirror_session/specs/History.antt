@@ -1,22 +1,15 @@
 -- Runs of lines one after another over mirrors, and how each mirror is found.
 use Rattle.std.specs.Prelude.{ℕ, ◌≡◌, ◌≢◌, ◌⊎◌, IsTrue, take, Option, Some, None, IsSome, IsSomeAnd}
-use Rattle.mg_disk.specs.Disk.{Image}
-use Rattle.mg_disk.specs.Stops.{MightHaveLeft}
+use Rattle.{mg_commands.specs.History.{Finds, LeftBy, Run, Runs, RunsHold}, mg_disk.specs.Disk.Image}
+use Rattle.{mg_disk.specs.Stops.MightHaveLeft, mg_mirror.specs.{Mirror.CutOf, declared.mirror.Side.Side}}
+use Rattle.{mg_mirror.specs.declared.mirror.Side.TheVariants.{Left, Right}, mg_mirror_session.specs.Headline.OfSide}
+use Rattle.mg_mirror_session.specs.{Headline.{RanOnMirror, seen_on, session_over}, Mirrored.{Two, mirror}}
+use Rattle.{mg_model.specs.{Print.replies_text, State.State, Step.after}, mg_serve.specs.Sessions.use_of}
+use Rattle.mg_serve.specs.declared.status.Status.{Status}
 use Rattle.mg_disk.specs.declared.disk.Disk as disks
 use Rattle.mg_io.specs.declared.traits.Sink as sinks
 use Rattle.mg_io.specs.declared.traits.Source as sources
-use Rattle.mg_mirror.specs.Mirror.{CutOf}
-use Rattle.mg_mirror.specs.declared.mirror.Side.{Side}
-use Rattle.mg_mirror.specs.declared.mirror.Side.TheVariants.{Left, Right}
-use Rattle.mg_mirror_session.specs.Headline.{OfSide, RanOnMirror, seen_on, session_over}
-use Rattle.mg_mirror_session.specs.Mirrored.{Two, mirror}
-use Rattle.mg_model.specs.Print.{replies_text}
-use Rattle.mg_model.specs.State.{State}
-use Rattle.mg_model.specs.Step.{after}
-use Rattle.mg_serve.specs.Sessions.{use_of}
 use Rattle.mg_commands.specs.History as history
-use Rattle.mg_commands.specs.History.{Finds, LeftBy, Run, Runs, RunsHold}
-use Rattle.mg_serve.specs.declared.status.Status.{Status}
 
 -- A call over a mirror: the side that it was opened from, its disks, its source and its sink as the call found them and as it left them,
 -- and the rest of a session over a mirror.

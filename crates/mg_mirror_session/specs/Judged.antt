@@ -1,15 +1,11 @@
 -- What the first two blocks of an image tell: that it holds no volume, and which kind of none.
-use Rattle.std.specs.Prelude.{◌≡◌, if◌then◌else◌, Option, Some, None, Result, IfOk, OnOk, OnErr}
-use Rattle.std.specs.Option.{ForSome}
-use Rattle.mg_check.specs.declared.examining.OpenFault.{OpenFault}
-use Rattle.mg_check.specs.declared.examining.OpenFault.TheVariants as fault
-use Rattle.mg_disk.specs.Disk.{HasBlocks, Image}
-use Rattle.mg_disk.specs.Stops.{CountGoes, CountRose, WritesNothing}
-use Rattle.mg_disk.specs.declared.disk.Disk as disks
-use Rattle.mg_model.specs.Layout.{super_block}
-use Rattle.mg_model.specs.Replay.{block_of}
-use Rattle.mg_model.specs.Spelling.{BadSuper, NotSuper, OldSuper, Spells, SuperRead, super_read}
+use Rattle.std.specs.{Option.ForSome, Prelude.{◌≡◌, if◌then◌else◌, Option, Some, None, Result, IfOk, OnOk, OnErr}}
+use Rattle.{mg_check.specs.declared.examining.OpenFault.OpenFault, mg_disk.specs.Disk.{HasBlocks, Image}}
+use Rattle.{mg_disk.specs.Stops.{CountGoes, CountRose, WritesNothing}, mg_model.specs.Layout.super_block}
+use Rattle.mg_model.specs.{Replay.block_of, Spelling.{BadSuper, NotSuper, OldSuper, Spells, SuperRead, super_read}}
 use Rattle.mg_model.specs.Volume.{Damaged, NotVolume, OldVolume, VolumeRead, has_open_gate}
+use Rattle.mg_check.specs.declared.examining.OpenFault.TheVariants as fault
+use Rattle.mg_disk.specs.declared.disk.Disk as disks
 
 -- the kind of none that a superblock tells of, if it does
 abbrev pub super_fault : SuperRead → Option VolumeRead

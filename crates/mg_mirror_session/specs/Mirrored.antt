@@ -1,9 +1,8 @@
 -- Two disks as one, as the promise speaks of them: what a mirror of them shows, in the words of `mg_mirror`.
 use Rattle.std.specs.Prelude.{ℕ, ◌&&◌, Option}
-use Rattle.mg_disk.specs.declared.disk.Disk as disks
-use Rattle.mg_faults.specs.Faults.{is_last}
-use Rattle.mg_mirror.specs.Mirror.{Been, LeftSince, moment_of, seen_of}
+use Rattle.{mg_faults.specs.Faults.is_last, mg_mirror.specs.Mirror.{Been, LeftSince, moment_of, seen_of}}
 use Rattle.mg_mirror.specs.declared.mirror.Side.{Side}
+use Rattle.mg_disk.specs.declared.disk.Disk as disks
 
 -- Two disks of which one is made.
 pub record Two (D E : Type 0) : Type 0 where

@@ -1,19 +1,14 @@
 -- How a run over a mirror that was opened ends, for the promise to be made of it.
 use Rattle.std.specs.Prelude.{ℕ, ◌≡◌, ◌<◌, Option, Some, None}
+use Rattle.{mg_commands.specs.Headline.{RunKeeps, session_of}, mg_faults.specs.Faults.CountGoesOn}
+use Rattle.mg_mirror.specs.{Opened.{BothRose, RoseFrom}, declared.mirror.{Mirror.Mirror, Side.{Side, TheVariants.Left}}}
+use Rattle.{mg_mirror.specs.declared.mirror.Side.TheVariants.Right, mg_mirror_session.specs.Headline.PutsSide}
+use Rattle.{mg_mirror_session.specs.Mirrored.{Two, mirror}, mg_serve.specs.Sessions.use_of}
+use Rattle.mg_serve.specs.declared.status.Status.{Status}
 use Rattle.mg_disk.specs.declared.disk.Disk as disks
-use Rattle.mg_faults.specs.Faults.{CountGoesOn}
 use Rattle.mg_io.specs.declared.traits.Sink as sinks
 use Rattle.mg_io.specs.declared.traits.Source as sources
-use Rattle.mg_mirror.specs.Opened.{BothRose, RoseFrom}
-use Rattle.mg_mirror.specs.declared.mirror.Mirror.{Mirror}
 use Rattle.mg_mirror.specs.declared.mirror.Opened as counts
-use Rattle.mg_mirror.specs.declared.mirror.Side.{Side}
-use Rattle.mg_mirror.specs.declared.mirror.Side.TheVariants.{Left, Right}
-use Rattle.mg_mirror_session.specs.Headline.{PutsSide}
-use Rattle.mg_mirror_session.specs.Mirrored.{Two, mirror}
-use Rattle.mg_serve.specs.Sessions.{use_of}
-use Rattle.mg_commands.specs.Headline.{RunKeeps, session_of}
-use Rattle.mg_serve.specs.declared.status.Status.{Status}
 
 -- a mirror as two disks
 abbrev pub as_two : {D E O : Type 0} (d : disks.Ghosts D) (e : disks.Ghosts E) (o : counts.Ghosts O D E) → Mirror D E O d e o → Two D E

@@ -1,20 +1,10 @@
 -- What rows keep as they change.
-use Rattle.std.proofs.Common.{◌≡◌, ◌≢◌, ◌≤◌, ◌<◌, ℕ, suc, Bool, false, List, [], ◌∷◌, ◌++◌, length, take, drop, filter, get_or, arith, sym, subst, ap, ◌∙◌, inl, inr, eq-eqb, length-append, rules}
-use Rattle.std.specs.Prelude.{AllPairs, ◌==◌}
-use Rattle.std.specs.List.{list_any}
-use Rattle.std.proofs.lemmas.Bool.{cases_lt}
-use Rattle.std.proofs.lemmas.Grind.{common_steps}
-use Rattle.std.proofs.lemmas.List.Elements.{All-take, All-drop, All-append, All-filter}
-use Rattle.std.proofs.lemmas.List.Folds.{list_any_at}
-use Rattle.std.proofs.lemmas.List.Sums.{length-filter, count_by-le-length}
-use Rattle.std.proofs.Math.ListN.{get_or-append}
-use Rattle.std.proofs.Math.Seq.{get_or-append_seam}
-use Rattle.mg_model.specs.declared.slots.Pw.{Pw}
-use Rattle.mg_model.specs.declared.slots.Slot.{Slot}
-use Rattle.mg_model.specs.ObjectCalls.{is_entry}
-use Rattle.mg_model.specs.PasswordRows.{IsPassword}
-use Rattle.mg_model.specs.Ranges.{IsCallFrame, IsEntryOf, IsObjectRow, IsSlot}
-use Rattle.mg_model.specs.State.{CallFrame, ObjectRow}
+use Rattle.mg_model.specs.{ObjectCalls.is_entry, PasswordRows.IsPassword, Ranges.{IsCallFrame, IsEntryOf, IsObjectRow, IsSlot}, State.CallFrame}
+use Rattle.{mg_model.specs.{State.ObjectRow, declared.slots.{Pw.Pw, Slot.Slot}}, std.proofs.Common.{◌≡◌, ◌≢◌, ◌≤◌, ◌<◌, ℕ, suc, Bool, false, List}}
+use Rattle.std.proofs.Common.{[], ◌∷◌, ◌++◌, length, take, drop, filter, get_or, arith, sym, subst, ap, ◌∙◌, inl, inr, eq-eqb, length-append, rules}
+use Rattle.std.proofs.{Math.{ListN.get_or-append, Seq.get_or-append_seam}, lemmas.{Bool.cases_lt, Grind.common_steps, List.Elements.All-take}}
+use Rattle.std.proofs.lemmas.List.{Elements.{All-drop, All-append, All-filter}, Folds.list_any_at, Sums.{length-filter, count_by-le-length}}
+use Rattle.std.specs.{List.list_any, Prelude.{AllPairs, ◌==◌}}
 
 -- the `frame` is what contracts see of the two fields
 pub IsCallFrame-remove : (back : ℕ) (slots left : List Slot) (frame : CallFrame) (place : ℕ) → IsCallFrame (record { back = back; slots = slots }) → record { back = back; slots = slots } ≡ frame

@@ -1,35 +1,27 @@
 -- Names for parts of the definitions, for lemmas and for the contracts of the crates above. No definition of the machine, of
 -- a row or of a volume uses these names: it writes out the same part.
-use Rattle.mg_model.specs.declared.rights.Right.TheVariants.{R, W, X, D, P, O}
-use Rattle.std.specs.Prelude.{ℕ, ◌+◌, ◌-◌, ◌*◌, ◌/◌, ◌%◌, ◌^◌, ◌==◌, ◌&&◌, ◌||◌, nat_le, nat_lt, min, Bool, List, [], ◌∷◌, ◌++◌, flat_map, is_some, length, if◌then◌else◌, map, slice_index, slice_index_or, slice_set, take, Option, Some, None, option_map, codes}
-use Rattle.std.specs.Int.{to_le_bytes, w64}
-use Rattle.std.specs.List.{cons_option, fold, list_all, range_with_len, list_any}
-use Rattle.std.specs.Option.{option_map_or, option_to_list}
-use Rattle.mg_model.specs.declared.accounts.AccRow.{AccRow}
-use Rattle.mg_model.specs.declared.calls.Call.{Call}
+use Rattle.std.specs.{Int.{to_le_bytes, w64}, List.{cons_option, fold, list_all, range_with_len, list_any}}
+use Rattle.std.specs.{Option.{option_map_or, option_to_list}, Prelude.{ℕ, ◌+◌, ◌-◌, ◌*◌, ◌/◌, ◌%◌, ◌^◌, ◌==◌, ◌&&◌}}
+use Rattle.std.specs.Prelude.{◌||◌, nat_le, nat_lt, min, Bool, List, [], ◌∷◌, ◌++◌, flat_map, is_some, length}
+use Rattle.std.specs.Prelude.{if◌then◌else◌, map, slice_index, slice_index_or, slice_set, take, Option, Some, None}
+use Rattle.std.specs.Prelude.{option_map, codes}
+use Rattle.mg_model.specs.{Access.{allowed, domain_of}, Accesses.Access, Bytes.{block_words, number_at, offsets_by}}
+use Rattle.mg_model.specs.{Bytes.{words_bytes, are_zeros}, Domains.kept_from, Layout.{segment_body, table_blocks}}
+use Rattle.mg_model.specs.{ObjectCalls.row_at, Objects.{page_behind, page_of}, Refused.{Answer, refusal_row}}
+use Rattle.mg_model.specs.{Replay.{block_of, home_of, segment_fits, writes_of}, Script.word_end, Spelling.frame_at}
+use Rattle.mg_model.specs.{Spelling.{password_at, Read}, State.{CallFrame, Object, ObjectRow, State, Thread, ThreadRow}}
+use Rattle.mg_model.specs.{State.state_row, Threads.free_number_from, Volume.{Damaged, Is, Rows, VolumeRead}}
+use Rattle.mg_model.specs.{Volume.{page_words, row_bytes, state_fits}, Words.{and_then, same_bytes}}
+use Rattle.mg_model.specs.declared.{accounts.AccRow.AccRow, calls.Call.Call}
+use Rattle.mg_model.specs.declared.layout.TheConstants.{ACCOUNT_SIZE as account_size}
+use Rattle.mg_model.specs.declared.layout.TheConstants.{FIRST_ACCOUNT_BLOCK as first_account_block}
+use Rattle.mg_model.specs.declared.layout.TheConstants.{FIRST_OBJECT_BLOCK as first_object_block}
+use Rattle.mg_model.specs.declared.layout.TheConstants.{FIRST_THREAD_BLOCK as first_thread_block}
+use Rattle.mg_model.specs.declared.layout.TheConstants.{OBJECT_SIZE as object_size, TABLE_BLOCK as table_block}
+use Rattle.mg_model.specs.declared.{limits.TheConstants.SLOT_LIMIT as slot_limit, replies.Refusal.Refusal}
+use Rattle.mg_model.specs.declared.{replies.Reply.TheVariants.No, rights.Right.TheVariants.{R, W, X, D, P, O}}
+use Rattle.mg_model.specs.declared.{slots.{Pw.Pw, Slot.Slot}, threads.ThrState.ThrState}
 use Rattle.mg_model.specs.declared.calls.Call.TheVariants as call
-use Rattle.mg_model.specs.declared.replies.Refusal.{Refusal}
-use Rattle.mg_model.specs.declared.replies.Reply.TheVariants.{No}
-use Rattle.mg_model.specs.declared.slots.Pw.{Pw}
-use Rattle.mg_model.specs.declared.slots.Slot.{Slot}
-use Rattle.mg_model.specs.declared.threads.ThrState.{ThrState}
-use Rattle.mg_model.specs.Access.{allowed, domain_of}
-use Rattle.mg_model.specs.Accesses.{Access}
-use Rattle.mg_model.specs.Bytes.{block_words, number_at, offsets_by, words_bytes, are_zeros}
-use Rattle.mg_model.specs.Domains.{kept_from}
-use Rattle.mg_model.specs.declared.layout.TheConstants.{ACCOUNT_SIZE as account_size, FIRST_ACCOUNT_BLOCK as first_account_block, FIRST_OBJECT_BLOCK as first_object_block, FIRST_THREAD_BLOCK as first_thread_block, OBJECT_SIZE as object_size, TABLE_BLOCK as table_block}
-use Rattle.mg_model.specs.Layout.{segment_body, table_blocks}
-use Rattle.mg_model.specs.declared.limits.TheConstants.{SLOT_LIMIT as slot_limit}
-use Rattle.mg_model.specs.ObjectCalls.{row_at}
-use Rattle.mg_model.specs.Objects.{page_behind, page_of}
-use Rattle.mg_model.specs.Refused.{Answer, refusal_row}
-use Rattle.mg_model.specs.Replay.{block_of, home_of, segment_fits, writes_of}
-use Rattle.mg_model.specs.Script.{word_end}
-use Rattle.mg_model.specs.Spelling.{frame_at, password_at, Read}
-use Rattle.mg_model.specs.State.{CallFrame, Object, ObjectRow, State, Thread, ThreadRow, state_row}
-use Rattle.mg_model.specs.Threads.{free_number_from}
-use Rattle.mg_model.specs.Volume.{Damaged, Is, Rows, VolumeRead, page_words, row_bytes, state_fits}
-use Rattle.mg_model.specs.Words.{and_then, same_bytes}
 
 -- whether none of the n pages from this one on is a page of the object
 abbrev pub is_apart : ℕ → ℕ → Object → Bool

@@ -1,16 +1,12 @@
 -- Which access is allowed: a search of the present state, made anew each time.
 --
 -- Everything here is a function of the objects, the period and the slots of the thread's present frame alone.
-use Rattle.std.specs.Prelude.{ℕ, ◌+◌, ◌-◌, ◌*◌, ◌==◌, ◌&&◌, nat_le, nat_lt, min, Bool, false, List, [], slice_index, if◌then◌else◌, find, flat_map, length, map, slice_get, Option}
-use Rattle.std.specs.Option.{option_map_or}
-use Rattle.std.specs.List.{list_any, range_with_len}
-use Rattle.mg_model.specs.declared.slots.Pw.{Pw}
-use Rattle.mg_model.specs.declared.slots.Slot.{Slot}
-use Rattle.mg_model.specs.declared.rights.Right.{Right}
-use Rattle.mg_model.specs.declared.rights.Right.TheVariants.{R}
-use Rattle.mg_model.specs.declared.limits.TheConstants.{PAIR_LIMIT as pair_limit}
-use Rattle.mg_model.specs.Rights.{has_right}
-use Rattle.mg_model.specs.State.{State, Object, ObjectRow, Thread, CallFrame}
+use Rattle.std.specs.{List.{list_any, range_with_len}, Option.option_map_or, Prelude.{ℕ, ◌+◌, ◌-◌, ◌*◌, ◌==◌, ◌&&◌}}
+use Rattle.std.specs.Prelude.{nat_le, nat_lt, min, Bool, false, List, [], slice_index, if◌then◌else◌, find, flat_map}
+use Rattle.std.specs.Prelude.{length, map, slice_get, Option}
+use Rattle.mg_model.specs.{Rights.has_right, State.{State, Object, ObjectRow, Thread, CallFrame}}
+use Rattle.mg_model.specs.declared.{limits.TheConstants.PAIR_LIMIT as pair_limit, rights.Right.{Right, TheVariants.R}}
+use Rattle.mg_model.specs.declared.slots.{Pw.Pw, Slot.Slot}
 
 -- whether an address lies in an object
 abbrev pub covers : ObjectRow → ℕ → Bool

@@ -2,22 +2,14 @@
 --
 -- Both are those of the state before the line. A line makes an access when it tests a right. If an earlier test of the line
 -- already decides, the later test is not made.
-use Rattle.std.specs.Prelude.{ℕ, ◌+◌, ◌&&◌, nat_lt, List, [], ◌∷◌, ◌++◌, if◌then◌else◌, map, Option, Some, None}
-use Rattle.std.specs.Option.{option_map_or}
-use Rattle.mg_model.specs.declared.calls.Call.{Call}
+use Rattle.std.specs.{Option.option_map_or, Prelude.{ℕ, ◌+◌, ◌&&◌, nat_lt, List, [], ◌∷◌, ◌++◌, if◌then◌else◌, map}}
+use Rattle.std.specs.Prelude.{Option, Some, None}
+use Rattle.mg_model.specs.{Access.{allowed, thread_of}, ObjectCalls.is_aligned, Objects.word_at, Script.decoded}
+use Rattle.mg_model.specs.{Script.{operand, register}, State.{State, Thread, ThreadRow}, Threads.is_thread, Turn.picked}
+use Rattle.mg_model.specs.{Turn.{script_call, thread_is_ready}, declared.calls.{Call.Call, Line.Line}}
+use Rattle.mg_model.specs.declared.{instructions.Instr.Instr, rights.Right.{Right, TheVariants.{R, W, X, D, P, O}}}
 use Rattle.mg_model.specs.declared.calls.Call.TheVariants as call
-use Rattle.mg_model.specs.declared.calls.Line.{Line}
-use Rattle.mg_model.specs.declared.instructions.Instr.{Instr}
 use Rattle.mg_model.specs.declared.instructions.Instr.TheVariants as op
-use Rattle.mg_model.specs.declared.rights.Right.{Right}
-use Rattle.mg_model.specs.declared.rights.Right.TheVariants.{R, W, X, D, P, O}
-use Rattle.mg_model.specs.Access.{allowed, thread_of}
-use Rattle.mg_model.specs.ObjectCalls.{is_aligned}
-use Rattle.mg_model.specs.Objects.{word_at}
-use Rattle.mg_model.specs.Script.{decoded, operand, register}
-use Rattle.mg_model.specs.State.{State, Thread, ThreadRow}
-use Rattle.mg_model.specs.Threads.{is_thread}
-use Rattle.mg_model.specs.Turn.{picked, script_call, thread_is_ready}
 
 -- the access of a thread to an address with a right
 pub record Access : Type 0 where

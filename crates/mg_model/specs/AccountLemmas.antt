@@ -1,8 +1,7 @@
 -- Lemmas that crates above cite: accounts by their numbers.
-use Rattle.std.proofs.Common.{◌≡◌, ℕ, zero, suc, ◌-◌, ◌≤◌, true, List, length, get_or, Option, Some, None, is_some, refl, ap, ◌∙◌, arith}
-use Rattle.std.proofs.lemmas.Option.{get_or_from_slice_get, slice_get_within}
-use Rattle.mg_model.specs.declared.accounts.AccRow.{AccRow}
-use Rattle.mg_model.specs.Bank.{account_of}
+use Rattle.std.proofs.Common.{◌≡◌, ℕ, zero, suc, ◌-◌, ◌≤◌, true, List, length, get_or, Option, Some, None, is_some}
+use Rattle.std.proofs.{Common.{refl, ap, ◌∙◌, arith}, lemmas.Option.{get_or_from_slice_get, slice_get_within}}
+use Rattle.mg_model.specs.{Bank.account_of, declared.accounts.AccRow.AccRow}
 
 -- account `number` has this row
 pub record IsRowOf (accounts : List AccRow) (number : ℕ) (row : AccRow) : Type 0 where

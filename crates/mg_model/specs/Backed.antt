@@ -1,22 +1,13 @@
 -- What a seat of the validation cache rests on in a state, and which seats a line ends.
-use Rattle.std.specs.Prelude.{ℕ, ◌≡◌, ◌+◌, ◌==◌, ◌&&◌, ◌||◌, nat_le, nat_lt, Bool, true, false, List, [], Contains, Option, Some, if◌then◌else◌}
-use Rattle.std.specs.Option.{option_map_or}
-use Rattle.mg_model.specs.declared.calls.Call.{Call}
+use Rattle.std.specs.{Option.option_map_or, Prelude.{ℕ, ◌≡◌, ◌+◌, ◌==◌, ◌&&◌, ◌||◌, nat_le, nat_lt, Bool, true, false}}
+use Rattle.std.specs.Prelude.{List, [], Contains, Option, Some, if◌then◌else◌}
+use Rattle.mg_model.specs.{Access.{based_at, domain_of, pairs_of, holds}, Accesses.{fetched, turning}}
+use Rattle.mg_model.specs.{ObjectCalls.row_at, Script.operand, State.{Object, State, Thread, ThreadRow}, Turn.picked}
+use Rattle.mg_model.specs.{Turn.script_call, declared.{calls.{Call.Call, Line.Line}, instructions.Instr.Instr}}
+use Rattle.mg_model.specs.declared.{limits.TheConstants.PAGE_SIZE as page_size, rights.Right.{Right, TheVariants.R}}
+use Rattle.mg_model.specs.declared.{seats.Seat.Seat, slots.Slot.Slot}
 use Rattle.mg_model.specs.declared.calls.Call.TheVariants as call
-use Rattle.mg_model.specs.declared.calls.Line.{Line}
-use Rattle.mg_model.specs.declared.instructions.Instr.{Instr}
 use Rattle.mg_model.specs.declared.instructions.Instr.TheVariants as op
-use Rattle.mg_model.specs.declared.rights.Right.{Right}
-use Rattle.mg_model.specs.declared.rights.Right.TheVariants.{R}
-use Rattle.mg_model.specs.declared.seats.Seat.{Seat}
-use Rattle.mg_model.specs.declared.slots.Slot.{Slot}
-use Rattle.mg_model.specs.Access.{based_at, domain_of, pairs_of, holds}
-use Rattle.mg_model.specs.Accesses.{fetched, turning}
-use Rattle.mg_model.specs.declared.limits.TheConstants.{PAGE_SIZE as page_size}
-use Rattle.mg_model.specs.ObjectCalls.{row_at}
-use Rattle.mg_model.specs.Script.{operand}
-use Rattle.mg_model.specs.State.{Object, State, Thread, ThreadRow}
-use Rattle.mg_model.specs.Turn.{picked, script_call}
 
 -- whether the object with this base holds a password with a right
 abbrev pub held_at : State → ℕ → ℕ → Right → Bool

@@ -1,8 +1,7 @@
 -- Accounts, pages and rent.
-use Rattle.std.specs.Prelude.{ℕ, zero, suc, ◌+◌, ◌-◌, ◌*◌, ◌==◌, nat_le, min, Bool, false, List, [], ◌∷◌, filter, find, reverse, sum_by, slice_get, slice_set, Option, None}
-use Rattle.std.specs.Option.{option_map_or}
-use Rattle.mg_model.specs.declared.accounts.AccRow.{AccRow}
-use Rattle.mg_model.specs.State.{State, Object}
+use Rattle.std.specs.{Option.option_map_or, Prelude.{ℕ, zero, suc, ◌+◌, ◌-◌, ◌*◌, ◌==◌, nat_le, min, Bool, false, List}}
+use Rattle.std.specs.Prelude.{[], ◌∷◌, filter, find, reverse, sum_by, slice_get, slice_set, Option, None}
+use Rattle.mg_model.specs.{State.{State, Object}, declared.accounts.AccRow.AccRow}
 
 -- the account with this number, from 1
 abbrev pub account_of : List AccRow → ℕ → Option AccRow

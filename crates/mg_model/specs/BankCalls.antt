@@ -1,12 +1,11 @@
 -- The calls on accounts, and the collection of rent.
 use Rattle.std.specs.Prelude.{ℕ, ◌+◌, ◌==◌, ◌||◌, nat_le, nat_lt, not, [], ◌∷◌, ◌++◌, length, is_some}
+use Rattle.mg_model.specs.Bank.{account_of, balance_of, credited, opens, owed_by, pages_of, rate_now, rent_accounts}
+use Rattle.mg_model.specs.{Bank.{rent_paid, debited}, ObjectCalls.{all_drawn, drawn, next_password}, Refused.Answer}
+use Rattle.mg_model.specs.{Refused.checked, State.State, declared.limits.TheConstants.ACCOUNT_LIMIT as account_limit}
+use Rattle.mg_model.specs.declared.limits.TheConstants.{PERIOD_LIMIT as period_limit}
 use Rattle.mg_model.specs.declared.replies.Refusal.TheVariants.{Account, Credit, Limit, Calendar}
 use Rattle.mg_model.specs.declared.replies.Reply.TheVariants.{Done, Opened, Funds, Collected}
-use Rattle.mg_model.specs.Bank.{account_of, balance_of, credited, opens, owed_by, pages_of, rate_now, rent_accounts, rent_paid, debited}
-use Rattle.mg_model.specs.declared.limits.TheConstants.{ACCOUNT_LIMIT as account_limit, PERIOD_LIMIT as period_limit}
-use Rattle.mg_model.specs.ObjectCalls.{all_drawn, drawn, next_password}
-use Rattle.mg_model.specs.Refused.{Answer, checked}
-use Rattle.mg_model.specs.State.{State}
 
 -- `account ACC PW N`
 abbrev pub open_account : State → ℕ → ℕ → ℕ → Answer

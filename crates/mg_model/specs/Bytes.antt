@@ -1,7 +1,6 @@
 -- Numbers and rows as bytes. All numbers are little-endian.
-use Rattle.std.specs.Prelude.{ℕ, zero, suc, ◌+◌, ◌-◌, ◌==◌, Bool, List, [], ◌∷◌, ◌++◌, drop, flat_map, length, replicate, take, map}
-use Rattle.std.specs.Int.{from_le_bytes, to_le_bytes, w64}
-use Rattle.std.specs.List.{list_all}
+use Rattle.std.specs.{Int.{from_le_bytes, to_le_bytes, w64}, List.list_all, Prelude.{ℕ, zero, suc, ◌+◌, ◌-◌, ◌==◌}}
+use Rattle.std.specs.Prelude.{Bool, List, [], ◌∷◌, ◌++◌, drop, flat_map, length, replicate, take, map}
 
 -- numbers in 8 bytes each
 abbrev pub words_bytes : List ℕ → List ℕ

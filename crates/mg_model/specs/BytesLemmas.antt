@@ -1,15 +1,11 @@
 -- Lemmas that crates above need: numbers and bytes are read back from the place where they were written.
-use Rattle.std.specs.Prelude.{◌≡◌, ℕ, zero, suc, ◌+◌, ◌-◌, ◌*◌, ◌≤◌, ◌==◌, true, List, [], ◌∷◌, ◌++◌, All, drop, length, replicate, take}
-use Rattle.std.specs.Int.{from_le_bytes, w64}
-use Rattle.std.proofs.Common.{refl, sym, ap, ◌∙◌, arith, append_assoc, length-append, add_assoc}
-use Rattle.std.proofs.lemmas.List.{append-nil, drop_at, length-replicate, drop-drop}
-use Rattle.std.proofs.lemmas.Bool.{and_from, eq-eqb}
-use Rattle.std.proofs.lemmas.List.Elements.{All-head, All-tail}
-use Rattle.std.proofs.lemmas.Nat.{from_le_bytes-to_le_bytes_8}
-use Rattle.mg_model.specs.Abbreviations.{word_bytes}
-use Rattle.mg_model.specs.Bytes.{bytes_at, number_at, numbers_at, padded_to, words_bytes}
-use Rattle.mg_model.specs.Ranges.{IsWord}
-use Rattle.mg_model.specs.Words.{same_bytes}
+use Rattle.std.proofs.{Common.{refl, sym, ap, ◌∙◌, arith, append_assoc, length-append, add_assoc}, lemmas.Bool.and_from}
+use Rattle.std.proofs.lemmas.{Bool.eq-eqb, List.{append-nil, drop_at, length-replicate, drop-drop, Elements.All-head}}
+use Rattle.std.{proofs.lemmas.{List.Elements.All-tail, Nat.from_le_bytes-to_le_bytes_8}, specs.Int.{from_le_bytes, w64}}
+use Rattle.std.specs.Prelude.{◌≡◌, ℕ, zero, suc, ◌+◌, ◌-◌, ◌*◌, ◌≤◌, ◌==◌, true, List, [], ◌∷◌, ◌++◌, All, drop, length}
+use Rattle.std.specs.Prelude.{replicate, take}
+use Rattle.mg_model.specs.{Abbreviations.word_bytes, Bytes.{bytes_at, number_at, numbers_at, padded_to, words_bytes}}
+use Rattle.mg_model.specs.{Ranges.IsWord, Words.same_bytes}
 
 pub same_bytes-refl : (xs : List ℕ) → same_bytes xs xs ≡ true
 same_bytes-refl [] = refl

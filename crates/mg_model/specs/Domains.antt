@@ -1,15 +1,13 @@
 -- The calls on a thread's protection domain: its present frame, and the frames below it.
-use Rattle.std.specs.Prelude.{ℕ, suc, ◌+◌, ◌-◌, ◌/◌, ◌%◌, ◌^◌, ◌==◌, nat_le, nat_lt, not, List, [], ◌∷◌, ◌++◌, length, if◌then◌else◌, map, take, drop, replicate, slice_get, Option, Some, None}
-use Rattle.std.specs.Option.{option_map_or, option_to_list}
-use Rattle.mg_model.specs.declared.replies.Refusal.TheVariants.{Align, Denied, NoEntry, Depth, SlotFull, NoSlot, NoFrame}
-use Rattle.mg_model.specs.declared.replies.Reply.TheVariants.{Done, Count, Slots}
-use Rattle.mg_model.specs.declared.rights.Right.TheVariants.{P}
-use Rattle.mg_model.specs.declared.slots.Slot.{Slot}
-use Rattle.mg_model.specs.Access.{allowed, domain_of, thread_of}
+use Rattle.std.specs.{Option.{option_map_or, option_to_list}, Prelude.{ℕ, suc, ◌+◌, ◌-◌, ◌/◌, ◌%◌, ◌^◌, ◌==◌, nat_le}}
+use Rattle.std.specs.Prelude.{nat_lt, not, List, [], ◌∷◌, ◌++◌, length, if◌then◌else◌, map, take, drop, replicate}
+use Rattle.std.specs.Prelude.{slice_get, Option, Some, None}
+use Rattle.mg_model.specs.{Access.{allowed, domain_of, thread_of}, ObjectCalls.{is_aligned, is_entry, row_at}}
+use Rattle.mg_model.specs.{Refused.{Answer, checked}, State.{State, Thread, ThreadRow, CallFrame}}
 use Rattle.mg_model.specs.declared.limits.TheConstants.{FRAME_LIMIT as frame_limit, SLOT_LIMIT as slot_limit}
-use Rattle.mg_model.specs.ObjectCalls.{is_aligned, is_entry, row_at}
-use Rattle.mg_model.specs.Refused.{Answer, checked}
-use Rattle.mg_model.specs.State.{State, Thread, ThreadRow, CallFrame}
+use Rattle.mg_model.specs.declared.replies.Refusal.TheVariants.{Align, Denied, NoEntry, Depth, SlotFull, NoSlot}
+use Rattle.mg_model.specs.declared.replies.{Refusal.TheVariants.NoFrame, Reply.TheVariants.{Done, Count, Slots}}
+use Rattle.mg_model.specs.declared.{rights.Right.TheVariants.P, slots.Slot.Slot}
 
 -- the state with a change of this thread's row
 abbrev pub with_thread : State → ℕ → (ThreadRow → ThreadRow) → State

@@ -1,9 +1,6 @@
 -- A lemma that crates above need: each password that is drawn is a number of 64 bits.
-use Rattle.std.proofs.Common.{ℕ, ◌+◌, ◌*◌, ◌^◌, ◌<◌, List, arith}
-use Rattle.std.proofs.Math.Nat.{mod-lt}
-use Rattle.rand_chacha.specs.Block.{block_word}
-use Rattle.mg_model.specs.Draw.{password_drawn, stream_word}
-use Rattle.mg_model.specs.Ranges.{IsWord}
+use Rattle.std.proofs.{Common.{ℕ, ◌+◌, ◌*◌, ◌^◌, ◌<◌, List, arith}, Math.Nat.mod-lt}
+use Rattle.{mg_model.specs.{Draw.{password_drawn, stream_word}, Ranges.IsWord}, rand_chacha.specs.Block.block_word}
 
 stream_word-below : (n : ℕ) (key : List ℕ) (counter nonce k : ℕ) → block_word n key counter nonce k < 2 ^ 32
 unfolding block_word

@@ -1,9 +1,6 @@
 -- The whole lines of an input: those that a newline ends.
-use Rattle.std.specs.Prelude.{ℕ, List, [], ◌∷◌}
-use Rattle.std.specs.List.{filter_map, slice_split}
-use Rattle.mg_model.specs.declared.calls.Line.{Line}
-use Rattle.mg_model.specs.Lines.{line_of}
-use Rattle.mg_model.specs.Words.{is_newline}
+use Rattle.std.specs.{List.{filter_map, slice_split}, Prelude.{ℕ, List, [], ◌∷◌}}
+use Rattle.mg_model.specs.{Lines.line_of, Words.is_newline, declared.calls.Line.Line}
 
 -- all pieces but the last
 abbrev pub all_but_last : List (List ℕ) → List (List ℕ)

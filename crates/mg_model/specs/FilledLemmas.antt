@@ -1,9 +1,7 @@
 -- Lemmas that several crates need: what an array that is used in part keeps as an item joins it or leaves it.
-use Rattle.std.specs.Prelude.{◌≡◌, ℕ, suc, ◌+◌, ◌-◌, ◌≤◌, ◌<◌, List, ◌∷◌, ◌++◌, length, replicate, take, drop}
-use Rattle.std.proofs.Common.{sym, ap, ◌∙◌, arith}
-use Rattle.std.proofs.lemmas.List.{length-take-le, take-append-drop, drop-set, drop-set-lt}
-use Rattle.std.proofs.Math.Seq.{drop-cons}
-use Rattle.std.proofs.Math.ListN.{set, get_or, length-set}
+use Rattle.std.proofs.{Common.{sym, ap, ◌∙◌, arith}, Math.{ListN.{set, get_or, length-set}, Seq.drop-cons}}
+use Rattle.std.{proofs.lemmas.List.{length-take-le, take-append-drop, drop-set, drop-set-lt}, specs.Prelude.{◌≡◌, ℕ}}
+use Rattle.std.specs.Prelude.{suc, ◌+◌, ◌-◌, ◌≤◌, ◌<◌, List, ◌∷◌, ◌++◌, length, replicate, take, drop}
 use Rattle.mg_model.specs.Filled.{IsFilled, filled}
 
 pub filled-take : {X : Type 0} (filler : X) (n : ℕ) (items : List X) (count : ℕ) → IsFilled filler n items count → filled filler n (take count items) ≡ items

@@ -1,12 +1,8 @@
 -- The fresh state.
 use Rattle.std.specs.Prelude.{ℕ, List, [], ◌∷◌, replicate}
+use Rattle.mg_model.specs.{Draw.password_drawn, Objects.new_object, Settings.Settings, State.{State, Object, Thread}}
+use Rattle.mg_model.specs.{Threads.new_thread, declared.limits.TheConstants.ROOT_BASE}
 use Rattle.mg_model.specs.declared.threads.ThrState.TheVariants.{Stopped}
-use Rattle.mg_model.specs.declared.limits.TheConstants.{ROOT_BASE}
-use Rattle.mg_model.specs.Draw.{password_drawn}
-use Rattle.mg_model.specs.Objects.{new_object}
-use Rattle.mg_model.specs.Settings.{Settings}
-use Rattle.mg_model.specs.State.{State, Object, Thread}
-use Rattle.mg_model.specs.Threads.{new_thread}
 
 -- the base of the root object
 abbrev pub root_base : ℕ

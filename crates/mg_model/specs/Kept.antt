@@ -1,15 +1,12 @@
 -- What accesses and lines do to the keys that are kept, and to a counter of words.
 --
 -- Which keys are kept is a test on keys, and no list of seats is named here. A key that is kept spares a search.
-use Rattle.std.specs.Prelude.{ℕ, ◌≡◌, ◌≤◌, ◌+◌, ◌*◌, ◌&&◌, Bool, true, false, List, [], ◌∷◌, if◌then◌else◌, Some}
-use Rattle.std.specs.Option.{option_map_or}
-use Rattle.mg_model.specs.declared.calls.Line.{Line}
-use Rattle.mg_model.specs.Accesses.{Access, accesses, line_words}
-use Rattle.mg_model.specs.Keys.{Key, first_at, has_seat, is_elsewhere, key_of, seat_of, taken, taken_by}
+use Rattle.std.specs.{Option.option_map_or, Prelude.{ℕ, ◌≡◌, ◌≤◌, ◌+◌, ◌*◌, ◌&&◌, Bool, true, false, List, [], ◌∷◌}}
+use Rattle.std.specs.Prelude.{if◌then◌else◌, Some}
+use Rattle.mg_model.specs.{Accesses.{Access, accesses, line_words}, Keys.{Key, first_at, has_seat, is_elsewhere}}
+use Rattle.mg_model.specs.{Keys.{key_of, seat_of, taken, taken_by}, State.State, Step.step, Warmth.{Event, failing}}
+use Rattle.mg_model.specs.{Warmth.{is_disturbing, is_recent}, declared.calls.Line.Line}
 use Rattle.mg_model.specs.declared.limits.TheConstants.{SEARCH_LIMIT as search_limit}
-use Rattle.mg_model.specs.State.{State}
-use Rattle.mg_model.specs.Step.{step}
-use Rattle.mg_model.specs.Warmth.{Event, failing, is_disturbing, is_recent}
 
 -- whether the key of an access is kept
 abbrev pub is_known : (Key → Bool) → State → Access → Bool

@@ -1,9 +1,8 @@
 -- Lemmas that crates above need, on what an edit of a list keeps: facts on each element, and on each pair of an element and a later one.
-use Rattle.std.proofs.Common.{◌≡◌, ℕ, suc, ◌≤◌, Bool, not, List, [], ◌∷◌, map, filter, length, get_or, sum_by, All, AllPairs, refl, arith}
-use Rattle.std.proofs.lemmas.List.Elements.{All-cons, All-head, All-map, All-nil, All-tail, All-weaker}
-use Rattle.std.proofs.lemmas.List.Filters.{length-filter_both, sum_by-filter_both}
-use Rattle.std.proofs.lemmas.List.Kept.{AllPairs-cons}
-use Rattle.std.proofs.lemmas.List.Sums.{sum_by-cons}
+use Rattle.std.proofs.Common.{◌≡◌, ℕ, suc, ◌≤◌, Bool, not, List, [], ◌∷◌, map, filter, length, get_or, sum_by, All}
+use Rattle.std.proofs.{Common.{AllPairs, refl, arith}, lemmas.List.Elements.{All-cons, All-head, All-map, All-nil}}
+use Rattle.std.proofs.lemmas.List.{Elements.{All-tail, All-weaker}, Filters.{length-filter_both, sum_by-filter_both}}
+use Rattle.std.proofs.lemmas.List.{Kept.AllPairs-cons, Sums.sum_by-cons}
 
 -- what follows at each element from two facts on it
 pub All-both : {X : Type 0} (P Q R : X → Type 0) → ((x : X) → P x → Q x → R x) → (xs : List X) → All P xs → All Q xs → All R xs

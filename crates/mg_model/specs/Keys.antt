@@ -1,13 +1,10 @@
 -- Under which keys rights are kept, and the one seat of 256 that a key can have.
-use Rattle.std.specs.Prelude.{ℕ, ◌+◌, ◌*◌, ◌/◌, ◌%◌, ◌==◌, ◌&&◌, ◌||◌, Bool, not, List, [], ◌∷◌, ◌++◌, if◌then◌else◌, find, Option, option_map}
-use Rattle.std.specs.Option.{option_to_list}
-use Rattle.std.specs.List.{list_all}
+use Rattle.std.specs.{List.list_all, Option.option_to_list, Prelude.{ℕ, ◌+◌, ◌*◌, ◌/◌, ◌%◌, ◌==◌, ◌&&◌, ◌||◌, Bool}}
+use Rattle.std.specs.Prelude.{not, List, [], ◌∷◌, ◌++◌, if◌then◌else◌, find, Option, option_map}
+use Rattle.mg_model.specs.{Access.{allowed, at}, Accesses.Access, Rights.right_number, State.{Object, State}}
+use Rattle.mg_model.specs.declared.limits.TheConstants.{PAGE_SIZE as page_size, PAGE_STRIDE as page_stride}
+use Rattle.mg_model.specs.declared.limits.TheConstants.{RIGHT_STRIDE as right_stride, SEAT_COUNT as seat_count}
 use Rattle.mg_model.specs.declared.rights.Right.{Right}
-use Rattle.mg_model.specs.Access.{allowed, at}
-use Rattle.mg_model.specs.Accesses.{Access}
-use Rattle.mg_model.specs.declared.limits.TheConstants.{PAGE_SIZE as page_size, PAGE_STRIDE as page_stride, RIGHT_STRIDE as right_stride, SEAT_COUNT as seat_count}
-use Rattle.mg_model.specs.Rights.{right_number}
-use Rattle.mg_model.specs.State.{Object, State}
 
 -- a thread, the base of an object, and a right: all addresses of the object have one key
 pub record Key : Type 0 where

@@ -1,7 +1,10 @@
 -- Where everything lies on a volume, in blocks of 4096 bytes. `src/layout.rt` has the numbers: the gate, the superblock, eight segments
 -- of the journal, the globals, the accounts, the threads, the objects and the frame table.
 use Rattle.std.specs.Prelude.{ℕ, ◌+◌, ◌*◌, ◌/◌, List, codes}
-use Rattle.mg_model.specs.declared.layout.TheConstants.{GATE_BLOCK, SUPER_BLOCK, VERSION, SEGMENT_COUNT, BODY_LIMIT, SEGMENT_SIZE, FIRST_SEGMENT, GLOBALS_BLOCK, ACCOUNT_SIZE, OBJECT_SIZE, FIRST_ACCOUNT_BLOCK, FIRST_THREAD_BLOCK, FIRST_OBJECT_BLOCK, TABLE_BLOCK}
+use Rattle.mg_model.specs.declared.layout.TheConstants.{GATE_BLOCK, SUPER_BLOCK, VERSION, SEGMENT_COUNT, BODY_LIMIT}
+use Rattle.mg_model.specs.declared.layout.TheConstants.{SEGMENT_SIZE, FIRST_SEGMENT, GLOBALS_BLOCK, ACCOUNT_SIZE}
+use Rattle.mg_model.specs.declared.layout.TheConstants.{OBJECT_SIZE, FIRST_ACCOUNT_BLOCK, FIRST_THREAD_BLOCK}
+use Rattle.mg_model.specs.declared.layout.TheConstants.{FIRST_OBJECT_BLOCK, TABLE_BLOCK}
 
 abbrev pub block_size : ℕ
 block_size = 4096

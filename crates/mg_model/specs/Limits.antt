@@ -1,7 +1,12 @@
 -- The limits of the machine by name, for the crates above: `src/limits.rt` has their numbers, and says what each one bounds. The
 -- definitions here take them from there.
 use Rattle.std.specs.Prelude.{ℕ, ◌*◌}
-use Rattle.mg_model.specs.declared.limits.TheConstants.{PAGE_SIZE, FIRST_PAGE, PAGE_END, OBJECT_LIMIT, OBJECT_PAGE_LIMIT, PASSWORD_LIMIT, ENTRY_POINT_LIMIT, ALL_RIGHTS, PAIR_LIMIT, SLOT_LIMIT, FRAME_LIMIT, THREAD_LIMIT, ACCOUNT_LIMIT, PERIOD_LIMIT, NEVER, DRAW_LIMIT, BIRTH_LIMIT, DEBT_LIMIT, LEAST_FRAMES, MOST_FRAMES, CREDIT_LIMIT, STEP_LIMIT, SEAT_COUNT, PAGE_STRIDE, RIGHT_STRIDE, SEARCH_LIMIT}
+use Rattle.mg_model.specs.declared.limits.TheConstants.{PAGE_SIZE, FIRST_PAGE, PAGE_END, OBJECT_LIMIT}
+use Rattle.mg_model.specs.declared.limits.TheConstants.{OBJECT_PAGE_LIMIT, PASSWORD_LIMIT, ENTRY_POINT_LIMIT}
+use Rattle.mg_model.specs.declared.limits.TheConstants.{ALL_RIGHTS, PAIR_LIMIT, SLOT_LIMIT, FRAME_LIMIT, THREAD_LIMIT}
+use Rattle.mg_model.specs.declared.limits.TheConstants.{ACCOUNT_LIMIT, PERIOD_LIMIT, NEVER, DRAW_LIMIT, BIRTH_LIMIT}
+use Rattle.mg_model.specs.declared.limits.TheConstants.{DEBT_LIMIT, LEAST_FRAMES, MOST_FRAMES, CREDIT_LIMIT, STEP_LIMIT}
+use Rattle.mg_model.specs.declared.limits.TheConstants.{SEAT_COUNT, PAGE_STRIDE, RIGHT_STRIDE, SEARCH_LIMIT}
 
 -- what an account may owe by a period
 abbrev pub debt_limit : ℕ → ℕ

@@ -1,11 +1,10 @@
 -- From bytes to calls.
-use Rattle.std.specs.Prelude.{ℕ, ◌==◌, nat_le, nat_lt, Bool, false, List, [], ◌∷◌, length, if◌then◌else◌, slice_index, Option, Some, None, codes, option_map}
-use Rattle.std.specs.Option.{option_map_or}
-use Rattle.std.specs.List.{filter_map, list_any, slice_split}
-use Rattle.mg_model.specs.declared.calls.Call.{Call}
-use Rattle.mg_model.specs.declared.calls.Call.TheVariants as call
-use Rattle.mg_model.specs.declared.calls.Line.{Line}
+use Rattle.std.specs.{List.{filter_map, list_any, slice_split}, Option.option_map_or, Prelude.{ℕ, ◌==◌, nat_le, nat_lt}}
+use Rattle.std.specs.Prelude.{Bool, false, List, [], ◌∷◌, length, if◌then◌else◌, slice_index, Option, Some, None, codes}
+use Rattle.std.specs.Prelude.{option_map}
 use Rattle.mg_model.specs.Words.{is_newline, number_of, numbers_of, rights_of, same_bytes, words, and_then}
+use Rattle.mg_model.specs.declared.calls.{Call.Call, Line.Line}
+use Rattle.mg_model.specs.declared.calls.Call.TheVariants as call
 
 -- these numbers, if there are n of them
 abbrev pub exactly : ℕ → Option (List ℕ) → Option (List ℕ)

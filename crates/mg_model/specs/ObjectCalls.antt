@@ -1,22 +1,19 @@
 -- The calls on words and objects, row by row.
-use Rattle.mg_model.specs.declared.rights.Right.{Right}
-use Rattle.mg_model.specs.Rights.{letters}
-use Rattle.std.specs.Prelude.{ℕ, ◌+◌, ◌*◌, ◌%◌, ◌==◌, ◌&&◌, ◌||◌, nat_le, nat_lt, Bool, false, not, [], ◌∷◌, ◌++◌, length, if◌then◌else◌, filter, Option, Some, None, is_some, unwrap_or}
-use Rattle.std.specs.Option.{option_map_or}
-use Rattle.std.specs.List.{list_any}
-use Rattle.mg_model.specs.declared.replies.Refusal.TheVariants.{Align, Denied, Size, Account, Debt, Limit, Full, NoPassword, Range, Past}
-use Rattle.mg_model.specs.declared.replies.Reply.{Reply}
-use Rattle.mg_model.specs.declared.replies.Reply.TheVariants.{Done, Value, Made, About}
-use Rattle.mg_model.specs.declared.rights.Right.TheVariants.{R, W, X, D, P, O}
-use Rattle.mg_model.specs.declared.slots.Pw.{Pw}
-use Rattle.mg_model.specs.declared.slots.Slot.{Slot}
-use Rattle.mg_model.specs.Access.{allowed, at}
-use Rattle.mg_model.specs.Bank.{opens, owed_by, used}
-use Rattle.mg_model.specs.Draw.{password_drawn}
-use Rattle.mg_model.specs.declared.limits.TheConstants.{DRAW_LIMIT as draw_limit, ENTRY_POINT_LIMIT as entry_point_limit, NEVER as never, OBJECT_LIMIT as object_limit, OBJECT_PAGE_LIMIT as object_page_limit, PASSWORD_LIMIT as password_limit}
-use Rattle.mg_model.specs.Objects.{lowest_free, new_object, with_object, without_object, with_row, with_word, word_at}
-use Rattle.mg_model.specs.Refused.{Answer, checked}
-use Rattle.mg_model.specs.State.{State, Object, ObjectRow}
+use Rattle.std.specs.{List.list_any, Option.option_map_or, Prelude.{ℕ, ◌+◌, ◌*◌, ◌%◌, ◌==◌, ◌&&◌, ◌||◌, nat_le, nat_lt}}
+use Rattle.std.specs.Prelude.{Bool, false, not, [], ◌∷◌, ◌++◌, length, if◌then◌else◌, filter, Option, Some, None}
+use Rattle.std.specs.Prelude.{is_some, unwrap_or}
+use Rattle.mg_model.specs.{Access.{allowed, at}, Bank.{opens, owed_by, used}, Draw.password_drawn, Objects.lowest_free}
+use Rattle.mg_model.specs.Objects.{new_object, with_object, without_object, with_row, with_word, word_at}
+use Rattle.mg_model.specs.{Refused.{Answer, checked}, Rights.letters, State.{State, Object, ObjectRow}}
+use Rattle.mg_model.specs.declared.limits.TheConstants.{DRAW_LIMIT as draw_limit}
+use Rattle.mg_model.specs.declared.limits.TheConstants.{ENTRY_POINT_LIMIT as entry_point_limit, NEVER as never}
+use Rattle.mg_model.specs.declared.limits.TheConstants.{OBJECT_LIMIT as object_limit}
+use Rattle.mg_model.specs.declared.limits.TheConstants.{OBJECT_PAGE_LIMIT as object_page_limit}
+use Rattle.mg_model.specs.declared.limits.TheConstants.{PASSWORD_LIMIT as password_limit}
+use Rattle.mg_model.specs.declared.replies.Refusal.TheVariants.{Align, Denied, Size, Account, Debt, Limit, Full}
+use Rattle.mg_model.specs.declared.replies.{Refusal.TheVariants.{NoPassword, Range, Past}, Reply.Reply}
+use Rattle.mg_model.specs.declared.{replies.Reply.TheVariants.{Done, Value, Made, About}, rights.Right.Right}
+use Rattle.mg_model.specs.declared.{rights.Right.TheVariants.{R, W, X, D, P, O}, slots.{Pw.Pw, Slot.Slot}}
 
 -- whether an address is that of a word
 abbrev pub is_aligned : ℕ → Bool

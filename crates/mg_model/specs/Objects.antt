@@ -1,10 +1,10 @@
 -- The places of objects, and how their list changes.
-use Rattle.std.specs.Prelude.{ℕ, ◌+◌, ◌-◌, ◌*◌, ◌/◌, ◌==◌, ◌||◌, nat_le, nat_lt, min, Bool, not, List, [], ◌∷◌, if◌then◌else◌, filter, map, replicate, slice_index, slice_set, None}
-use Rattle.std.specs.Option.{option_map_or}
-use Rattle.std.specs.List.{list_all, fold}
-use Rattle.mg_model.specs.State.{Object, ObjectRow}
-use Rattle.mg_model.specs.Access.{covers, at}
-use Rattle.mg_model.specs.declared.limits.TheConstants.{ALL_RIGHTS as all_rights, FIRST_PAGE as first_page, NEVER as never, PAGE_END as page_end}
+use Rattle.std.specs.{List.{list_all, fold}, Option.option_map_or, Prelude.{ℕ, ◌+◌, ◌-◌, ◌*◌, ◌/◌, ◌==◌, ◌||◌, nat_le}}
+use Rattle.std.specs.Prelude.{nat_lt, min, Bool, not, List, [], ◌∷◌, if◌then◌else◌, filter, map, replicate, slice_index}
+use Rattle.std.specs.Prelude.{slice_set, None}
+use Rattle.mg_model.specs.{Access.{covers, at}, State.{Object, ObjectRow}}
+use Rattle.mg_model.specs.declared.limits.TheConstants.{ALL_RIGHTS as all_rights, FIRST_PAGE as first_page}
+use Rattle.mg_model.specs.declared.limits.TheConstants.{NEVER as never, PAGE_END as page_end}
 
 -- the page of a base, and the page right after an object
 abbrev pub page_of : ObjectRow → ℕ

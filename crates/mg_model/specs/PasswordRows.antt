@@ -1,7 +1,6 @@
 -- A password row of an object, and what it keeps.
 use Rattle.std.specs.Prelude.{ℕ, ◌^◌, ◌<◌, ◌≤◌}
-use Rattle.mg_model.specs.declared.limits.TheConstants.{NEVER as never}
-use Rattle.mg_model.specs.Rights.{IsRights}
+use Rattle.mg_model.specs.{Rights.IsRights, declared.limits.TheConstants.NEVER as never}
 
 pub record PasswordRow : Type 0 where
   pub password : ℕ

@@ -1,16 +1,11 @@
 -- Replies as text.
-use Rattle.mg_model.specs.Refused.{refusal_row}
-use Rattle.mg_model.specs.declared.threads.After.{After}
-use Rattle.mg_model.specs.declared.threads.After.TheVariants as after_turn
+use Rattle.std.specs.{Fmt.decimal, Prelude.{ℕ, zero, suc, ◌+◌, ◌/◌, ◌%◌, nat_lt, List, [], ◌∷◌, ◌++◌, if◌then◌else◌}}
+use Rattle.std.specs.Prelude.{codes, count_by, map, take, flat_map}
+use Rattle.mg_model.specs.{Refused.refusal_row, State.{State, state_row}, Step.step, Words.is_newline}
+use Rattle.mg_model.specs.declared.{calls.Line.Line, replies.Reply.Reply, threads.After.After}
 use Rattle.mg_model.specs.declared.threads.ThrState.TheVariants.{Ready, Stopped, Faulted}
-use Rattle.std.specs.Prelude.{ℕ, zero, suc, ◌+◌, ◌/◌, ◌%◌, nat_lt, List, [], ◌∷◌, ◌++◌, if◌then◌else◌, codes, count_by, map, take, flat_map}
-use Rattle.std.specs.Fmt.{decimal}
-use Rattle.mg_model.specs.declared.calls.Line.{Line}
-use Rattle.mg_model.specs.declared.replies.Reply.{Reply}
+use Rattle.mg_model.specs.declared.threads.After.TheVariants as after_turn
 use Rattle.mg_model.specs.declared.replies.Reply.TheVariants as reply
-use Rattle.mg_model.specs.State.{State, state_row}
-use Rattle.mg_model.specs.Step.{step}
-use Rattle.mg_model.specs.Words.{is_newline}
 
 -- a hexadecimal digit in lower case
 abbrev pub hex_digit : ℕ → ℕ

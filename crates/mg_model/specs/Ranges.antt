@@ -1,11 +1,14 @@
 -- What the fields of a live row keep.
-use Rattle.std.specs.Prelude.{◌≡◌, ◌≢◌, ℕ, ◌+◌, ◌*◌, ◌/◌, ◌%◌, ◌^◌, ◌<◌, ◌≤◌, length, All, AllPairs}
-use Rattle.std.specs.Option.{ForSome}
+use Rattle.std.specs.{Option.ForSome, Prelude.{◌≡◌, ◌≢◌, ℕ, ◌+◌, ◌*◌, ◌/◌, ◌%◌, ◌^◌, ◌<◌, ◌≤◌, length, All, AllPairs}}
+use Rattle.mg_model.specs.{Abbreviations.first_back, PasswordRows.IsPassword, State.{ObjectRow, CallFrame, ThreadRow}}
+use Rattle.mg_model.specs.{State.Counters, declared.limits.TheConstants.ACCOUNT_LIMIT as account_limit}
+use Rattle.mg_model.specs.declared.limits.TheConstants.{BIRTH_LIMIT as birth_limit, DRAW_LIMIT as draw_limit}
+use Rattle.mg_model.specs.declared.limits.TheConstants.{ENTRY_POINT_LIMIT as entry_point_limit}
+use Rattle.mg_model.specs.declared.limits.TheConstants.{FIRST_PAGE as first_page, FRAME_LIMIT as frame_limit}
+use Rattle.mg_model.specs.declared.limits.TheConstants.{OBJECT_PAGE_LIMIT as object_page_limit, PAGE_END as page_end}
+use Rattle.mg_model.specs.declared.limits.TheConstants.{PASSWORD_LIMIT as password_limit, PERIOD_LIMIT as period_limit}
+use Rattle.mg_model.specs.declared.limits.TheConstants.{SLOT_LIMIT as slot_limit, THREAD_LIMIT as thread_limit}
 use Rattle.mg_model.specs.declared.slots.Slot.{Slot}
-use Rattle.mg_model.specs.declared.limits.TheConstants.{ACCOUNT_LIMIT as account_limit, BIRTH_LIMIT as birth_limit, DRAW_LIMIT as draw_limit, ENTRY_POINT_LIMIT as entry_point_limit, FIRST_PAGE as first_page, FRAME_LIMIT as frame_limit, OBJECT_PAGE_LIMIT as object_page_limit, PAGE_END as page_end, PASSWORD_LIMIT as password_limit, PERIOD_LIMIT as period_limit, SLOT_LIMIT as slot_limit, THREAD_LIMIT as thread_limit}
-use Rattle.mg_model.specs.Abbreviations.{first_back}
-use Rattle.mg_model.specs.PasswordRows.{IsPassword}
-use Rattle.mg_model.specs.State.{ObjectRow, CallFrame, ThreadRow, Counters}
 
 -- a number of 64 bits
 abbrev pub IsWord : ℕ → Type 0

@@ -1,11 +1,7 @@
 -- The refusals, and a row of the table of calls: its refusals in their order, and what is done if none of them holds.
-use Rattle.std.specs.Option.{option_map_or}
-use Rattle.std.specs.Prelude.{ℕ, Bool, List, [], ◌∷◌, Option, Some, None, if◌then◌else◌, codes}
-use Rattle.mg_model.specs.declared.replies.Refusal.{Refusal}
+use Rattle.std.specs.{Option.option_map_or, Prelude.{ℕ, Bool, List, [], ◌∷◌, Option, Some, None, if◌then◌else◌, codes}}
+use Rattle.mg_model.specs.{State.State, declared.replies.{Refusal.Refusal, Reply.{Reply, TheVariants.No}}}
 use Rattle.mg_model.specs.declared.replies.Refusal.TheVariants as refusal
-use Rattle.mg_model.specs.declared.replies.Reply.{Reply}
-use Rattle.mg_model.specs.declared.replies.Reply.TheVariants.{No}
-use Rattle.mg_model.specs.State.{State}
 
 -- the refusals: the number that a script sees, and the word that a line is answered
 abbrev pub refusal_row : Refusal → ℕ × List ℕ

@@ -1,9 +1,10 @@
 -- What an image's journal says: the open segments' bodies, written over the blocks that their indexes name.
-use Rattle.std.specs.Prelude.{ℕ, ◌+◌, ◌*◌, ◌==◌, ◌&&◌, nat_le, nat_lt, Bool, true, List, [], flat_map, if◌then◌else◌, map, slice_index, slice_index_or, slice_set, Option, Some, None}
-use Rattle.std.specs.List.{list_all, range_with_len, fold}
-use Rattle.mg_model.specs.Bytes.{number_at}
-use Rattle.mg_model.specs.declared.layout.TheConstants.{BODY_LIMIT as body_limit, GLOBALS_BLOCK as globals_block, SEGMENT_COUNT as segment_count}
-use Rattle.mg_model.specs.Layout.{gate_open, segment_body, segment_gate, segment_index}
+use Rattle.std.specs.{List.{list_all, range_with_len, fold}, Prelude.{ℕ, ◌+◌, ◌*◌, ◌==◌, ◌&&◌, nat_le, nat_lt, Bool}}
+use Rattle.std.specs.Prelude.{true, List, [], flat_map, if◌then◌else◌, map, slice_index, slice_index_or, slice_set}
+use Rattle.std.specs.Prelude.{Option, Some, None}
+use Rattle.mg_model.specs.{Bytes.number_at, Layout.{gate_open, segment_body, segment_gate, segment_index}}
+use Rattle.mg_model.specs.declared.layout.TheConstants.{BODY_LIMIT as body_limit, GLOBALS_BLOCK as globals_block}
+use Rattle.mg_model.specs.declared.layout.TheConstants.{SEGMENT_COUNT as segment_count}
 
 -- an image is a list of blocks, each a list of bytes; past its end every block is empty
 abbrev pub block_of : List (List ℕ) → ℕ → List ℕ

@@ -1,8 +1,7 @@
 -- The six rights and their bits.
 use Rattle.std.specs.Prelude.{ℕ, ◌/◌, ◌%◌, ◌^◌, ◌==◌, ◌≤◌, Bool, List, [], ◌∷◌}
-use Rattle.mg_model.specs.declared.rights.Right.{Right}
-use Rattle.mg_model.specs.declared.rights.Right.TheVariants.{R, W, X, D, P, O}
-use Rattle.mg_model.specs.declared.limits.TheConstants.{ALL_RIGHTS as all_rights}
+use Rattle.mg_model.specs.declared.{limits.TheConstants.ALL_RIGHTS as all_rights, rights.Right.{Right, TheVariants.R}}
+use Rattle.mg_model.specs.declared.rights.Right.TheVariants.{W, X, D, P, O}
 
 -- the rights are numbered in the order of their bits
 abbrev pub right_number : Right → ℕ

@@ -1,23 +1,18 @@
 -- Lemmas that crates above need: rows are read back from the place where they were written, and a table of one live row and
 -- free rows after it has that row alone.
-use Rattle.std.specs.Prelude.{◌≡◌, ℕ, zero, suc, ◌+◌, ◌-◌, ◌*◌, ◌<◌, ◌≤◌, ◌==◌, ◌&&◌, Bool, true, false, All, List, [], ◌∷◌, ◌++◌, drop, if◌then◌else◌, length, replicate, take, Some, None}
-use Rattle.std.specs.Int.{from_le_bytes, to_le_bytes, w64}
-use Rattle.std.proofs.Common.{refl, sym, ap, subst, ◌∙◌, arith}
-use Rattle.std.proofs.lemmas.Bool.{and_from, and_parts}
-use Rattle.std.proofs.lemmas.List.{append-nil, drop-drop, drop_at, length-replicate, replicate-append-replicate}
-use Rattle.std.proofs.lemmas.List.Elements.{All-replicate}
-use Rattle.std.proofs.lemmas.Nat.{from_le_bytes-to_le_bytes_8}
-use Rattle.mg_model.specs.declared.accounts.AccRow.{AccRow}
-use Rattle.mg_model.specs.Bytes.{are_zeros, block_words, bytes_at, numbers_at, words_bytes}
-use Rattle.mg_model.specs.BytesLemmas.{numbers_at-first, same_bytes-refl}
-use Rattle.mg_model.specs.Ranges.{IsWord}
-use Rattle.mg_model.specs.Replay.{block_of}
-use Rattle.mg_model.specs.Spelling.{Read, account_bytes, account_fields, account_read, globals_bytes, globals_fields, globals_read, object_bytes, object_fields, object_read, thread_bytes, thread_fields, thread_read}
-use Rattle.mg_model.specs.State.{Counters, ObjectRow, ThreadRow}
-use Rattle.mg_model.specs.Tests.{are_counters, is_object_row, is_thread_row}
-use Rattle.mg_model.specs.Abbreviations.{free_or, live_if, table_entries, with_live}
-use Rattle.mg_model.specs.Volume.{live_rows}
-use Rattle.mg_model.specs.Words.{and_then, same_bytes}
+use Rattle.std.proofs.{Common.{refl, sym, ap, subst, ◌∙◌, arith}, lemmas.{Bool.{and_from, and_parts}, List.append-nil}}
+use Rattle.std.proofs.lemmas.List.{drop-drop, drop_at, length-replicate, replicate-append-replicate}
+use Rattle.std.{proofs.lemmas.{List.Elements.All-replicate, Nat.from_le_bytes-to_le_bytes_8}, specs.Int.from_le_bytes}
+use Rattle.std.specs.{Int.{to_le_bytes, w64}, Prelude.{◌≡◌, ℕ, zero, suc, ◌+◌, ◌-◌, ◌*◌, ◌<◌, ◌≤◌, ◌==◌, ◌&&◌, Bool}}
+use Rattle.std.specs.Prelude.{true, false, All, List, [], ◌∷◌, ◌++◌, drop, if◌then◌else◌, length, replicate, take, Some}
+use Rattle.std.specs.Prelude.{None}
+use Rattle.mg_model.specs.{Abbreviations.{free_or, live_if, table_entries, with_live}, Bytes.{are_zeros, block_words}}
+use Rattle.mg_model.specs.{Bytes.{bytes_at, numbers_at, words_bytes}, BytesLemmas.{numbers_at-first, same_bytes-refl}}
+use Rattle.mg_model.specs.{Ranges.IsWord, Replay.block_of, Spelling.{Read, account_bytes, account_fields, account_read}}
+use Rattle.mg_model.specs.Spelling.{globals_bytes, globals_fields, globals_read, object_bytes, object_fields}
+use Rattle.mg_model.specs.{Spelling.{object_read, thread_bytes, thread_fields, thread_read}, State.Counters}
+use Rattle.mg_model.specs.{State.{ObjectRow, ThreadRow}, Tests.{are_counters, is_object_row, is_thread_row}}
+use Rattle.mg_model.specs.{Volume.live_rows, Words.{and_then, same_bytes}, declared.accounts.AccRow.AccRow}
 
 -- a row that keeps its rule and has its bytes
 pub read-live : {R : Type 0} (fields : List ℕ → R) (rule : R → Bool) (write : R → List ℕ) (bytes : List ℕ) (row : R)

@@ -1,15 +1,10 @@
 -- Lemmas that crates above need: the tests on the fields of a row, as facts. That numbers have 64 bits is not among them: it
 -- follows from a row's bytes.
+use Rattle.std.proofs.{Common.arith, lemmas.Bool.{and_parts, both_ways, eq-eqb, not-true, or_parts, Decides.nat_tests}}
+use Rattle.std.{proofs.lemmas.List.{Elements.{All-cons, All-nil}, Kept.AllPairs-cons}, specs.List.{list_all, list_any}}
 use Rattle.std.specs.Prelude.{◌≡◌, ◌≢◌, ℕ, ◌==◌, Bool, true, false, not, All, AllPairs, List, [], ◌∷◌}
-use Rattle.std.specs.List.{list_all, list_any}
-use Rattle.std.proofs.Common.{arith}
-use Rattle.std.proofs.lemmas.Bool.{and_parts, both_ways, eq-eqb, not-true, or_parts}
-use Rattle.std.proofs.lemmas.Bool.Decides.{nat_tests}
-use Rattle.std.proofs.lemmas.List.Elements.{All-cons, All-nil}
-use Rattle.std.proofs.lemmas.List.Kept.{AllPairs-cons}
-use Rattle.mg_model.specs.Ranges.{IsCounters, IsEntryOf, IsPlace}
-use Rattle.mg_model.specs.State.{Counters}
-use Rattle.mg_model.specs.Tests.{all_distinct, are_counters, is_entry_of, is_place}
+use Rattle.mg_model.specs.{Ranges.{IsCounters, IsEntryOf, IsPlace}, State.Counters, Tests.{all_distinct, are_counters}}
+use Rattle.mg_model.specs.Tests.{is_entry_of, is_place}
 
 pub list_all-tells : {X : Type 0} (test : X → Bool) (P : X → Type 0) → ((x : X) → test x ≡ true → P x) → (xs : List X) → list_all test xs ≡ true → All P xs
 list_all-tells test P tells [] all = All-nil P

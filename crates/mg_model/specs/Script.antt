@@ -1,8 +1,8 @@
 -- The words of a thread's script: bits 0 to 7 are the op, 8 to 15 a, 16 to 23 b, 24 to 31 c, 32 to 63 the immediate.
-use Rattle.std.specs.Prelude.{ℕ, ◌+◌, ◌-◌, ◌*◌, ◌/◌, ◌%◌, ◌^◌, ◌==◌, ◌&&◌, nat_lt, Bool, true, false, slice_index, slice_set, if◌then◌else◌, Option, Some, None}
-use Rattle.mg_model.specs.declared.instructions.Instr.{Instr}
+use Rattle.std.specs.Prelude.{ℕ, ◌+◌, ◌-◌, ◌*◌, ◌/◌, ◌%◌, ◌^◌, ◌==◌, ◌&&◌, nat_lt, Bool, true, false, slice_index}
+use Rattle.std.specs.Prelude.{slice_set, if◌then◌else◌, Option, Some, None}
+use Rattle.mg_model.specs.{State.ThreadRow, declared.instructions.Instr.Instr}
 use Rattle.mg_model.specs.declared.instructions.Instr.TheVariants as op
-use Rattle.mg_model.specs.State.{ThreadRow}
 
 -- an instruction, if its fields are as it needs them
 abbrev pub where_so : Bool → Instr → Option Instr

@@ -1,6 +1,7 @@
 -- What a volume is made with.
 use Rattle.std.specs.Prelude.{ℕ, ◌&&◌, nat_le, Bool, List}
-use Rattle.mg_model.specs.declared.limits.TheConstants.{CREDIT_LIMIT as credit_limit, LEAST_FRAMES as least_frames, MOST_FRAMES as most_frames}
+use Rattle.mg_model.specs.declared.limits.TheConstants.{CREDIT_LIMIT as credit_limit, LEAST_FRAMES as least_frames}
+use Rattle.mg_model.specs.declared.limits.TheConstants.{MOST_FRAMES as most_frames}
 
 pub record Settings : Type 0 where
   pub frames : ℕ

@@ -1,24 +1,19 @@
 -- How rows are spelled in bytes. Each row is spelled in one way alone, so bytes are read as a row if writing that row gives
 -- them back. That bytes spell a row exactly when a row in its ranges has them is a law (`rows_are_spelled_in_one_way` in
 -- `mg_rows`). So the ways to write a row are the whole meaning; the ways to read it are there to be computed.
-use Rattle.std.specs.Prelude.{ℕ, ◌+◌, ◌-◌, ◌*◌, ◌==◌, ◌&&◌, nat_lt, Bool, true, not, min, List, [], ◌∷◌, ◌++◌, flat_map, if◌then◌else◌, is_some, length, map, replicate, slice_index, Option, Some, None}
-use Rattle.std.specs.List.{range_with_len}
-use Rattle.std.specs.Option.{option_map_or}
-use Rattle.mg_model.specs.declared.accounts.AccRow.{AccRow}
-use Rattle.mg_model.specs.declared.slots.Pw.{Pw}
-use Rattle.mg_model.specs.declared.slots.Slot.{Slot}
-use Rattle.mg_model.specs.declared.threads.Fault.TheVariants as fault
-use Rattle.mg_model.specs.declared.threads.ThrState.{ThrState}
-use Rattle.mg_model.specs.declared.threads.ThrState.TheVariants.{Ready, Stopped, Faulted}
+use Rattle.std.specs.{List.range_with_len, Option.option_map_or, Prelude.{ℕ, ◌+◌, ◌-◌, ◌*◌, ◌==◌, ◌&&◌, nat_lt, Bool}}
+use Rattle.std.specs.Prelude.{true, not, min, List, [], ◌∷◌, ◌++◌, flat_map, if◌then◌else◌, is_some, length, map}
+use Rattle.std.specs.Prelude.{replicate, slice_index, Option, Some, None}
 use Rattle.mg_model.specs.Bytes.{are_zeros, bytes_at, number_at, numbers_at, padded_to, words_bytes, offsets_by}
+use Rattle.mg_model.specs.{Layout.{block_size, magic}, Settings.{Settings, within_limits}, State.{CallFrame, Counters}}
+use Rattle.mg_model.specs.{State.{ObjectRow, ThreadRow, state_row}, Tariff.is_tariff, Tests.are_counters}
+use Rattle.mg_model.specs.{Tests.{is_object_row, is_thread_row}, Words.same_bytes, declared.accounts.AccRow.AccRow}
 use Rattle.mg_model.specs.declared.layout.TheConstants.{ACCOUNT_SIZE as account_size, VERSION as version}
-use Rattle.mg_model.specs.Layout.{block_size, magic}
-use Rattle.mg_model.specs.declared.limits.TheConstants.{ENTRY_POINT_LIMIT as entry_point_limit, FRAME_LIMIT as frame_limit, PASSWORD_LIMIT as password_limit, SLOT_LIMIT as slot_limit}
-use Rattle.mg_model.specs.Settings.{Settings, within_limits}
-use Rattle.mg_model.specs.State.{CallFrame, Counters, ObjectRow, ThreadRow, state_row}
-use Rattle.mg_model.specs.Tariff.{is_tariff}
-use Rattle.mg_model.specs.Tests.{are_counters, is_object_row, is_thread_row}
-use Rattle.mg_model.specs.Words.{same_bytes}
+use Rattle.mg_model.specs.declared.limits.TheConstants.{ENTRY_POINT_LIMIT as entry_point_limit}
+use Rattle.mg_model.specs.declared.limits.TheConstants.{FRAME_LIMIT as frame_limit, PASSWORD_LIMIT as password_limit}
+use Rattle.mg_model.specs.declared.{limits.TheConstants.SLOT_LIMIT as slot_limit, slots.{Pw.Pw, Slot.Slot}}
+use Rattle.mg_model.specs.declared.threads.ThrState.{ThrState, TheVariants.{Ready, Stopped, Faulted}}
+use Rattle.mg_model.specs.declared.threads.Fault.TheVariants as fault
 
 -- What some bytes spell of a row: nothing, that the row is free, or a live row.
 abbrev pub Read : Type 0 → Type 0

@@ -1,12 +1,8 @@
 -- What the machine holds.
 use Rattle.std.specs.Prelude.{ℕ, List, Option, codes}
-use Rattle.mg_model.specs.declared.accounts.AccRow.{AccRow}
-use Rattle.mg_model.specs.declared.slots.Pw.{Pw}
-use Rattle.mg_model.specs.declared.slots.Slot.{Slot}
+use Rattle.mg_model.specs.{Settings.Settings, declared.{accounts.AccRow.AccRow, slots.{Pw.Pw, Slot.Slot}}}
+use Rattle.mg_model.specs.declared.threads.ThrState.{ThrState, TheVariants.{Ready, Stopped, Faulted}}
 use Rattle.mg_model.specs.declared.threads.Fault.TheVariants as fault
-use Rattle.mg_model.specs.declared.threads.ThrState.{ThrState}
-use Rattle.mg_model.specs.declared.threads.ThrState.TheVariants.{Ready, Stopped, Faulted}
-use Rattle.mg_model.specs.Settings.{Settings}
 
 -- what is known of an object besides its words
 pub record ObjectRow : Type 0 where

@@ -1,15 +1,9 @@
 -- One line is one step.
 use Rattle.std.specs.Prelude.{List, [], ◌∷◌, ℕ, if◌then◌else◌}
-use Rattle.mg_model.specs.declared.calls.Call.{Call}
+use Rattle.mg_model.specs.{BankCalls.rent, Refused.Answer, State.State, Threads.is_thread, Turn.{next, thread_call}}
+use Rattle.mg_model.specs.{Turn.turn, declared.{calls.{Call.Call, Line.Line}, replies.Reply.TheVariants.No}}
 use Rattle.mg_model.specs.declared.calls.Call.TheVariants as call
-use Rattle.mg_model.specs.declared.calls.Line.{Line}
 use Rattle.mg_model.specs.declared.replies.Refusal.TheVariants as refusal
-use Rattle.mg_model.specs.declared.replies.Reply.TheVariants.{No}
-use Rattle.mg_model.specs.BankCalls.{rent}
-use Rattle.mg_model.specs.Refused.{Answer}
-use Rattle.mg_model.specs.State.{State}
-use Rattle.mg_model.specs.Threads.{is_thread}
-use Rattle.mg_model.specs.Turn.{next, thread_call, turn}
 
 -- a call that names its thread is refused if no such thread lives
 abbrev pub of_thread : State → ℕ → Answer → Answer

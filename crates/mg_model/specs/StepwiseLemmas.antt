@@ -1,20 +1,13 @@
 -- Lemmas that crates above need: three definitions on lists, as a walk through the list element by element computes them.
-use Rattle.std.specs.Prelude.{◌≡◌, ◌⊎◌, ◌≤◌, ℕ, suc, ◌+◌, ◌/◌, ◌%◌, ◌==◌, ◌&&◌, ◌||◌, nat_le, nat_lt, Bool, true, false, not, List, [], ◌∷◌, length, slice_index_or, if◌then◌else◌, find, reverse, sum_by, Option, Some, None}
-use Rattle.std.specs.Option.{ForSome, option_map_or, option_or}
-use Rattle.std.specs.List.{cons_option, filter_map, list_all, list_any}
-use Rattle.std.proofs.Common.{refl, ap, sym, ◌∙◌, arith, inl, inr, eqb, subst, All}
-use Rattle.std.proofs.lemmas.Bool.{cond_both}
-use Rattle.std.proofs.lemmas.Option.{same_Some}
-use Rattle.std.proofs.lemmas.Bool.Decides.{nat_tests}
-use Rattle.std.proofs.lemmas.List.{reverse-append}
-use Rattle.std.proofs.lemmas.List.Elements.{All-cons, All-head, All-nil, All-tail}
-use Rattle.std.proofs.lemmas.List.Folds.{find-append}
-use Rattle.std.proofs.lemmas.List.Sums.{sum_by-cons}
-use Rattle.mg_model.specs.Bank.{rate_of}
-use Rattle.mg_model.specs.declared.limits.TheConstants.{STEP_LIMIT as step_limit}
-use Rattle.mg_model.specs.Tariff.{is_tariff}
-use Rattle.mg_model.specs.Tests.{all_distinct}
-use Rattle.mg_model.specs.Words.{and_then, is_some_word, letter_weight, rights_of}
+use Rattle.std.proofs.{Common.{refl, ap, sym, ◌∙◌, arith, inl, inr, eqb, subst, All}, lemmas.Bool.cond_both}
+use Rattle.std.proofs.lemmas.{Bool.Decides.nat_tests, List.{reverse-append, Elements.{All-cons, All-head, All-nil}}}
+use Rattle.std.proofs.lemmas.{List.{Elements.All-tail, Folds.find-append, Sums.sum_by-cons}, Option.same_Some}
+use Rattle.std.specs.{List.{cons_option, filter_map, list_all, list_any}, Option.{ForSome, option_map_or, option_or}}
+use Rattle.std.specs.Prelude.{◌≡◌, ◌⊎◌, ◌≤◌, ℕ, suc, ◌+◌, ◌/◌, ◌%◌, ◌==◌, ◌&&◌, ◌||◌, nat_le, nat_lt, Bool, true, false}
+use Rattle.std.specs.Prelude.{not, List, [], ◌∷◌, length, slice_index_or, if◌then◌else◌, find, reverse, sum_by, Option}
+use Rattle.std.specs.Prelude.{Some, None}
+use Rattle.mg_model.specs.{Bank.rate_of, Tariff.is_tariff, Tests.all_distinct, Words.{and_then, is_some_word}}
+use Rattle.mg_model.specs.{Words.{letter_weight, rights_of}, declared.limits.TheConstants.STEP_LIMIT as step_limit}
 
 -- the rate of the last step that holds when this number of pages is in use, else the rate before
 abbrev pub rate_from : ℕ → List (ℕ × ℕ) → ℕ → ℕ

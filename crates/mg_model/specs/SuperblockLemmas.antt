@@ -1,22 +1,15 @@
 -- Lemmas that crates above need: the superblock is read back as it was written.
-use Rattle.std.specs.Prelude.{◌≡◌, ℕ, zero, suc, ◌+◌, ◌-◌, ◌^◌, ◌<◌, ◌≤◌, ◌&&◌, IsTrue, true, false, All, List, [], ◌∷◌, ◌++◌, if◌then◌else◌, length, replicate, slice_index_or}
-use Rattle.std.proofs.Common.{refl, sym, ap, subst, ◌∙◌, arith, add_assoc, append_assoc}
-use Rattle.std.proofs.lemmas.Bool.{and_from, lt-ltb, le-ltb}
-use Rattle.std.proofs.lemmas.Bool.Decides.{nat_tests}
-use Rattle.std.proofs.lemmas.List.{take_at}
-use Rattle.std.proofs.lemmas.List.Elements.{All-cons, All-head, All-nil, All-tail}
-use Rattle.std.proofs.lemmas.Nat.{from_le_bytes-to_le_bytes_8}
-use Rattle.mg_model.specs.Abbreviations.{step_words, steps_at, word_bytes}
-use Rattle.mg_model.specs.Bytes.{bytes_at, number_at, padded_to, words_bytes}
-use Rattle.mg_model.specs.BytesLemmas.{number_at-behind, number_at-first, padded_to-append, same_bytes-refl}
+use Rattle.std.proofs.{Common.{refl, sym, ap, subst, ◌∙◌, arith, add_assoc, append_assoc}, lemmas.Bool.and_from}
+use Rattle.std.proofs.lemmas.{Bool.{lt-ltb, le-ltb, Decides.nat_tests}, List.{take_at, Elements.{All-cons, All-head}}}
+use Rattle.std.{proofs.lemmas.{List.Elements.{All-nil, All-tail}, Nat.from_le_bytes-to_le_bytes_8}, specs.Prelude.◌≡◌}
+use Rattle.std.specs.Prelude.{ℕ, zero, suc, ◌+◌, ◌-◌, ◌^◌, ◌<◌, ◌≤◌, ◌&&◌, IsTrue, true, false, All, List, [], ◌∷◌}
+use Rattle.std.specs.Prelude.{◌++◌, if◌then◌else◌, length, replicate, slice_index_or}
+use Rattle.mg_model.specs.{Abbreviations.{step_words, steps_at, word_bytes}, Bytes.{bytes_at, number_at, padded_to}}
+use Rattle.mg_model.specs.{Bytes.words_bytes, BytesLemmas.{number_at-behind, number_at-first, padded_to-append}}
+use Rattle.mg_model.specs.{BytesLemmas.same_bytes-refl, Layout.magic, Ranges.IsWord, Settings.{Settings, within_limits}}
+use Rattle.mg_model.specs.Spelling.{are_settings, super_bytes, super_fields, super_read, BadSuper, NotSuper, OldSuper}
+use Rattle.mg_model.specs.{Spelling.Spells, Tariff.is_tariff, WellFormed.IsSettings, Words.same_bytes}
 use Rattle.mg_model.specs.declared.layout.TheConstants.{VERSION as version}
-use Rattle.mg_model.specs.Layout.{magic}
-use Rattle.mg_model.specs.Ranges.{IsWord}
-use Rattle.mg_model.specs.Settings.{Settings, within_limits}
-use Rattle.mg_model.specs.Spelling.{are_settings, super_bytes, super_fields, super_read, BadSuper, NotSuper, OldSuper, Spells}
-use Rattle.mg_model.specs.Tariff.{is_tariff}
-use Rattle.mg_model.specs.WellFormed.{IsSettings}
-use Rattle.mg_model.specs.Words.{same_bytes}
 
 steps_at-behind : (xs ys : List ℕ) (n k m : ℕ) → length xs ≡ n → steps_at (xs ++ ys) (n + k) m ≡ steps_at ys k m
 steps_at-behind xs ys n k zero is = refl

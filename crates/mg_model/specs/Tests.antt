@@ -1,11 +1,15 @@
 -- What the fields of a live row and the counters keep, as tests that compute; `Ranges` says the same as facts.
-use Rattle.std.specs.Prelude.{ℕ, ◌+◌, ◌*◌, ◌/◌, ◌%◌, ◌==◌, ◌&&◌, nat_le, nat_lt, Bool, true, not, List, [], ◌∷◌, length, slice_index_or}
-use Rattle.std.specs.Option.{option_map_or}
-use Rattle.std.specs.List.{list_all, list_any}
-use Rattle.mg_model.specs.declared.slots.Pw.{Pw}
-use Rattle.mg_model.specs.declared.slots.Slot.{Slot}
-use Rattle.mg_model.specs.declared.limits.TheConstants.{ACCOUNT_LIMIT as account_limit, ALL_RIGHTS as all_rights, BIRTH_LIMIT as birth_limit, DRAW_LIMIT as draw_limit, ENTRY_POINT_LIMIT as entry_point_limit, FIRST_PAGE as first_page, FRAME_LIMIT as frame_limit, NEVER as never, OBJECT_PAGE_LIMIT as object_page_limit, PAGE_END as page_end, PASSWORD_LIMIT as password_limit, PERIOD_LIMIT as period_limit, SLOT_LIMIT as slot_limit, THREAD_LIMIT as thread_limit}
+use Rattle.std.specs.{List.{list_all, list_any}, Option.option_map_or, Prelude.{ℕ, ◌+◌, ◌*◌, ◌/◌, ◌%◌, ◌==◌, ◌&&◌}}
+use Rattle.std.specs.Prelude.{nat_le, nat_lt, Bool, true, not, List, [], ◌∷◌, length, slice_index_or}
 use Rattle.mg_model.specs.State.{CallFrame, Counters, ObjectRow, ThreadRow}
+use Rattle.mg_model.specs.declared.limits.TheConstants.{ACCOUNT_LIMIT as account_limit, ALL_RIGHTS as all_rights}
+use Rattle.mg_model.specs.declared.limits.TheConstants.{BIRTH_LIMIT as birth_limit, DRAW_LIMIT as draw_limit}
+use Rattle.mg_model.specs.declared.limits.TheConstants.{ENTRY_POINT_LIMIT as entry_point_limit}
+use Rattle.mg_model.specs.declared.limits.TheConstants.{FIRST_PAGE as first_page, FRAME_LIMIT as frame_limit}
+use Rattle.mg_model.specs.declared.limits.TheConstants.{NEVER as never, OBJECT_PAGE_LIMIT as object_page_limit}
+use Rattle.mg_model.specs.declared.limits.TheConstants.{PAGE_END as page_end, PASSWORD_LIMIT as password_limit}
+use Rattle.mg_model.specs.declared.limits.TheConstants.{PERIOD_LIMIT as period_limit, SLOT_LIMIT as slot_limit}
+use Rattle.mg_model.specs.declared.{limits.TheConstants.THREAD_LIMIT as thread_limit, slots.{Pw.Pw, Slot.Slot}}
 
 -- no number is in the list twice
 abbrev pub all_distinct : List ℕ → Bool

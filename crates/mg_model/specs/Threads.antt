@@ -1,17 +1,12 @@
 -- The calls that make, end and resume threads.
-use Rattle.std.specs.Prelude.{ℕ, ◌+◌, ◌==◌, ◌||◌, nat_le, nat_lt, Bool, not, List, [], ◌∷◌, if◌then◌else◌, filter, length, replicate, is_some}
-use Rattle.std.specs.Option.{option_map_or}
-use Rattle.mg_model.specs.declared.replies.Refusal.TheVariants.{Align, Denied, Limit, NoThread, NotYours}
-use Rattle.mg_model.specs.declared.replies.Reply.TheVariants.{Done, Count}
-use Rattle.mg_model.specs.declared.rights.Right.TheVariants.{X}
-use Rattle.mg_model.specs.declared.slots.Slot.{Slot}
-use Rattle.mg_model.specs.declared.threads.ThrState.TheVariants.{Ready}
-use Rattle.mg_model.specs.Access.{allowed, domain_of, thread_of}
-use Rattle.mg_model.specs.Domains.{with_thread}
+use Rattle.std.specs.{Option.option_map_or, Prelude.{ℕ, ◌+◌, ◌==◌, ◌||◌, nat_le, nat_lt, Bool, not, List, [], ◌∷◌}}
+use Rattle.std.specs.Prelude.{if◌then◌else◌, filter, length, replicate, is_some}
+use Rattle.mg_model.specs.{Access.{allowed, domain_of, thread_of}, Domains.with_thread, ObjectCalls.is_aligned}
+use Rattle.mg_model.specs.{Refused.{Answer, checked}, State.{State, Thread}}
 use Rattle.mg_model.specs.declared.limits.TheConstants.{BIRTH_LIMIT as birth_limit, THREAD_LIMIT as thread_limit}
-use Rattle.mg_model.specs.ObjectCalls.{is_aligned}
-use Rattle.mg_model.specs.Refused.{Answer, checked}
-use Rattle.mg_model.specs.State.{State, Thread}
+use Rattle.mg_model.specs.declared.replies.Refusal.TheVariants.{Align, Denied, Limit, NoThread, NotYours}
+use Rattle.mg_model.specs.declared.{replies.Reply.TheVariants.{Done, Count}, rights.Right.TheVariants.X}
+use Rattle.mg_model.specs.declared.{slots.Slot.Slot, threads.ThrState.TheVariants.Ready}
 
 abbrev pub is_thread : State → ℕ → Bool
 is_thread state t = is_some (thread_of state t)

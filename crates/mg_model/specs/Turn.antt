@@ -1,30 +1,21 @@
 -- Turns: a thread runs one word of its script.
-use Rattle.std.specs.Prelude.{ℕ, ◌+◌, ◌-◌, ◌*◌, ◌%◌, ◌^◌, ◌==◌, ◌&&◌, nat_le, nat_lt, Bool, true, false, not, List, [], ◌∷◌, if◌then◌else◌, find, Option, Some, None}
-use Rattle.std.specs.Option.{option_map_or, option_or}
-use Rattle.mg_model.specs.declared.calls.Call.{Call}
+use Rattle.std.specs.{Option.{option_map_or, option_or}, Prelude.{ℕ, ◌+◌, ◌-◌, ◌*◌, ◌%◌, ◌^◌, ◌==◌, ◌&&◌, nat_le}}
+use Rattle.std.specs.Prelude.{nat_lt, Bool, true, false, not, List, [], ◌∷◌, if◌then◌else◌, find, Option, Some, None}
+use Rattle.mg_model.specs.{Access.allowed, BankCalls.{balance, open_account, pay}, Domains.{apdadd, apddel, apdlist}}
+use Rattle.mg_model.specs.{Domains.{pdx, ret, row_of, with_thread}, ObjectCalls.{create, delete, entry, ext, info}}
+use Rattle.mg_model.specs.{ObjectCalls.{is_aligned, load, pwadd, pwdel, recharge, store}, Objects.{with_word, word_at}}
+use Rattle.mg_model.specs.{Refused.{Answer, checked, refusal_row}, Script.{decoded, jumped, operand, register}}
+use Rattle.mg_model.specs.{Script.{with_register, word_end}, State.{State, Thread, ThreadRow}, Threads.end_thread}
+use Rattle.mg_model.specs.{Threads.{make_thread, resume}, declared.{calls.Call.Call, instructions.Instr.Instr}}
+use Rattle.mg_model.specs.declared.{limits.TheConstants.ALL_RIGHTS as all_rights, replies.Reply.Reply}
+use Rattle.mg_model.specs.declared.{rights.Right.TheVariants.{R, W, X}, threads.{After.After, Fault.Fault}}
+use Rattle.mg_model.specs.declared.threads.ThrState.{ThrState, TheVariants.{Ready, Stopped, Faulted}}
 use Rattle.mg_model.specs.declared.calls.Call.TheVariants as call
-use Rattle.mg_model.specs.declared.instructions.Instr.{Instr}
 use Rattle.mg_model.specs.declared.instructions.Instr.TheVariants as op
 use Rattle.mg_model.specs.declared.replies.Refusal.TheVariants as refusal
-use Rattle.mg_model.specs.declared.replies.Reply.{Reply}
 use Rattle.mg_model.specs.declared.replies.Reply.TheVariants as reply
-use Rattle.mg_model.specs.declared.rights.Right.TheVariants.{R, W, X}
-use Rattle.mg_model.specs.declared.threads.After.{After}
 use Rattle.mg_model.specs.declared.threads.After.TheVariants as after_turn
-use Rattle.mg_model.specs.declared.threads.Fault.{Fault}
 use Rattle.mg_model.specs.declared.threads.Fault.TheVariants as fault
-use Rattle.mg_model.specs.declared.threads.ThrState.{ThrState}
-use Rattle.mg_model.specs.declared.threads.ThrState.TheVariants.{Ready, Stopped, Faulted}
-use Rattle.mg_model.specs.Access.{allowed}
-use Rattle.mg_model.specs.BankCalls.{balance, open_account, pay}
-use Rattle.mg_model.specs.Domains.{apdadd, apddel, apdlist, pdx, ret, row_of, with_thread}
-use Rattle.mg_model.specs.declared.limits.TheConstants.{ALL_RIGHTS as all_rights}
-use Rattle.mg_model.specs.ObjectCalls.{create, delete, entry, ext, info, is_aligned, load, pwadd, pwdel, recharge, store}
-use Rattle.mg_model.specs.Objects.{with_word, word_at}
-use Rattle.mg_model.specs.Refused.{Answer, checked, refusal_row}
-use Rattle.mg_model.specs.Script.{decoded, jumped, operand, register, with_register, word_end}
-use Rattle.mg_model.specs.State.{State, Thread, ThreadRow}
-use Rattle.mg_model.specs.Threads.{end_thread, make_thread, resume}
 
 -- The calls of a thread that lives: a line makes them, and a script too. Of the other four, `turn`, `next`, `rent` and Bad,
 -- only Bad is possible here: a script makes it when its registers spell no call. A line with one of the four has a row of

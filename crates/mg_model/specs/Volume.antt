@@ -1,21 +1,23 @@
 -- What an image spells: no volume, an older one, a damaged one, or a state of the machine.
-use Rattle.std.specs.Prelude.{◌≡◌, ◌≤◌, ℕ, zero, suc, ◌+◌, ◌*◌, ◌/◌, ◌%◌, ◌==◌, ◌&&◌, nat_le, nat_lt, Bool, true, false, not, List, [], ◌∷◌, drop, filter, flat_map, if◌then◌else◌, length, map, position, replicate, slice_index, sum_by, take, Option, Some, None, option_map}
-use Rattle.std.specs.Option.{option_map_or}
-use Rattle.std.specs.List.{list_all, list_any, range_with_len, cons_option}
-use Rattle.mg_model.specs.declared.accounts.AccRow.{AccRow}
-use Rattle.mg_model.specs.Bank.{used}
-use Rattle.mg_model.specs.Bytes.{are_zeros, block_words, bytes_at}
-use Rattle.mg_model.specs.declared.layout.TheConstants.{ACCOUNT_SIZE as account_size, FIRST_ACCOUNT_BLOCK as first_account_block, FIRST_OBJECT_BLOCK as first_object_block, FIRST_THREAD_BLOCK as first_thread_block, GATE_BLOCK as gate_block, GLOBALS_BLOCK as globals_block, OBJECT_SIZE as object_size, SUPER_BLOCK as super_block, TABLE_BLOCK as table_block}
-use Rattle.mg_model.specs.Layout.{first_frame, gate_open, table_blocks, total_blocks}
-use Rattle.mg_model.specs.declared.limits.TheConstants.{ACCOUNT_LIMIT as account_limit, THREAD_LIMIT as thread_limit, OBJECT_LIMIT as object_limit}
-use Rattle.mg_model.specs.Limits.{debt_limit}
-use Rattle.mg_model.specs.Objects.{page_behind, page_of, with_object}
-use Rattle.mg_model.specs.Replay.{block_of, replay}
-use Rattle.mg_model.specs.Settings.{Settings}
-use Rattle.mg_model.specs.Spelling.{Read, account_read, globals_read, object_read, super_read, NotSuper, OldSuper, BadSuper, Spells, SuperRead, thread_read}
-use Rattle.mg_model.specs.State.{Counters, Object, ObjectRow, State, Thread, ThreadRow}
-use Rattle.mg_model.specs.Tests.{all_distinct}
-use Rattle.mg_model.specs.Words.{and_then}
+use Rattle.std.specs.{List.{list_all, list_any, range_with_len, cons_option}, Option.option_map_or, Prelude.{◌≡◌, ◌≤◌}}
+use Rattle.std.specs.Prelude.{ℕ, zero, suc, ◌+◌, ◌*◌, ◌/◌, ◌%◌, ◌==◌, ◌&&◌, nat_le, nat_lt, Bool, true, false, not}
+use Rattle.std.specs.Prelude.{List, [], ◌∷◌, drop, filter, flat_map, if◌then◌else◌, length, map, position, replicate}
+use Rattle.std.specs.Prelude.{slice_index, sum_by, take, Option, Some, None, option_map}
+use Rattle.mg_model.specs.{Bank.used, Bytes.{are_zeros, block_words, bytes_at}, Layout.{first_frame, gate_open}}
+use Rattle.mg_model.specs.{Layout.{table_blocks, total_blocks}, Limits.debt_limit, Objects.{page_behind, page_of}}
+use Rattle.mg_model.specs.{Objects.with_object, Replay.{block_of, replay}, Settings.Settings, Spelling.Read}
+use Rattle.mg_model.specs.Spelling.{account_read, globals_read, object_read, super_read, NotSuper, OldSuper, BadSuper}
+use Rattle.mg_model.specs.{Spelling.{Spells, SuperRead, thread_read}, State.{Counters, Object, ObjectRow, State}}
+use Rattle.mg_model.specs.{State.{Thread, ThreadRow}, Tests.all_distinct, Words.and_then}
+use Rattle.mg_model.specs.declared.{accounts.AccRow.AccRow, layout.TheConstants.ACCOUNT_SIZE as account_size}
+use Rattle.mg_model.specs.declared.layout.TheConstants.{FIRST_ACCOUNT_BLOCK as first_account_block}
+use Rattle.mg_model.specs.declared.layout.TheConstants.{FIRST_OBJECT_BLOCK as first_object_block}
+use Rattle.mg_model.specs.declared.layout.TheConstants.{FIRST_THREAD_BLOCK as first_thread_block}
+use Rattle.mg_model.specs.declared.layout.TheConstants.{GATE_BLOCK as gate_block, GLOBALS_BLOCK as globals_block}
+use Rattle.mg_model.specs.declared.layout.TheConstants.{OBJECT_SIZE as object_size, SUPER_BLOCK as super_block}
+use Rattle.mg_model.specs.declared.layout.TheConstants.{TABLE_BLOCK as table_block}
+use Rattle.mg_model.specs.declared.limits.TheConstants.{ACCOUNT_LIMIT as account_limit, THREAD_LIMIT as thread_limit}
+use Rattle.mg_model.specs.declared.limits.TheConstants.{OBJECT_LIMIT as object_limit}
 
 pub data VolumeRead : Type 0 where
   NotVolume : VolumeRead

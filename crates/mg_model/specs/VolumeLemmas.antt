@@ -1,23 +1,30 @@
 -- Lemmas that crates above need, on what the volume of an image rests on: the gate, and the blocks from the superblock on and below the total.
-use Rattle.std.specs.Prelude.{◌≡◌, ◌≢◌, ℕ, zero, suc, ◌+◌, ◌*◌, ◌/◌, ◌%◌, ◌<◌, ◌≤◌, ◌==◌, ◌&&◌, nat_le, Bool, true, false, List, [], ◌∷◌, ◌++◌, if◌then◌else◌, length, replicate, slice_index, slice_set, Option, Some, None, position, take, drop}
-use Rattle.std.specs.Option.{option_map_or}
-use Rattle.std.proofs.Common.{refl, sym, ap, subst, ◌∙◌, ⊎_elim, arith}
-use Rattle.std.proofs.lemmas.Bool.{and_left, and_parts, and_right, cases_Bool, cases_eq, eq-eqb, leb-true, ne_eqb, le-leb, lt-leb, cases_lt}
-use Rattle.std.proofs.lemmas.Bool.Decides.{nat_tests}
-use Rattle.std.proofs.lemmas.List.{get_or-set_other, get_or-set_same, length-set, length-take}
-use Rattle.mg_model.specs.declared.accounts.AccRow.{AccRow}
-use Rattle.mg_model.specs.Abbreviations.{account_row_bytes, accounts_spelled, fitting, object_row_bytes, pages_words, segments_fit, table_entries, thread_row_bytes, threads_spelled, whole_table, with_live, writes_from, writes_since}
-use Rattle.mg_model.specs.Bytes.{are_zeros, block_words, bytes_at, number_at}
-use Rattle.mg_model.specs.declared.layout.TheConstants.{BODY_LIMIT as body_limit, FIRST_ACCOUNT_BLOCK as first_account_block, FIRST_OBJECT_BLOCK as first_object_block, FIRST_THREAD_BLOCK as first_thread_block, GLOBALS_BLOCK as globals_block, SEGMENT_COUNT as segment_count, SUPER_BLOCK as super_block, TABLE_BLOCK as table_block}
-use Rattle.mg_model.specs.Layout.{first_frame, gate_open, segment_body, segment_gate, segment_index, table_blocks, total_blocks}
-use Rattle.mg_model.specs.declared.limits.TheConstants.{ACCOUNT_LIMIT as account_limit, THREAD_LIMIT as thread_limit, OBJECT_LIMIT as object_limit}
-use Rattle.mg_model.specs.Objects.{page_of, with_object}
-use Rattle.mg_model.specs.Replay.{block_of, body_count, home_of, homes_fit, is_open, replay, segment_fits, writes_of, written}
-use Rattle.mg_model.specs.Settings.{Settings}
-use Rattle.mg_model.specs.Spelling.{Read, account_read, globals_read, object_read, super_read, NotSuper, OldSuper, BadSuper, Spells, SuperRead, thread_read}
-use Rattle.mg_model.specs.State.{Counters, Object, ObjectRow, State, ThreadRow}
-use Rattle.mg_model.specs.Volume.{gate_byte, IsOpened, Damaged, NotVolume, Rows, VolumeRead, live_rows, object_spelled, objects_spelled, page_words, replayed_volume, rows_of, settled_volume, state_spelled, volume, volume_behind}
-use Rattle.mg_model.specs.Words.{and_then}
+use Rattle.std.proofs.{Common.{refl, sym, ap, subst, ◌∙◌, ⊎_elim, arith}, lemmas.Bool.{and_left, and_parts, and_right}}
+use Rattle.std.proofs.lemmas.Bool.{cases_Bool, cases_eq, eq-eqb, leb-true, ne_eqb, le-leb, lt-leb, cases_lt}
+use Rattle.std.proofs.lemmas.{Bool.Decides.nat_tests, List.{get_or-set_other, get_or-set_same, length-set, length-take}}
+use Rattle.std.specs.{Option.option_map_or, Prelude.{◌≡◌, ◌≢◌, ℕ, zero, suc, ◌+◌, ◌*◌, ◌/◌, ◌%◌, ◌<◌, ◌≤◌, ◌==◌, ◌&&◌}}
+use Rattle.std.specs.Prelude.{nat_le, Bool, true, false, List, [], ◌∷◌, ◌++◌, if◌then◌else◌, length, replicate}
+use Rattle.std.specs.Prelude.{slice_index, slice_set, Option, Some, None, position, take, drop}
+use Rattle.mg_model.specs.Abbreviations.{account_row_bytes, accounts_spelled, fitting, object_row_bytes, pages_words}
+use Rattle.mg_model.specs.Abbreviations.{segments_fit, table_entries, thread_row_bytes, threads_spelled, whole_table}
+use Rattle.mg_model.specs.{Abbreviations.{with_live, writes_from, writes_since}, Bytes.{are_zeros, block_words}}
+use Rattle.mg_model.specs.{Bytes.{bytes_at, number_at}, Layout.{first_frame, gate_open, segment_body, segment_gate}}
+use Rattle.mg_model.specs.{Layout.{segment_index, table_blocks, total_blocks}, Objects.{page_of, with_object}}
+use Rattle.mg_model.specs.Replay.{block_of, body_count, home_of, homes_fit, is_open, replay, segment_fits, writes_of}
+use Rattle.mg_model.specs.{Replay.written, Settings.Settings, Spelling.{Read, account_read, globals_read, object_read}}
+use Rattle.mg_model.specs.Spelling.{super_read, NotSuper, OldSuper, BadSuper, Spells, SuperRead, thread_read}
+use Rattle.mg_model.specs.{State.{Counters, Object, ObjectRow, State, ThreadRow}, Volume.{gate_byte, IsOpened, Damaged}}
+use Rattle.mg_model.specs.Volume.{NotVolume, Rows, VolumeRead, live_rows, object_spelled, objects_spelled, page_words}
+use Rattle.mg_model.specs.Volume.{replayed_volume, rows_of, settled_volume, state_spelled, volume, volume_behind}
+use Rattle.mg_model.specs.{Words.and_then, declared.accounts.AccRow.AccRow}
+use Rattle.mg_model.specs.declared.layout.TheConstants.{BODY_LIMIT as body_limit}
+use Rattle.mg_model.specs.declared.layout.TheConstants.{FIRST_ACCOUNT_BLOCK as first_account_block}
+use Rattle.mg_model.specs.declared.layout.TheConstants.{FIRST_OBJECT_BLOCK as first_object_block}
+use Rattle.mg_model.specs.declared.layout.TheConstants.{FIRST_THREAD_BLOCK as first_thread_block}
+use Rattle.mg_model.specs.declared.layout.TheConstants.{GLOBALS_BLOCK as globals_block, SEGMENT_COUNT as segment_count}
+use Rattle.mg_model.specs.declared.layout.TheConstants.{SUPER_BLOCK as super_block, TABLE_BLOCK as table_block}
+use Rattle.mg_model.specs.declared.limits.TheConstants.{ACCOUNT_LIMIT as account_limit, THREAD_LIMIT as thread_limit}
+use Rattle.mg_model.specs.declared.limits.TheConstants.{OBJECT_LIMIT as object_limit}
 
 pub volume-closed : (image : List (List ℕ)) → gate_byte image ≢ gate_open → volume image ≡ NotVolume
 unfolding volume

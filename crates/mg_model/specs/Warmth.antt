@@ -3,26 +3,16 @@
 -- An access is warm if an earlier line made an allowed access with its key and nothing came between: no line that disturbs,
 -- and no allowed access with another key that has the same seat. The earlier lines of a session are given here as a list of
 -- events, the last one first.
-use Rattle.std.specs.Prelude.{ℕ, ◌≡◌, ◌↔◌, ◌+◌, ◌*◌, ◌&&◌, nat_le, nat_lt, Bool, true, false, not, List, [], ◌∷◌, ◌++◌, All, if◌then◌else◌, Option, Some}
-use Rattle.std.specs.Option.{option_map_or}
-use Rattle.std.specs.List.{list_any}
-use Rattle.mg_model.specs.declared.calls.Call.{Call}
-use Rattle.mg_model.specs.declared.calls.Call.TheVariants as call
-use Rattle.mg_model.specs.declared.calls.Line.{Line}
-use Rattle.mg_model.specs.declared.instructions.Instr.{Instr}
-use Rattle.mg_model.specs.declared.instructions.Instr.TheVariants as op
-use Rattle.mg_model.specs.declared.replies.Reply.{Reply}
-use Rattle.mg_model.specs.declared.replies.Reply.TheVariants.{No}
-use Rattle.mg_model.specs.declared.rights.Right.TheVariants.{W}
-use Rattle.mg_model.specs.Access.{allowed}
-use Rattle.mg_model.specs.Accesses.{Access, accesses, fetched, turning, line_words}
-use Rattle.mg_model.specs.Keys.{Key, first_at, has_seat, is_key, key_of, seat_of, taken_by}
+use Rattle.std.specs.{List.list_any, Option.option_map_or, Prelude.{ℕ, ◌≡◌, ◌↔◌, ◌+◌, ◌*◌, ◌&&◌, nat_le, nat_lt, Bool}}
+use Rattle.std.specs.Prelude.{true, false, not, List, [], ◌∷◌, ◌++◌, All, if◌then◌else◌, Option, Some}
+use Rattle.mg_model.specs.{Access.allowed, Accesses.{Access, accesses, fetched, turning, line_words}, Keys.Key}
+use Rattle.mg_model.specs.{Keys.{first_at, has_seat, is_key, key_of, seat_of, taken_by}, ObjectCalls.is_aligned}
+use Rattle.mg_model.specs.{Script.operand, State.{Object, State, Thread, ThreadRow}, Step.step, Turn.picked}
+use Rattle.mg_model.specs.declared.{calls.{Call.Call, Line.Line}, instructions.Instr.Instr}
 use Rattle.mg_model.specs.declared.limits.TheConstants.{PAGE_SIZE as page_size, SEARCH_LIMIT as search_limit}
-use Rattle.mg_model.specs.ObjectCalls.{is_aligned}
-use Rattle.mg_model.specs.Script.{operand}
-use Rattle.mg_model.specs.State.{Object, State, Thread, ThreadRow}
-use Rattle.mg_model.specs.Step.{step}
-use Rattle.mg_model.specs.Turn.{picked}
+use Rattle.mg_model.specs.declared.{replies.Reply.{Reply, TheVariants.No}, rights.Right.TheVariants.W}
+use Rattle.mg_model.specs.declared.calls.Call.TheVariants as call
+use Rattle.mg_model.specs.declared.instructions.Instr.TheVariants as op
 
 -- a line that is refused disturbs nothing
 abbrev pub is_ok : Reply → Bool

@@ -1,20 +1,13 @@
 -- What every state of the machine keeps.
-use Rattle.std.specs.Prelude.{◌≡◌, ◌≢◌, ℕ, ◌*◌, ◌<◌, ◌≤◌, IsTrue, List, length, All, AllPairs, Some, sum_by}
-use Rattle.mg_model.specs.declared.accounts.AccRow.{AccRow}
-use Rattle.mg_model.specs.declared.calls.Call.{Call}
+use Rattle.std.specs.{Option.ForSome, Prelude.{◌≡◌, ◌≢◌, ℕ, ◌*◌, ◌<◌, ◌≤◌, IsTrue, List, length, All, AllPairs, Some}}
+use Rattle.std.specs.Prelude.{sum_by}
+use Rattle.mg_model.specs.{Bank.used, Domains.row_of, Limits.debt_limit, Objects.{page_of, page_behind}}
+use Rattle.mg_model.specs.{Ranges.{IsCounters, IsObjectRow, IsThreadRow, IsWord}, Rights.IsRights, Settings.Settings}
+use Rattle.mg_model.specs.{Settings.within_limits, State.{State, Object, Thread, ThreadRow}, Tariff.is_tariff}
+use Rattle.mg_model.specs.declared.{accounts.AccRow.AccRow, calls.{Call.Call, Line.Line}}
+use Rattle.mg_model.specs.declared.limits.TheConstants.{ACCOUNT_LIMIT as account_limit, OBJECT_LIMIT as object_limit}
+use Rattle.mg_model.specs.declared.limits.TheConstants.{THREAD_LIMIT as thread_limit}
 use Rattle.mg_model.specs.declared.calls.Call.TheVariants as call
-use Rattle.mg_model.specs.declared.calls.Line.{Line}
-use Rattle.mg_model.specs.Bank.{used}
-use Rattle.mg_model.specs.Domains.{row_of}
-use Rattle.mg_model.specs.declared.limits.TheConstants.{ACCOUNT_LIMIT as account_limit, OBJECT_LIMIT as object_limit, THREAD_LIMIT as thread_limit}
-use Rattle.mg_model.specs.Limits.{debt_limit}
-use Rattle.mg_model.specs.Objects.{page_of, page_behind}
-use Rattle.mg_model.specs.Ranges.{IsCounters, IsObjectRow, IsThreadRow, IsWord}
-use Rattle.mg_model.specs.Rights.{IsRights}
-use Rattle.mg_model.specs.Settings.{Settings, within_limits}
-use Rattle.mg_model.specs.State.{State, Object, Thread, ThreadRow}
-use Rattle.mg_model.specs.Tariff.{is_tariff}
-use Rattle.std.specs.Option.{ForSome}
 
 pub record IsSettings (settings : Settings) : Type 0 where
   pub limits : IsTrue (within_limits settings.frames settings.credits)

@@ -1,11 +1,8 @@
 -- From bytes to words, and from a word to what it spells.
-use Rattle.mg_model.specs.declared.rights.Right.{Right}
-use Rattle.mg_model.specs.Rights.{letters, right_number}
-use Rattle.std.specs.Prelude.{ℕ, ◌+◌, ◌-◌, ◌*◌, ◌^◌, ◌==◌, ◌&&◌, ◌||◌, nat_le, nat_lt, Bool, true, false, List, [], ◌∷◌, length, if◌then◌else◌, filter, sum_by, Option, Some, None}
-use Rattle.std.specs.Option.{option_map_or, option_and_then}
-use Rattle.std.specs.List.{filter_map, slice_split}
-use Rattle.std.specs.Cmp.Lexicographic.{pointwise}
-use Rattle.mg_model.specs.Tests.{all_distinct}
+use Rattle.std.specs.{Cmp.Lexicographic.pointwise, List.{filter_map, slice_split}, Option.option_map_or}
+use Rattle.std.specs.{Option.option_and_then, Prelude.{ℕ, ◌+◌, ◌-◌, ◌*◌, ◌^◌, ◌==◌, ◌&&◌, ◌||◌, nat_le, nat_lt, Bool}}
+use Rattle.std.specs.Prelude.{true, false, List, [], ◌∷◌, length, if◌then◌else◌, filter, sum_by, Option, Some, None}
+use Rattle.mg_model.specs.{Rights.{letters, right_number}, Tests.all_distinct, declared.rights.Right.Right}
 
 abbrev pub is_newline : ℕ → Bool
 is_newline b = b == 10

@@ -1,20 +1,11 @@
 -- Which object an address lies in.
-use Rattle.std.specs.Prelude.{◌≡◌, ◌≢◌, ◌+◌, ◌*◌, ◌-◌, ◌<◌, ◌≤◌, ℕ, zero, suc, true, false, All, List, [], ◌∷◌, Option, find, None, Some, length, map, slice_index_or}
-use Rattle.std.specs.List.{AllAdjacentBelow, AllWithin, Contains}
-use Rattle.std.proofs.Common.{refl, sym, ap, ◌∙◌, subst, ⊎_elim, arith, get_or}
-use Rattle.std.proofs.lemmas.Bool.{both_ways, cases_eq, cases_lt, false_from_ne_true}
-use Rattle.std.proofs.lemmas.Bool.Decides.{nat_tests}
-use Rattle.std.proofs.lemmas.List.{get_or-map, get_or_default}
-use Rattle.std.proofs.lemmas.List.Elements.{All-cons, All-contains, Contains-get_or}
-use Rattle.std.proofs.lemmas.List.Kept.{AllPairs-cons}
-use Rattle.mg_model.specs.Access.{covers}
-use Rattle.mg_model.specs.KeptListLemmas.{AllPairs-head, AllPairs-nil}
-use Rattle.mg_model.specs.Ranges.{IsObjectRow}
-use Rattle.mg_model.specs.State.{ObjectRow}
-use Rattle.mg_objects.specs.Held.{AreApart, IsBefore, key_of, objects_in}
-use Rattle.mg_index.specs.ListLemmas.{pair-cases}
-use Rattle.mg_objects.proofs.Lists.{find-none, find-only}
-use Rattle.mg_objects.proofs.Rows.{at, before-lower, objects-had, within-table}
+use Rattle.{mg_index.specs.ListLemmas.pair-cases, mg_model.specs.{Access.covers, KeptListLemmas.{AllPairs-head, AllPairs-nil}, Ranges.IsObjectRow}}
+use Rattle.{mg_model.specs.State.ObjectRow, mg_objects.proofs.{Lists.{find-none, find-only}, Rows.{at, before-lower, objects-had, within-table}}}
+use Rattle.{mg_objects.specs.Held.{AreApart, IsBefore, key_of, objects_in}, std.proofs.Common.{refl, sym, ap, ◌∙◌, subst, ⊎_elim, arith, get_or}}
+use Rattle.std.proofs.lemmas.{Bool.{both_ways, cases_eq, cases_lt, false_from_ne_true, Decides.nat_tests}, List.{get_or-map, get_or_default}}
+use Rattle.std.{proofs.lemmas.List.{Elements.{All-cons, All-contains, Contains-get_or}, Kept.AllPairs-cons}, specs.List.{AllAdjacentBelow, AllWithin}}
+use Rattle.std.specs.{List.Contains, Prelude.{◌≡◌, ◌≢◌, ◌+◌, ◌*◌, ◌-◌, ◌<◌, ◌≤◌, ℕ, zero, suc, true, false, All, List, [], ◌∷◌, Option, find, None}}
+use Rattle.std.specs.Prelude.{Some, length, map, slice_index_or}
 
 -- objects are apart, if each ends before the next begins
 pub apart-next : (objects : List (ℕ × ObjectRow)) → AllAdjacentBelow IsBefore objects (length objects) → AreApart objects

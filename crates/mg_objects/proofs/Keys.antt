@@ -1,27 +1,17 @@
 -- The bases in the places of a table, and the index of them.
-use Rattle.std.specs.Prelude.{◌≡◌, ◌≢◌, ◌+◌, ◌/◌, ◌<◌, ◌≤◌, ◌==◌, ◌⊎◌, ℕ, zero, suc, true, false, not, All, List, [], ◌∷◌, ◌++◌, Option, None, Some, filter, find, length, map, position, replicate, slice_index, slice_index_or, slice_set, take}
-use Rattle.std.specs.List.{Contains, list_any}
-use Rattle.std.specs.Option.{ForSome, option_map}
-use Rattle.std.proofs.Common.{refl, sym, ap, ◌∙◌, subst, inl, inr, ⊎_elim, arith, get_or-set_other, get_or-set_same, length-set}
-use Rattle.std.proofs.lemmas.Bool.{both_ways, cases_eq, cases_lt, eq-eqb, eqb-false, eqb-true, ne_eqb, true_from_ne_false}
-use Rattle.std.proofs.lemmas.Bool.Decides.{nat_tests}
-use Rattle.std.proofs.lemmas.List.{get_or_past, length-map, length-replicate, length-take-le, take_more}
-use Rattle.std.proofs.lemmas.List.Elements.{All-contains, All-from_get_or}
-use Rattle.std.proofs.lemmas.List.Folds.{list_any_at, list_any_none}
-use Rattle.std.proofs.lemmas.List.Quantifiers.{position-Some}
-use Rattle.mg_index.specs.Pairs.{Ascends, IsBound, IsExact}
-use Rattle.mg_index.specs.PlaceLemmas.{nowhere_any}
-use Rattle.mg_index.specs.Words.{numbers_in, unless_within}
-use Rattle.mg_model.specs.KeptListLemmas.{AllPairs-change}
-use Rattle.mg_model.specs.Objects.{page_behind, page_of}
-use Rattle.mg_model.specs.Ranges.{IsObjectRow}
-use Rattle.mg_model.specs.State.{ObjectRow}
-use Rattle.mg_model.specs.Tests.{all_distinct}
-use Rattle.mg_objects.specs.Held.{AreApart, AreBases, AreHeld, AreSound, IsLowestFree, IsPut, MeetsNone, base_of, into_place, key_of, objects_in, with_row}
-use Rattle.mg_index.specs.DistinctLemmas.{own-distinct}
-use Rattle.mg_index.specs.ListLemmas.{map-at, rises-once}
-use Rattle.mg_objects.proofs.Lists.{all-from, find-had, find-none, find-only, map-had, map-has, same-rising}
-use Rattle.mg_objects.proofs.Rows.{AreThose, HaveOwnBases, apart-sound, at, base_in, cut-sound, insert-those, objects-few, objects-full, objects-those, push-put, put-sound, remove-those, same-those, set-put, sound-own, those-apart, update-those, within-table}
+use Rattle.mg_index.specs.{DistinctLemmas.own-distinct, ListLemmas.{map-at, rises-once}, Pairs.{Ascends, IsBound, IsExact}, PlaceLemmas.nowhere_any}
+use Rattle.{mg_index.specs.Words.{numbers_in, unless_within}, mg_model.specs.{KeptListLemmas.AllPairs-change, Objects.{page_behind, page_of}}}
+use Rattle.{mg_model.specs.{Ranges.IsObjectRow, State.ObjectRow, Tests.all_distinct}, mg_objects.proofs.Lists.{all-from, find-had, find-none}}
+use Rattle.mg_objects.proofs.{Lists.{find-only, map-had, map-has, same-rising}, Rows.{AreThose, HaveOwnBases, apart-sound, at, base_in, cut-sound}}
+use Rattle.mg_objects.proofs.Rows.{insert-those, objects-few, objects-full, objects-those, push-put, put-sound, remove-those, same-those, set-put}
+use Rattle.mg_objects.{proofs.Rows.{sound-own, those-apart, update-those, within-table}, specs.Held.{AreApart, AreBases, AreHeld, AreSound}}
+use Rattle.{mg_objects.specs.Held.{IsLowestFree, IsPut, MeetsNone, base_of, into_place, key_of, objects_in, with_row}, std.proofs.Common.{refl, sym}}
+use Rattle.std.proofs.{Common.{ap, ◌∙◌, subst, inl, inr, ⊎_elim, arith, get_or-set_other, get_or-set_same, length-set}, lemmas.Bool.both_ways}
+use Rattle.std.proofs.lemmas.{Bool.{cases_eq, cases_lt, eq-eqb, eqb-false, eqb-true, ne_eqb, true_from_ne_false, Decides.nat_tests}, List.get_or_past}
+use Rattle.std.proofs.lemmas.List.{length-map, length-replicate, length-take-le, take_more, Elements.{All-contains, All-from_get_or}}
+use Rattle.std.{proofs.lemmas.List.{Folds.{list_any_at, list_any_none}, Quantifiers.position-Some}, specs.{List.{Contains, list_any}, Option.ForSome}}
+use Rattle.std.specs.{Option.option_map, Prelude.{◌≡◌, ◌≢◌, ◌+◌, ◌/◌, ◌<◌, ◌≤◌, ◌==◌, ◌⊎◌, ℕ, zero, suc, true, false, not, All, List, [], ◌∷◌, ◌++◌}}
+use Rattle.std.specs.Prelude.{Option, None, Some, filter, find, length, map, position, replicate, slice_index, slice_index_or, slice_set, take}
 
 base-some : (row : ObjectRow) → IsObjectRow row → row.base ≢ 0
 base-some row is zero_is = let l = is.place.low in let a = is.place.aligned in absurd (omega arith)

@@ -1,12 +1,9 @@
 -- What a list contains, what a search in it gives, and lists that rise.
-use Rattle.std.specs.Prelude.{◌≡◌, ◌<◌, ℕ, All, Bool, true, false, List, [], ◌∷◌, Option, None, Some, filter, find, if◌then◌else◌, map}
-use Rattle.std.specs.List.{Contains, list_any}
-use Rattle.std.proofs.Common.{refl, sym, ap, ◌∙◌, subst, ⊎_elim, arith, get_or}
-use Rattle.std.proofs.lemmas.Bool.{both_ways, cases_Bool, cond_both}
-use Rattle.std.proofs.lemmas.List.{get_or-map, length-map}
-use Rattle.std.proofs.lemmas.List.Elements.{All-contains, All-contains_itself, All-filter, Contains-get_or, filter_passes}
 use Rattle.mg_index.specs.ListLemmas.{Rises, contains-behind, contains-cases, contains-here, contains-none}
-use Rattle.mg_model.specs.KeptListLemmas.{AllPairs-head, AllPairs-tail}
+use Rattle.{mg_model.specs.KeptListLemmas.{AllPairs-head, AllPairs-tail}, std.proofs.Common.{refl, sym, ap, ◌∙◌, subst, ⊎_elim, arith, get_or}}
+use Rattle.std.proofs.lemmas.{Bool.{both_ways, cases_Bool, cond_both}, List.{get_or-map, length-map, Elements.{All-contains, All-contains_itself}}}
+use Rattle.std.{proofs.lemmas.List.Elements.{All-filter, Contains-get_or, filter_passes}, specs.{List.{Contains, list_any}, Prelude.{◌≡◌, ◌<◌, ℕ}}}
+use Rattle.std.specs.Prelude.{All, Bool, true, false, List, [], ◌∷◌, Option, None, Some, filter, find, if◌then◌else◌, map}
 
 pub all-from : {X : Type 0} (P : X → Type 0) (xs : List X) → ((x : X) → Contains xs x → P x) → All P xs
 all-from P xs each k d under = each (get_or xs k d) (Contains-get_or xs k d under)

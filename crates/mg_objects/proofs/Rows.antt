@@ -1,20 +1,15 @@
 -- Which objects a table of rows has, and which it has once a row is written.
-use Rattle.std.specs.Prelude.{◌≡◌, ◌≢◌, ◌+◌, ◌*◌, ◌/◌, ◌<◌, ◌≤◌, ◌==◌, ◌⊎◌, ℕ, zero, suc, nat_lt, not, All, List, [], ◌∷◌, ◌++◌, Option, None, Some, filter, if◌then◌else◌, length, slice_index_or, slice_set}
-use Rattle.std.specs.List.{AllPairs, Contains}
-use Rattle.std.specs.List.Sorted.{IsPermutation}
-use Rattle.std.proofs.Common.{refl, sym, ap, ◌∙◌, subst, ⊎_elim, arith, get_or, get_or-set_other, get_or-set_same}
-use Rattle.std.proofs.lemmas.Bool.{cases_eq, cases_lt, cond_both, eqb-false, eqb-true, ltb-false, ltb-true, ne_eqb, not-true}
-use Rattle.std.proofs.lemmas.List.{get_or_past}
-use Rattle.std.proofs.lemmas.List.Elements.{All-cons, All-head, All-tail, Contains-get_or}
-use Rattle.std.proofs.lemmas.List.Kept.{AllPairs-cons, AllPairs-filter}
-use Rattle.std.proofs.lemmas.List.Sorted.{All-permutation, Contains-permutation, IsPermutation-cons, IsPermutation-middle, IsPermutation-refl, IsPermutation-sym, IsPermutation-trans, length_permutation}
-use Rattle.mg_model.specs.KeptListLemmas.{AllPairs-change, AllPairs-head, AllPairs-nil, AllPairs-tail}
-use Rattle.mg_model.specs.Objects.{page_behind, page_of}
-use Rattle.mg_model.specs.Ranges.{IsObjectRow}
-use Rattle.mg_model.specs.State.{ObjectRow}
-use Rattle.mg_objects.specs.Held.{AreApart, AreSound, IsBefore, IsPut, by_base, into_place, live_from, objects_in, with_row}
 use Rattle.mg_index.specs.ListLemmas.{Rises, contains-behind, contains-cases, contains-none, pair-cases}
-use Rattle.mg_objects.proofs.Lists.{all-from, filter-had, filter-has, map-had, map-has, same-rising}
+use Rattle.mg_model.specs.{KeptListLemmas.{AllPairs-change, AllPairs-head, AllPairs-nil, AllPairs-tail}, Objects.{page_behind, page_of}}
+use Rattle.{mg_model.specs.{Ranges.IsObjectRow, State.ObjectRow}, mg_objects.proofs.Lists.{all-from, filter-had, filter-has, map-had, map-has}}
+use Rattle.mg_objects.{proofs.Lists.same-rising, specs.Held.{AreApart, AreSound, IsBefore, IsPut, by_base, into_place, live_from, objects_in}}
+use Rattle.{mg_objects.specs.Held.with_row, std.proofs.Common.{refl, sym, ap, ◌∙◌, subst, ⊎_elim, arith, get_or, get_or-set_other, get_or-set_same}}
+use Rattle.std.proofs.lemmas.{Bool.{cases_eq, cases_lt, cond_both, eqb-false, eqb-true, ltb-false, ltb-true, ne_eqb, not-true}, List.get_or_past}
+use Rattle.std.proofs.lemmas.List.{Elements.{All-cons, All-head, All-tail, Contains-get_or}, Kept.{AllPairs-cons, AllPairs-filter}}
+use Rattle.std.proofs.lemmas.List.Sorted.{All-permutation, Contains-permutation, IsPermutation-cons, IsPermutation-middle, IsPermutation-refl}
+use Rattle.std.{proofs.lemmas.List.Sorted.{IsPermutation-sym, IsPermutation-trans, length_permutation}, specs.List.{AllPairs, Contains}}
+use Rattle.std.specs.{List.Sorted.IsPermutation, Prelude.{◌≡◌, ◌≢◌, ◌+◌, ◌*◌, ◌/◌, ◌<◌, ◌≤◌, ◌==◌, ◌⊎◌, ℕ, zero, suc, nat_lt, not, All, List, []}}
+use Rattle.std.specs.Prelude.{◌∷◌, ◌++◌, Option, None, Some, filter, if◌then◌else◌, length, slice_index_or, slice_set}
 
 -- a row of a table, by its place
 abbrev pub at : List (Option ObjectRow) → ℕ → Option ObjectRow

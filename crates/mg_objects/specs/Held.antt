@@ -1,9 +1,8 @@
 -- The objects of a volume as a list: each row with its place in the table, in the order of the bases.
-use Rattle.std.specs.Prelude.{◌≡◌, ◌≢◌, ◌+◌, ◌≤◌, ◌<◌, ◌==◌, ◌⊎◌, ℕ, nat_lt, false, true, All, List, [], ◌∷◌, Option, None, Some, if◌then◌else◌, length, map, slice_index, slice_index_or}
-use Rattle.std.specs.List.{AllPairs, list_any}
-use Rattle.mg_model.specs.Objects.{page_behind, page_of}
-use Rattle.mg_model.specs.Ranges.{IsObjectRow}
-use Rattle.mg_model.specs.State.{ObjectRow}
+use Rattle.std.specs.{List.{AllPairs, list_any}, Prelude.{◌≡◌, ◌≢◌, ◌+◌, ◌≤◌, ◌<◌, ◌==◌, ◌⊎◌, ℕ, nat_lt, false, true}}
+use Rattle.std.specs.Prelude.{All, List, [], ◌∷◌, Option, None, Some, if◌then◌else◌, length, map, slice_index}
+use Rattle.std.specs.Prelude.{slice_index_or}
+use Rattle.mg_model.specs.{Objects.{page_behind, page_of}, Ranges.IsObjectRow, State.ObjectRow}
 
 -- the rows that are there, each with its place, counted from i
 abbrev pub live_from : {R : Type 0} → ℕ → List (Option R) → List (ℕ × R)

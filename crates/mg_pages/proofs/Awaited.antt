@@ -1,17 +1,8 @@
 -- The blocks that an image will have, if a journal fits it.
-use Rattle.std.specs.Prelude.{◌≡◌, ◌<◌, ℕ, true, List, [], length, Some, None}
-use Rattle.std.proofs.Common.{sym, ap, ◌∙◌, arith}
-use Rattle.mg_disk.specs.Disk.{Image, block_at}
-use Rattle.mg_journal.specs.JournalLemmas.{open_writes, replayed-is}
-use Rattle.mg_journal.specs.Staged.{are_once, waiting}
-use Rattle.mg_journal.specs.Standing.{IsFitting, fitting_replays, total_of}
-use Rattle.mg_journal.specs.WrittenLemmas.{written_elsewhere}
-use Rattle.mg_journal.specs.Held.{Store}
-use Rattle.mg_model.specs.Replay.{replay}
-use Rattle.mg_pages.proofs.Staging.{written-none, written-waiting}
-use Rattle.mg_pages.specs.Meaning.{replayed}
-use Rattle.mg_pages.specs.Parts.{coming_of}
-use Rattle.mg_pages.specs.SpelledLemmas.{replayed_is}
+use Rattle.{mg_disk.specs.Disk.{Image, block_at}, mg_journal.specs.{Held.Store, JournalLemmas.{open_writes, replayed-is}, Staged.{are_once, waiting}}}
+use Rattle.{mg_journal.specs.{Standing.{IsFitting, fitting_replays, total_of}, WrittenLemmas.written_elsewhere}, mg_model.specs.Replay.replay}
+use Rattle.mg_pages.{proofs.Staging.{written-none, written-waiting}, specs.{Meaning.replayed, Parts.coming_of, SpelledLemmas.replayed_is}}
+use Rattle.std.{proofs.Common.{sym, ap, ◌∙◌, arith}, specs.Prelude.{◌≡◌, ◌<◌, ℕ, true, List, [], length, Some, None}}
 
 pub fits-replayed : (store : Store) (image : Image) → IsFitting store image → replay image (total_of store) ≡ Some (replayed (total_of store) image)
 fits-replayed store image fits =

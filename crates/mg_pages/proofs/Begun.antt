@@ -1,30 +1,13 @@
 -- A page is bound to a free frame, and a word is written into it.
-use Rattle.std.specs.Prelude.{◌≡◌, ◌≢◌, ◌+◌, ◌/◌, ◌≤◌, ◌<◌, ◌==◌, ℕ, false, List, length, replicate, slice_set, Some}
-use Rattle.std.specs.List.{list_any, position}
-use Rattle.std.proofs.Common.{refl, sym, ap, ◌∙◌, inr, arith, get_or}
-use Rattle.std.proofs.lemmas.Bool.{eqb-true, ne_eqb}
-use Rattle.std.proofs.lemmas.List.{get_or-set_other, get_or-set_same, length-set}
-use Rattle.mg_disk.specs.Disk.{Image, block_at}
-use Rattle.mg_frames.specs.Distinct.{distinct-put}
-use Rattle.mg_frames.specs.Places.{nowhere}
-use Rattle.mg_journal.specs.Staged.{staged}
-use Rattle.mg_model.specs.Bytes.{block_words}
-use Rattle.mg_model.specs.Layout.{body_limit, first_frame, table_block, table_blocks}
-use Rattle.mg_model.specs.Volume.{page_words}
-use Rattle.mg_pages.proofs.Changed.{long-coming}
-use Rattle.mg_pages.proofs.PageWords.{other-words, page-none, this-word}
-use Rattle.mg_pages.proofs.Places.{any-set, place-of, position-bound, position-set}
-use Rattle.mg_pages.proofs.Staging.{length-kept, length-staged, once-staged, written-staged}
-use Rattle.mg_pages.specs.Entries.{HoldsEntries}
-use Rattle.mg_pages.specs.Kept.{AreKept}
-use Rattle.mg_pages.specs.Parts.{coming_of}
-use Rattle.mg_pages.proofs.Counted.{coming-as, page-as}
-use Rattle.mg_pages.proofs.OneBlock.{still-named}
-use Rattle.mg_pages.proofs.Sound.{sound-frames, sound-staged}
-use Rattle.mg_pages.proofs.Tables.{holds-bound, spelled-new}
-use Rattle.mg_pages.specs.declared.pages.Pages.{Pages}
-use Rattle.mg_pages.specs.Held.{IsSound}
-use Rattle.mg_pages.specs.Meaning.{BindsOnly, IsSpelledBy, SetsWord, StagesMore, coming, is_staged, page_now, replayed, staged_of, table_in}
+use Rattle.{mg_disk.specs.Disk.{Image, block_at}, mg_frames.specs.{Distinct.distinct-put, Places.nowhere}, mg_journal.specs.Staged.staged}
+use Rattle.mg_model.specs.{Bytes.block_words, Layout.{body_limit, first_frame, table_block, table_blocks}, Volume.page_words}
+use Rattle.mg_pages.proofs.{Changed.long-coming, Counted.{coming-as, page-as}, OneBlock.still-named, PageWords.{other-words, page-none, this-word}}
+use Rattle.mg_pages.proofs.{Places.{any-set, place-of, position-bound, position-set}, Sound.{sound-frames, sound-staged}, Staging.length-kept}
+use Rattle.mg_pages.{proofs.{Staging.{length-staged, once-staged, written-staged}, Tables.{holds-bound, spelled-new}}, specs.Entries.HoldsEntries}
+use Rattle.mg_pages.specs.{Held.IsSound, Kept.AreKept, Meaning.{BindsOnly, IsSpelledBy, SetsWord, StagesMore, coming, is_staged, page_now, replayed}}
+use Rattle.{mg_pages.specs.{Meaning.{staged_of, table_in}, Parts.coming_of, declared.pages.Pages.Pages}, std.proofs.Common.{refl, sym, ap, ◌∙◌, inr}}
+use Rattle.std.proofs.{Common.{arith, get_or}, lemmas.{Bool.{eqb-true, ne_eqb}, List.{get_or-set_other, get_or-set_same, length-set}}}
+use Rattle.std.specs.{List.{list_any, position}, Prelude.{◌≡◌, ◌≢◌, ◌+◌, ◌/◌, ◌≤◌, ◌<◌, ◌==◌, ℕ, false, List, length, replicate, slice_set, Some}}
 
 pub sound-begun : (total : ℕ) (frames : List ℕ) (writes : List (ℕ × List ℕ)) (page f : ℕ) (bytes entries : List ℕ) → position (λ entry. entry == 0) frames ≡ Some f → page ≢ 0 → list_any (λ entry. entry == page) frames ≡ false
     → length writes + 2 ≤ body_limit → IsSound total frames writes → IsSound total (slice_set frames f page) (staged (staged writes (first_frame (length frames) + f) bytes) (table_block + f / 512) entries)

@@ -1,24 +1,10 @@
 -- What reads and writes of blocks leave of the journal and of what is kept.
-use Rattle.std.specs.Prelude.{◌≡◌, ℕ, true, false, is_some, List, [], ◌∷◌, Ok, Option, Some, None, IfSome, MatchOption, ◌==◌}
-use Rattle.std.specs.Option.{ForSome}
-use Rattle.std.proofs.Common.{refl, sym, ap, subst, ◌∙◌, ⊎_elim}
-use Rattle.std.proofs.lemmas.Bool.{cases_Bool, eq-eqb, false≢true}
-use Rattle.mg_disk.specs.Disk.{Image, block_at}
-use Rattle.mg_disk.specs.Runs.{nothing_none}
-use Rattle.mg_disk.specs.Stops.{OnlyReads}
-use Rattle.mg_disk.specs.declared.disk.Disk.{Ghosts}
-use Rattle.mg_faults.specs.Faults.{count_none}
-use Rattle.mg_journal.specs.Staged.{staged}
-use Rattle.mg_journal.specs.Standing.{IsFitting, Stands, total_of}
-use Rattle.mg_journal.specs.Held.{Store}
-use Rattle.mg_model.specs.Replay.{replay}
-use Rattle.mg_pages.proofs.Awaited.{fits-replayed}
-use Rattle.mg_pages.proofs.Staging.{staged-here, staged-there}
-use Rattle.mg_pages.specs.declared.blocks.Blocks.{Blocks}
-use Rattle.mg_pages.specs.Held.{with_writes}
-use Rattle.mg_pages.specs.Kept.{AreKept}
-use Rattle.mg_pages.specs.Meaning.{replayed}
-use Rattle.mg_pages.specs.Parts.{KeepsMore, LooksAt}
+use Rattle.{mg_disk.specs.{Disk.{Image, block_at}, Runs.nothing_none, Stops.OnlyReads, declared.disk.Disk.Ghosts}, mg_faults.specs.Faults.count_none}
+use Rattle.{mg_journal.specs.{Held.Store, Staged.staged, Standing.{IsFitting, Stands, total_of}}, mg_model.specs.Replay.replay}
+use Rattle.mg_pages.{proofs.{Awaited.fits-replayed, Staging.{staged-here, staged-there}}, specs.{Held.with_writes, Kept.AreKept, Meaning.replayed}}
+use Rattle.{mg_pages.specs.{Parts.{KeepsMore, LooksAt}, declared.blocks.Blocks.Blocks}, std.proofs.Common.{refl, sym, ap, subst, ◌∙◌, ⊎_elim}}
+use Rattle.std.{proofs.lemmas.Bool.{cases_Bool, eq-eqb, false≢true}, specs.{Option.ForSome, Prelude.{◌≡◌, ℕ, true, false, is_some, List, [], ◌∷◌}}}
+use Rattle.std.specs.Prelude.{Ok, Option, Some, None, IfSome, MatchOption, ◌==◌}
 
 module _ (told : Option Image) (first : ℕ) where
   pub keeps-none : (b : Blocks) → KeepsMore told first b b

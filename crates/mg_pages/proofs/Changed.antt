@@ -1,26 +1,12 @@
 -- A word is written into the block of a page that has a frame.
-use Rattle.std.specs.Prelude.{◌≡◌, ◌≢◌, ◌+◌, ◌≤◌, ◌<◌, ◌==◌, ℕ, List, [], length, slice_set, Some}
-use Rattle.std.specs.List.{position}
-use Rattle.std.proofs.Common.{refl, sym, ap, ◌∙◌, inr, arith, get_or}
-use Rattle.std.proofs.lemmas.List.{get_or-set_other, get_or-set_same}
-use Rattle.mg_disk.specs.Disk.{Image, block_at}
-use Rattle.mg_journal.specs.Staged.{staged}
-use Rattle.mg_model.specs.Bytes.{block_words}
-use Rattle.mg_model.specs.Layout.{body_limit, first_frame, table_block, table_blocks}
-use Rattle.mg_model.specs.Volume.{page_words}
-use Rattle.mg_pages.proofs.Awaited.{length-coming}
-use Rattle.mg_pages.proofs.PageWords.{other-words, page-in, this-word}
-use Rattle.mg_pages.proofs.Places.{place-of}
-use Rattle.mg_pages.proofs.Staging.{length-kept, length-staged, written-staged}
-use Rattle.mg_pages.specs.Kept.{AreKept}
-use Rattle.mg_pages.specs.Parts.{coming_of}
-use Rattle.mg_pages.proofs.Counted.{coming-as, page-as}
-use Rattle.mg_pages.proofs.OneBlock.{still-named}
-use Rattle.mg_pages.proofs.Sound.{sound-staged}
-use Rattle.mg_pages.proofs.Tables.{holds-apart, spelled-new}
-use Rattle.mg_pages.specs.declared.pages.Pages.{Pages}
-use Rattle.mg_pages.specs.Held.{IsSound}
-use Rattle.mg_pages.specs.Meaning.{BindsOnly, IsSpelledBy, SetsWord, StagesMore, coming, is_staged, page_now, replayed, staged_of, table_in, total_of}
+use Rattle.{mg_disk.specs.Disk.{Image, block_at}, mg_journal.specs.Staged.staged, mg_model.specs.{Bytes.block_words, Layout.body_limit}}
+use Rattle.{mg_model.specs.{Layout.{first_frame, table_block, table_blocks}, Volume.page_words}, mg_pages.proofs.Awaited.length-coming}
+use Rattle.mg_pages.proofs.{Counted.{coming-as, page-as}, OneBlock.still-named, PageWords.{other-words, page-in, this-word}, Places.place-of}
+use Rattle.mg_pages.proofs.{Sound.sound-staged, Staging.{length-kept, length-staged, written-staged}, Tables.{holds-apart, spelled-new}}
+use Rattle.mg_pages.specs.{Held.IsSound, Kept.AreKept, Meaning.{BindsOnly, IsSpelledBy, SetsWord, StagesMore, coming, is_staged, page_now, replayed}}
+use Rattle.{mg_pages.specs.{Meaning.{staged_of, table_in, total_of}, Parts.coming_of, declared.pages.Pages.Pages}, std.proofs.Common.{refl, sym, ap}}
+use Rattle.std.{proofs.{Common.{◌∙◌, inr, arith, get_or}, lemmas.List.{get_or-set_other, get_or-set_same}}, specs.{List.position, Prelude.{◌≡◌, ◌≢◌}}}
+use Rattle.std.specs.Prelude.{◌+◌, ◌≤◌, ◌<◌, ◌==◌, ℕ, List, [], length, slice_set, Some}
 
 -- the image with what is coming is long enough for every frame
 pub long-coming : (p : Pages) (image : Image) → IsSpelledBy p image → p.blocks.store.total ≤ length (coming_of p.blocks.store p.blocks.writes image)

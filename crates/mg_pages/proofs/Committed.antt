@@ -1,25 +1,13 @@
 -- What a commit leaves, in the words of the pages.
-use Rattle.std.specs.Prelude.{◌≡◌, ◌⊎◌, ◌+◌, ◌≤◌, ℕ, Bool, true, List, [], length, MatchResult, OnOk, Option, Some, Result, Ok, Err, is_ok}
-use Rattle.std.proofs.Common.{sym, subst, ◌∙◌, ⊎_elim, inl, inr, arith}
-use Rattle.mg_disk.specs.BecomesLemmas.{becomes-of}
-use Rattle.mg_disk.specs.Disk.{Image, SameBut, SeenBut}
-use Rattle.mg_disk.specs.Stops.{Becomes}
-use Rattle.mg_disk.specs.declared.disk.Disk.{Ghosts}
-use Rattle.mg_journal.specs.Contents.{InJournal, NewContents, SameContents}
+use Rattle.mg_disk.specs.{BecomesLemmas.becomes-of, Disk.{Image, SameBut, SeenBut}, Stops.Becomes, declared.disk.Disk.Ghosts}
+use Rattle.mg_journal.specs.{Contents.{InJournal, NewContents, SameContents}, Held.Store, WrittenLemmas.written_elsewhere}
+use Rattle.{mg_model.specs.{Layout.{first_frame, table_block, table_blocks}, Replay.written}, mg_pages.proofs.Awaited.{fits-replayed, length-coming}}
+use Rattle.mg_pages.{proofs.{Entries.{holds-spelled, spelled-past, spelled-table}, Tables.holds-apart}, specs.Committing.HasContents}
+use Rattle.mg_pages.specs.{Entries.HoldsTable, Kept.AreKept, Meaning.{IsSpelledBy, StandsOn, coming, frame_count, kept_in, replayed, table_in}}
+use Rattle.{mg_pages.specs.{Meaning.total_of, Parts.coming_of, declared.pages.Pages.Pages}, std.proofs.Common.{sym, subst, ◌∙◌, ⊎_elim, inl, inr}}
+use Rattle.std.{proofs.Common.arith, specs.Prelude.{◌≡◌, ◌⊎◌, ◌+◌, ◌≤◌, ℕ, Bool, true, List, [], length, MatchResult, OnOk, Option, Some, Result, Ok}}
+use Rattle.std.specs.Prelude.{Err, is_ok}
 use Rattle.mg_journal.specs.Standing as journal
-use Rattle.mg_journal.specs.WrittenLemmas.{written_elsewhere}
-use Rattle.mg_journal.specs.Held.{Store}
-use Rattle.mg_model.specs.Layout.{first_frame, table_block, table_blocks}
-use Rattle.mg_model.specs.Replay.{written}
-use Rattle.mg_pages.proofs.Awaited.{fits-replayed, length-coming}
-use Rattle.mg_pages.proofs.Entries.{holds-spelled, spelled-past, spelled-table}
-use Rattle.mg_pages.proofs.Tables.{holds-apart}
-use Rattle.mg_pages.specs.Committing.{HasContents}
-use Rattle.mg_pages.specs.Entries.{HoldsTable}
-use Rattle.mg_pages.specs.Kept.{AreKept}
-use Rattle.mg_pages.specs.declared.pages.Pages.{Pages}
-use Rattle.mg_pages.specs.Meaning.{IsSpelledBy, StandsOn, coming, frame_count, kept_in, replayed, table_in, total_of}
-use Rattle.mg_pages.specs.Parts.{coming_of}
 
 -- the contents with the writes over them are what is coming
 new-coming : (store : Store) (writes : List (ℕ × List ℕ)) (image c : Image) → journal.IsFitting store image → NewContents store.total image writes c → HasContents store.total (coming_of store writes image) c

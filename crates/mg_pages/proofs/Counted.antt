@@ -1,19 +1,9 @@
 -- The same journal, the same frames and the same writes, whatever is kept and counted.
-use Rattle.std.specs.Prelude.{◌≡◌, ◌==◌, ℕ, true, List, length, OnErr, Result}
-use Rattle.std.specs.List.{list_any}
-use Rattle.std.proofs.Common.{ap, arith, inr, subst, ◌∙◌}
-use Rattle.mg_disk.specs.Disk.{Image}
-use Rattle.mg_disk.specs.Stops.{CountRose, NothingPending}
-use Rattle.mg_disk.specs.declared.disk.Disk.{Ghosts}
-use Rattle.mg_journal.specs.Contents.{names}
-use Rattle.mg_journal.specs.Held.{Store}
-use Rattle.mg_model.specs.Layout.{first_frame}
-use Rattle.mg_model.specs.Volume.{page_words}
-use Rattle.mg_pages.proofs.Opened.{same-shape, stands-again}
-use Rattle.mg_pages.proofs.Tables.{spelled-new}
-use Rattle.mg_pages.specs.declared.pages.Pages.{Pages}
+use Rattle.{mg_disk.specs.{Disk.Image, Stops.{CountRose, NothingPending}, declared.disk.Disk.Ghosts}, mg_journal.specs.{Contents.names, Held.Store}}
+use Rattle.{mg_model.specs.{Layout.first_frame, Volume.page_words}, mg_pages.proofs.{Opened.{same-shape, stands-again}, Tables.spelled-new}}
 use Rattle.mg_pages.specs.Meaning.{Keeps, Reads, ServesPage, StandsOn, coming, frame_count, is_staged, page_now, staged_in, staged_of, table_in}
-use Rattle.mg_pages.specs.Parts.{KeepsMore, LooksAt, coming_of}
+use Rattle.{mg_pages.specs.{Parts.{KeepsMore, LooksAt, coming_of}, declared.pages.Pages.Pages}, std.proofs.Common.{ap, arith, inr, subst, ◌∙◌}}
+use Rattle.std.specs.{List.list_any, Prelude.{◌≡◌, ◌==◌, ℕ, true, List, length, OnErr, Result}}
 
 -- what is coming, and the words of a page, if the fields are told
 module _ (q : Pages) (store : Store) (frames : List ℕ) (writes : List (ℕ × List ℕ)) (same_store : q.blocks.store ≡ store) (same_frames : q.frames ≡ frames) (same_writes : q.blocks.writes ≡ writes) where

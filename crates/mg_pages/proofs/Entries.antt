@@ -1,16 +1,11 @@
 -- The frame table entry by entry.
-use Rattle.std.specs.Prelude.{◌≡◌, ◌+◌, ◌-◌, ◌*◌, ◌/◌, ◌%◌, ◌<◌, ◌==◌, ℕ, zero, suc, true, List, [], ◌∷◌, ◌++◌, drop, length, replicate, take}
-use Rattle.std.proofs.Common.{refl, sym, ap, ◌∙◌, ⊎_elim, arith, get_or, length-append}
-use Rattle.std.proofs.lemmas.Bool.{and_parts, cases_lt, eqb-true}
-use Rattle.std.proofs.lemmas.List.{drop_at, ext_get_or, get_or-append-add, get_or-append_right, get_or-drop, get_or-replicate, get_or-take, get_or_append_left, get_or_past, length-replicate, take_at}
-use Rattle.mg_disk.specs.Disk.{Image, block_at}
-use Rattle.mg_model.specs.Abbreviations.{table_entries, table_of, whole_table}
-use Rattle.mg_model.specs.Bytes.{are_zeros, block_words, number_at}
-use Rattle.mg_model.specs.Layout.{table_block, table_blocks}
-use Rattle.mg_model.specs.RowLemmas.{are_zeros-replicate}
-use Rattle.mg_pages.proofs.Numbers.{number-of}
-use Rattle.mg_pages.specs.LengthLemmas.{length-block}
-use Rattle.mg_pages.specs.Entries.{HoldsTable}
+use Rattle.{mg_disk.specs.Disk.{Image, block_at}, mg_model.specs.{Abbreviations.{table_entries, table_of, whole_table}, Bytes.are_zeros}}
+use Rattle.mg_model.specs.{Bytes.{block_words, number_at}, Layout.{table_block, table_blocks}, RowLemmas.are_zeros-replicate}
+use Rattle.{mg_pages.{proofs.Numbers.number-of, specs.{Entries.HoldsTable, LengthLemmas.length-block}}, std.proofs.Common.{refl, sym, ap, ◌∙◌}}
+use Rattle.std.proofs.{Common.{⊎_elim, arith, get_or, length-append}, lemmas.{Bool.{and_parts, cases_lt, eqb-true}, List.{drop_at, ext_get_or}}}
+use Rattle.std.proofs.lemmas.List.{get_or-append-add, get_or-append_right, get_or-drop, get_or-replicate, get_or-take, get_or_append_left}
+use Rattle.std.{proofs.lemmas.List.{get_or_past, length-replicate, take_at}, specs.Prelude.{◌≡◌, ◌+◌, ◌-◌, ◌*◌, ◌/◌, ◌%◌, ◌<◌, ◌==◌, ℕ, zero, suc}}
+use Rattle.std.specs.Prelude.{true, List, [], ◌∷◌, ◌++◌, drop, length, replicate, take}
 
 pub length-entries : (image : Image) (b n : ℕ) → length (table_entries image b n) ≡ 512 * n
 length-entries image b zero = refl

@@ -1,21 +1,10 @@
 -- The bytes of a frame's block that are in memory, or that were read, are those that are coming.
-use Rattle.std.specs.Prelude.{◌≡◌, ◌+◌, ◌==◌, ◌≤◌, ℕ, List, ◌++◌, length, replicate, Some, None}
-use Rattle.std.specs.List.{position}
-use Rattle.std.proofs.Common.{sym, ap, ◌∙◌, arith}
-use Rattle.mg_disk.specs.Disk.{Image, block_at}
-use Rattle.mg_journal.specs.Staged.{waiting}
-use Rattle.mg_model.specs.Bytes.{block_words}
-use Rattle.mg_model.specs.Layout.{block_size, first_frame}
-use Rattle.mg_model.specs.RowLemmas.{block_words-zeros}
-use Rattle.mg_pages.proofs.KeptWrites.{kept-written}
-use Rattle.mg_pages.proofs.Opened.{held-kept}
-use Rattle.mg_pages.proofs.PageWords.{page-in, page-none}
-use Rattle.mg_pages.proofs.Staging.{written-none}
-use Rattle.mg_pages.specs.declared.pages.Pages.{Pages}
-use Rattle.mg_pages.specs.ComingLemmas.{length_replay}
-use Rattle.mg_pages.specs.Kept.{kept_at}
-use Rattle.mg_pages.specs.Meaning.{IsSpelledBy, coming, frame_count, page_now, replayed, table_in, total_of}
-use Rattle.mg_pages.specs.SpelledLemmas.{replayed_is, replays}
+use Rattle.{mg_disk.specs.Disk.{Image, block_at}, mg_journal.specs.Staged.waiting, mg_model.specs.{Bytes.block_words, Layout.block_size}}
+use Rattle.{mg_model.specs.{Layout.first_frame, RowLemmas.block_words-zeros}, mg_pages.proofs.{KeptWrites.kept-written, Opened.held-kept}}
+use Rattle.mg_pages.{proofs.{PageWords.{page-in, page-none}, Staging.written-none}, specs.{ComingLemmas.length_replay, Kept.kept_at}}
+use Rattle.mg_pages.specs.{Meaning.{IsSpelledBy, coming, frame_count, page_now, replayed, table_in, total_of}, SpelledLemmas.{replayed_is, replays}}
+use Rattle.{mg_pages.specs.declared.pages.Pages.Pages, std.{proofs.Common.{sym, ap, ◌∙◌, arith}, specs.{List.position, Prelude.{◌≡◌, ◌+◌, ◌==◌}}}}
+use Rattle.std.specs.Prelude.{◌≤◌, ℕ, List, ◌++◌, length, replicate, Some, None}
 
 module _ (p : Pages) (image : Image) where
   -- what is kept, and what waits before it

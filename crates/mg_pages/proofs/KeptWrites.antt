@@ -1,16 +1,12 @@
 -- What is kept of the contents, once a block is read or what is staged is written.
-use Rattle.std.specs.Prelude.{◌≡◌, ◌≢◌, ◌⊎◌, ◌+◌, ◌≤◌, ◌<◌, ◌==◌, ◌&&◌, nat_eq, nat_le, nat_lt, ℕ, zero, suc, true, false, not, List, [], ◌∷◌, ◌++◌, drop, length, Option, Some, None, MatchOption, cond, is_some}
-use Rattle.std.specs.Map.{lookup}
-use Rattle.std.proofs.Common.{refl, sym, ap, subst, ◌∙◌, ⊎_elim, inl, inr, arith}
+use Rattle.{mg_disk.specs.Disk.{Image, block_at}, mg_journal.specs.{Contents.names, Staged.{are_once, bytes_of, home_at, waiting}}}
+use Rattle.{mg_model.specs.{Layout.globals_block, Replay.{homes_fit, written}}, mg_pages.proofs.Staging.{some_list, none_list, waiting-here}}
+use Rattle.mg_pages.{proofs.Staging.{waiting-named, waiting-there, written-none, written-waiting}, specs.Kept.{AreKept, AreKeptBut, KeepsBesides}}
+use Rattle.{mg_pages.specs.Kept.{KeepsSame, KeepsThis, kept_at}, std.proofs.Common.{refl, sym, ap, subst, ◌∙◌, ⊎_elim, inl, inr, arith}}
 use Rattle.std.proofs.lemmas.Bool.{and_parts, both_ways, cases_Bool, eq-eqb, eqb-true, false≢true, ltb-true, not-true, or_cases, or_left, or_right}
-use Rattle.std.proofs.lemmas.List.{drop_all, drop_more}
-use Rattle.mg_disk.specs.Disk.{Image, block_at}
-use Rattle.mg_journal.specs.Contents.{names}
-use Rattle.mg_journal.specs.Staged.{are_once, bytes_of, home_at, waiting}
-use Rattle.mg_model.specs.Layout.{globals_block}
-use Rattle.mg_model.specs.Replay.{homes_fit, written}
-use Rattle.mg_pages.proofs.Staging.{some_list, none_list, waiting-here, waiting-named, waiting-there, written-none, written-waiting}
-use Rattle.mg_pages.specs.Kept.{AreKept, AreKeptBut, KeepsBesides, KeepsSame, KeepsThis, kept_at}
+use Rattle.std.{proofs.lemmas.List.{drop_all, drop_more}, specs.{Map.lookup, Prelude.{◌≡◌, ◌≢◌, ◌⊎◌, ◌+◌, ◌≤◌, ◌<◌, ◌==◌, ◌&&◌, nat_eq, nat_le}}}
+use Rattle.std.specs.Prelude.{nat_lt, ℕ, zero, suc, true, false, not, List, [], ◌∷◌, ◌++◌, drop, length, Option, Some, None, MatchOption, cond}
+use Rattle.std.specs.Prelude.{is_some}
 
 -- the same blocks are kept
 pub kept-same : (first : ℕ) (r : Image) (old new : List (ℕ × List ℕ)) → KeepsSame old new → AreKept first r old → AreKept first r new

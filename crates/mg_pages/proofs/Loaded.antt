@@ -1,26 +1,14 @@
 -- Entries of a frame table that are bound one after another.
-use Rattle.std.specs.Prelude.{◌≡◌, ◌≢◌, ◌⊎◌, ◌+◌, ◌*◌, ◌≤◌, ◌<◌, ◌==◌, ◌||◌, nat_le, ℕ, zero, suc, Bool, true, false, List, [], ◌∷◌, if◌then◌else◌, length, position, slice_set, take, Option, None, Some}
-use Rattle.std.specs.List.{list_any}
-use Rattle.std.specs.Option.{ForSome, option_map_or}
-use Rattle.std.proofs.Common.{refl, sym, ap, ◌∙◌, ⊎_elim, inl, inr, arith, get_or, subst}
-use Rattle.std.proofs.lemmas.Bool.{and_parts, both_ways, cases_Bool, cases_eq, cases_lt, eq-eqb, eqb-false, eqb-true, leb-false, leb-true, ne_eqb, not-true, or_left}
-use Rattle.std.proofs.lemmas.List.{ext_get_or, get_or-set_other, get_or-set_same, get_or-take, length-set, length-take-le}
-use Rattle.std.proofs.lemmas.List.Folds.{list_any_at, list_any_more}
-use Rattle.mg_disk.specs.Disk.{Image, block_at}
-use Rattle.mg_disk.specs.Stops.{CountGoes, WritesNothing}
-use Rattle.mg_disk.specs.declared.disk.Disk.{Ghosts}
-use Rattle.mg_frames.specs.Places.{nowhere_any}
-use Rattle.mg_journal.specs.Held.{Store}
-use Rattle.mg_journal.specs.Standing.{Stands}
-use Rattle.mg_model.specs.Abbreviations.{table_of, whole_table}
-use Rattle.mg_model.specs.Bytes.{number_at}
-use Rattle.mg_model.specs.Layout.{table_block, table_blocks}
-use Rattle.mg_model.specs.Tests.{all_distinct}
-use Rattle.mg_model.specs.Volume.{bound_pages}
-use Rattle.mg_pages.proofs.Entries.{entry-of, length-entries}
-use Rattle.mg_pages.proofs.Places.{place-of}
-use Rattle.mg_pages.specs.Loading.{AreFreeFrom, AreLoaded, HasEntries, HoldFirstEntries, entry_bound, first_entry}
-use Rattle.mg_pages.specs.Meaning.{replayed}
+use Rattle.{mg_disk.specs.{Disk.{Image, block_at}, Stops.{CountGoes, WritesNothing}, declared.disk.Disk.Ghosts}, mg_frames.specs.Places.nowhere_any}
+use Rattle.{mg_journal.specs.{Held.Store, Standing.Stands}, mg_model.specs.{Abbreviations.{table_of, whole_table}, Bytes.number_at}}
+use Rattle.{mg_model.specs.{Layout.{table_block, table_blocks}, Tests.all_distinct, Volume.bound_pages}, mg_pages.proofs.Entries.entry-of}
+use Rattle.mg_pages.{proofs.{Entries.length-entries, Places.place-of}, specs.Loading.{AreFreeFrom, AreLoaded, HasEntries, HoldFirstEntries}}
+use Rattle.{mg_pages.specs.{Loading.{entry_bound, first_entry}, Meaning.replayed}, std.proofs.Common.{refl, sym, ap, ◌∙◌, ⊎_elim, inl, inr, arith}}
+use Rattle.std.proofs.{Common.{get_or, subst}, lemmas.Bool.{and_parts, both_ways, cases_Bool, cases_eq, cases_lt, eq-eqb, eqb-false, eqb-true}}
+use Rattle.std.proofs.lemmas.{Bool.{leb-false, leb-true, ne_eqb, not-true, or_left}, List.{ext_get_or, get_or-set_other, get_or-set_same}}
+use Rattle.std.{proofs.lemmas.List.{get_or-take, length-set, length-take-le, Folds.{list_any_at, list_any_more}}, specs.List.list_any}
+use Rattle.std.specs.{Option.{ForSome, option_map_or}, Prelude.{◌≡◌, ◌≢◌, ◌⊎◌, ◌+◌, ◌*◌, ◌≤◌, ◌<◌, ◌==◌, ◌||◌, nat_le, ℕ, zero, suc, Bool, true}}
+use Rattle.std.specs.Prelude.{false, List, [], ◌∷◌, if◌then◌else◌, length, position, slice_set, take, Option, None, Some}
 
 bound-free : (xs : List ℕ) (x : ℕ) → x ≡ 0 → bound_pages (x ∷ xs) ≡ bound_pages xs
 bound-free xs x is = rw (eq-eqb x 0 is) refl

@@ -1,12 +1,8 @@
 -- What is kept of a block once a cache has moved, removed or added an entry.
-use Rattle.std.proofs.Common.{arith}
-use Rattle.std.specs.Prelude.{◌≡◌, ◌≢◌, ◌⊎◌, ◌-◌, ℕ, zero, suc, true, false, cond, List, [], ◌∷◌, take, Option, Some, None, IsSome, is_some, nat_eq}
-use Rattle.std.specs.Map.{lookup, lookup_entry, remove_entry, set_value}
-use Rattle.std.specs.Option.{option_map_or}
-use Rattle.std.proofs.Common.{refl, sym, ap, ◌∙◌, ⊎_elim, inl, inr}
-use Rattle.std.proofs.lemmas.Bool.{both_ways, cases_Bool, eq-eqb, eqb-true, false≢true}
-use Rattle.lru.specs.LruCache.{LruCache, promoted, put_entries}
-use Rattle.mg_pages.specs.Kept.{KeepsThis, kept_at}
+use Rattle.{lru.specs.LruCache.{LruCache, promoted, put_entries}, mg_pages.specs.Kept.{KeepsThis, kept_at}, std.proofs.Common.{arith, refl, sym, ap}}
+use Rattle.std.{proofs.{Common.{◌∙◌, ⊎_elim, inl, inr}, lemmas.Bool.{both_ways, cases_Bool, eq-eqb, eqb-true, false≢true}}, specs.Map.lookup}
+use Rattle.std.specs.{Map.{lookup_entry, remove_entry, set_value}, Option.option_map_or, Prelude.{◌≡◌, ◌≢◌, ◌⊎◌, ◌-◌, ℕ, zero, suc, true, false}}
+use Rattle.std.specs.Prelude.{cond, List, [], ◌∷◌, take, Option, Some, None, IsSome, is_some, nat_eq}
 
 look-here : (i x : ℕ) (b : List ℕ) (es : List (ℕ × List ℕ)) → nat_eq i x ≡ true → lookup (nat_eq i) ((x, b) ∷ es) ≡ Some b
 look-here i x b es is = ap (λ t. cond t (Some b) (lookup (nat_eq i) es)) is

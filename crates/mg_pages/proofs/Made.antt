@@ -1,19 +1,10 @@
 -- The pages as they are opened.
-use Rattle.std.proofs.Common.{◌∙◌, ap, arith, subst, sym}
-use Rattle.std.specs.Prelude.{◌≡◌, ◌≤◌, ℕ, true, List, [], if◌then◌else◌, length, Option, Some, None}
-use Rattle.mg_disk.specs.Disk.{Image}
+use Rattle.{mg_disk.specs.Disk.Image, mg_journal.specs.{Held.Store, Staged.are_once}, mg_model.specs.Layout.{body_limit, total_blocks}}
+use Rattle.{mg_model.specs.{Replay.homes_fit, Tests.all_distinct, Volume.bound_pages}, mg_pages.specs.{Held.{HasFrames, IsSound}, Kept.kept_at}}
+use Rattle.mg_pages.specs.Meaning.{AreMade, HasTable, IsSpelledBy, coming, frame_count, is_live, kept_in, replayed, staged_of, store_of, table_in}
+use Rattle.{mg_pages.specs.{Meaning.{total_of, words_in}, Parts.coming_of, declared.pages.Pages.Pages}, std.proofs.Common.{◌∙◌, ap, arith, subst}}
+use Rattle.std.{proofs.Common.sym, specs.Prelude.{◌≡◌, ◌≤◌, ℕ, true, List, [], if◌then◌else◌, length, Option, Some, None}}
 use Rattle.mg_journal.specs.Standing as journal
-use Rattle.mg_journal.specs.Held.{Store}
-use Rattle.mg_journal.specs.Staged.{are_once}
-use Rattle.mg_model.specs.Layout.{body_limit, total_blocks}
-use Rattle.mg_model.specs.Replay.{homes_fit}
-use Rattle.mg_model.specs.Tests.{all_distinct}
-use Rattle.mg_model.specs.Volume.{bound_pages}
-use Rattle.mg_pages.specs.declared.pages.Pages.{Pages}
-use Rattle.mg_pages.specs.Held.{HasFrames, IsSound}
-use Rattle.mg_pages.specs.Kept.{kept_at}
-use Rattle.mg_pages.specs.Parts.{coming_of}
-use Rattle.mg_pages.specs.Meaning.{AreMade, HasTable, IsSpelledBy, coming, frame_count, is_live, kept_in, replayed, staged_of, store_of, table_in, total_of, words_in}
 
 -- the frames of entries in which no page occurs twice are these entries
 pub made-frames : (entries frames : List ℕ) (made : Option (List ℕ)) → made ≡ (if all_distinct (bound_pages entries) then Some entries else None) → made ≡ Some frames → all_distinct (bound_pages entries) ≡ true → frames ≡ entries

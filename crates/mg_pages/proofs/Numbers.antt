@@ -1,10 +1,7 @@
 -- The words of a block one by one.
+use Rattle.{mg_model.specs.Bytes.{block_words, number_at, numbers_at}, mg_pages.specs.LengthLemmas.length-numbers, std.proofs.Common.{sym, ap, ◌∙◌}}
+use Rattle.std.proofs.{Common.{⊎_elim, arith, get_or}, lemmas.{Bool.cases_eq, List.{ext_get_or, get_or-set_other, get_or-set_same, length-set}}}
 use Rattle.std.specs.Prelude.{◌≡◌, ◌≢◌, ◌+◌, ◌*◌, ◌<◌, ℕ, zero, suc, List, slice_set}
-use Rattle.std.proofs.Common.{sym, ap, ◌∙◌, ⊎_elim, arith, get_or}
-use Rattle.std.proofs.lemmas.Bool.{cases_eq}
-use Rattle.std.proofs.lemmas.List.{ext_get_or, get_or-set_other, get_or-set_same, length-set}
-use Rattle.mg_model.specs.Bytes.{block_words, number_at, numbers_at}
-use Rattle.mg_pages.specs.LengthLemmas.{length-numbers}
 
 pub number-of : (bytes : List ℕ) (from n i : ℕ) → i < n → get_or (numbers_at bytes from n) i 0 ≡ number_at bytes (from + 8 * i)
 number-of bytes from zero i below = absurd (omega arith)

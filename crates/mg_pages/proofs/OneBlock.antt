@@ -1,21 +1,11 @@
 -- One block more is staged.
+use Rattle.{mg_disk.specs.Disk.{Image, block_at}, mg_journal.specs.{Contents.names, Staged.staged}, mg_model.specs.Layout.first_frame}
+use Rattle.{mg_model.specs.Layout.{globals_block, table_block, table_blocks}, mg_pages.proofs.{Opened.same-shape, Staging.length-kept}}
+use Rattle.mg_pages.{proofs.{Staging.{length-staged, names-staged, written-staged}, Tables.{holds-apart, spelled-new}}, specs.Held.with_writes}
+use Rattle.mg_pages.specs.{Kept.AreKept, Meaning.{IsRowBlock, IsSpelledBy, SameShape, StagesBlock, StagesMore, coming, is_staged, replayed}}
+use Rattle.mg_pages.specs.{Meaning.{staged_of, table_in, words_in}, Parts.coming_of, declared.{blocks.Blocks.Blocks, pages.Pages.Pages}}
+use Rattle.std.proofs.{Common.{ap, refl, subst, ◌∙◌, sym, arith}, lemmas.{Bool.{eq-eqb, or_left, or_right}, List.get_or-set_other}}
 use Rattle.std.specs.Prelude.{◌≡◌, ◌+◌, ◌≤◌, ◌<◌, ◌==◌, ℕ, true, List, [], length, slice_set}
-use Rattle.std.proofs.Common.{ap, refl, subst, ◌∙◌, sym, arith}
-use Rattle.std.proofs.lemmas.Bool.{eq-eqb, or_left, or_right}
-use Rattle.std.proofs.lemmas.List.{get_or-set_other}
-use Rattle.mg_disk.specs.Disk.{Image, block_at}
-use Rattle.mg_journal.specs.Contents.{names}
-use Rattle.mg_journal.specs.Staged.{staged}
-use Rattle.mg_model.specs.Layout.{first_frame, globals_block, table_block, table_blocks}
-use Rattle.mg_pages.proofs.Opened.{same-shape}
-use Rattle.mg_pages.proofs.Staging.{length-kept, length-staged, names-staged, written-staged}
-use Rattle.mg_pages.proofs.Tables.{holds-apart, spelled-new}
-use Rattle.mg_pages.specs.declared.blocks.Blocks.{Blocks}
-use Rattle.mg_pages.specs.declared.pages.Pages.{Pages}
-use Rattle.mg_pages.specs.Held.{with_writes}
-use Rattle.mg_pages.specs.Kept.{AreKept}
-use Rattle.mg_pages.specs.Meaning.{IsRowBlock, IsSpelledBy, SameShape, StagesBlock, StagesMore, coming, is_staged, replayed, staged_of, table_in, words_in}
-use Rattle.mg_pages.specs.Parts.{coming_of}
 
 pub still-named : (writes : List (ℕ × List ℕ)) (b : ℕ) (bytes : List ℕ) (block : ℕ) → names writes block ≡ true → names (staged writes b bytes) block ≡ true
 still-named writes b bytes block is = names-staged writes b bytes block ∙ or_right (b == block) (names writes block) is

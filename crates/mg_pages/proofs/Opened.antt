@@ -1,18 +1,10 @@
 -- Pages that stand on a disk.
+use Rattle.{mg_disk.specs.{Disk.Image, Stops.NothingPending, declared.disk.Disk.Ghosts}, mg_journal.specs.Held.Store}
+use Rattle.{mg_model.specs.Layout.first_frame, mg_pages.specs.{Held.IsSound, Kept.AreKept, Meaning.{IsSpelledBy, SameShape, StandsOn, frame_count}}}
+use Rattle.{mg_pages.specs.{Meaning.{is_live, kept_in, replayed, total_of}, declared.pages.Pages.Pages}, std.proofs.{Common.{ap, arith}, Props.props}}
 use Rattle.std.specs.Prelude.{◌≡◌, length, Some}
-use Rattle.std.proofs.Common.{ap, arith}
-use Rattle.std.proofs.Props.{props}
 use mathlib.Core.HLevel.{is_prop→PathP}
-use Rattle.mg_disk.specs.Disk.{Image}
-use Rattle.mg_disk.specs.Stops.{NothingPending}
-use Rattle.mg_disk.specs.declared.disk.Disk.{Ghosts}
-use Rattle.mg_journal.specs.Held.{Store}
 use Rattle.mg_journal.specs.Standing as journal
-use Rattle.mg_model.specs.Layout.{first_frame}
-use Rattle.mg_pages.specs.declared.pages.Pages.{Pages}
-use Rattle.mg_pages.specs.Held.{IsSound}
-use Rattle.mg_pages.specs.Kept.{AreKept}
-use Rattle.mg_pages.specs.Meaning.{IsSpelledBy, SameShape, StandsOn, frame_count, is_live, kept_in, replayed, total_of}
 
 -- what is kept are blocks of the contents
 pub held-kept : (p : Pages) (image : Image) → IsSpelledBy p image → AreKept (first_frame (length p.frames)) (replayed p.blocks.store.total image) p.blocks.kept

@@ -1,12 +1,7 @@
 -- The words of pages once a block of one of them is another.
-use Rattle.std.specs.Prelude.{◌≡◌, ◌≢◌, ◌+◌, ◌==◌, ℕ, List, replicate, slice_set, Option, Some, None}
-use Rattle.std.specs.List.{position}
-use Rattle.std.specs.Option.{option_map_or}
-use Rattle.std.proofs.Common.{refl, sym, ap, ◌∙◌}
-use Rattle.mg_disk.specs.Disk.{Image, block_at}
-use Rattle.mg_model.specs.Bytes.{block_words}
-use Rattle.mg_model.specs.Layout.{first_frame}
-use Rattle.mg_model.specs.Volume.{page_words}
+use Rattle.{mg_disk.specs.Disk.{Image, block_at}, mg_model.specs.{Bytes.block_words, Layout.first_frame, Volume.page_words}, std.proofs.Common.refl}
+use Rattle.std.{proofs.Common.{sym, ap, ◌∙◌}, specs.{List.position, Option.option_map_or, Prelude.{◌≡◌, ◌≢◌, ◌+◌, ◌==◌, ℕ, List, replicate}}}
+use Rattle.std.specs.Prelude.{slice_set, Option, Some, None}
 
 pub page-in : (image : Image) (n : ℕ) (table : List ℕ) (page f : ℕ) → position (λ entry. entry == page) table ≡ Some f → page_words image n table page ≡ block_words (block_at image (first_frame n + f))
 page-in image n table page f is = ap (λ place. option_map_or (λ frame. block_words (block_at image (first_frame n + frame))) place (replicate 512 0)) is

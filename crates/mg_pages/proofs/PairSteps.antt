@@ -1,9 +1,6 @@
 -- Steps of a search through the pairs of words of a block.
-use Rattle.std.proofs.Common.{◌≡◌, ◌≢◌, ◌+◌, ◌*◌, ◌%◌, ◌^◌, ◌≤◌, ◌<◌, ℕ, List, slice_index, arith, sym, ◌∙◌}
-use Rattle.std.proofs.Math.Nat.{mod-add-mod}
-use Rattle.std.proofs.lemmas.Bool.{cases_lt}
-use Rattle.mg_model.specs.Bytes.{block_words, number_at}
-use Rattle.mg_pages.proofs.Numbers.{block-word}
+use Rattle.{mg_model.specs.Bytes.{block_words, number_at}, mg_pages.proofs.Numbers.block-word, std.proofs.Common.{◌≡◌, ◌≢◌, ◌+◌, ◌*◌, ◌%◌, ◌^◌, ◌≤◌}}
+use Rattle.std.proofs.{Common.{◌<◌, ℕ, List, slice_index, arith, sym, ◌∙◌}, Math.Nat.mod-add-mod, lemmas.Bool.cases_lt}
 
 -- the word at an index of a block, by what was read there
 pub word-there : (bytes : List ℕ) (index word : ℕ) → index < 512 → word ≡ number_at bytes (8 * index) → slice_index (block_words bytes) index ≡ word

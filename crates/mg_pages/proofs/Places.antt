@@ -1,12 +1,8 @@
 -- Where pages are in the frame table once one is bound.
-use Rattle.std.specs.Prelude.{◌≡◌, ◌⊎◌, ◌<◌, ◌==◌, ℕ, zero, suc, Bool, true, false, List, [], ◌∷◌, length, option_map, slice_set, Some}
-use Rattle.std.specs.List.{list_any, position}
-use Rattle.std.proofs.Common.{refl, ap, ◌∙◌, ⊎_elim, inl, inr, arith, get_or}
-use Rattle.std.proofs.lemmas.Bool.{eq-eqb, eqb-true, or_cases, or_left, or_parts, or_right}
-use Rattle.std.proofs.lemmas.List.{length-set}
-use Rattle.std.proofs.lemmas.List.Folds.{position_or_len-set}
-use Rattle.std.proofs.lemmas.List.Quantifiers.{position-Some}
-use Rattle.mg_frames.specs.Places.{position-here, position-there}
+use Rattle.{mg_frames.specs.Places.{position-here, position-there}, std.proofs.Common.{refl, ap, ◌∙◌, ⊎_elim, inl, inr, arith, get_or}}
+use Rattle.std.proofs.lemmas.{Bool.{eq-eqb, eqb-true, or_cases, or_left, or_parts, or_right}, List.{length-set, Folds.position_or_len-set}}
+use Rattle.std.{proofs.lemmas.List.Quantifiers.position-Some, specs.{List.{list_any, position}, Prelude.{◌≡◌, ◌⊎◌, ◌<◌, ◌==◌, ℕ, zero, suc, Bool}}}
+use Rattle.std.specs.Prelude.{true, false, List, [], ◌∷◌, length, option_map, slice_set, Some}
 
 pub position-set : {X : Type 0} (p : X → Bool) (xs : List X) (i : ℕ) (y d : X) → p y ≡ p (get_or xs i d) → position p (slice_set xs i y) ≡ position p xs
 position-set p xs i y d same = rw (position_or_len-set p xs i y d same, length-set xs i y) refl

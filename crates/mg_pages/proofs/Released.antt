@@ -1,27 +1,13 @@
 -- What is left of a frame table once the pages of a range are released.
-use Rattle.std.proofs.lemmas.Grind.{common_steps}
-use Rattle.std.specs.Prelude.{◌≡◌, ◌≢◌, ◌⊎◌, ◌+◌, ◌≤◌, ◌<◌, ◌==◌, nat_le, nat_lt, if◌then◌else◌, ℕ, true, false, List, [], ◌∷◌, length, map}
-use Rattle.std.specs.List.{list_any, position}
-use Rattle.std.proofs.Common.{refl, sym, ap, subst, ◌∙◌, ⊎_elim, inl, inr, arith}
-use Rattle.std.proofs.lemmas.Bool.{and_from, and_parts, both_ways, cases_Bool, eqb-true, le-leb, leb-true, lt-ltb, ltb-true, ne_eqb, or_cases, or_left, or_right}
-use Rattle.std.proofs.lemmas.List.{length-map}
-use Rattle.mg_disk.specs.Disk.{Image, block_at}
-use Rattle.mg_frames.specs.Distinct.{distinct-released}
-use Rattle.mg_frames.specs.Places.{nowhere}
-use Rattle.mg_frames.specs.Words.{is_within, unless_within}
-use Rattle.mg_journal.specs.WrittenLemmas.{written_elsewhere}
-use Rattle.mg_model.specs.Layout.{body_limit, first_frame, table_block, table_blocks, total_blocks}
-use Rattle.mg_model.specs.Volume.{page_words}
-use Rattle.mg_pages.proofs.Changed.{long-coming}
-use Rattle.mg_pages.proofs.PageWords.{page-none, page-same}
-use Rattle.mg_pages.specs.Parts.{StagesTable, coming_of}
-use Rattle.mg_pages.proofs.Counted.{coming-as, page-as}
-use Rattle.mg_pages.proofs.Tables.{spelled-new}
-use Rattle.mg_pages.specs.declared.pages.Pages.{Pages}
-use Rattle.mg_pages.specs.declared.blocks.Blocks.{Blocks}
-use Rattle.mg_pages.specs.Held.{IsSound, with_writes}
-use Rattle.mg_pages.specs.Kept.{AreKept}
-use Rattle.mg_pages.specs.Meaning.{IsSpelledBy, Releases, Unbinds, coming, page_now, replayed, table_in}
+use Rattle.{mg_disk.specs.Disk.{Image, block_at}, mg_frames.specs.{Distinct.distinct-released, Places.nowhere, Words.{is_within, unless_within}}}
+use Rattle.{mg_journal.specs.WrittenLemmas.written_elsewhere, mg_model.specs.Layout.{body_limit, first_frame, table_block, table_blocks}}
+use Rattle.{mg_model.specs.{Layout.total_blocks, Volume.page_words}, mg_pages.proofs.{Changed.long-coming, Counted.{coming-as, page-as}}}
+use Rattle.mg_pages.{proofs.{PageWords.{page-none, page-same}, Tables.spelled-new}, specs.{Held.{IsSound, with_writes}, Kept.AreKept}}
+use Rattle.mg_pages.specs.{Meaning.{IsSpelledBy, Releases, Unbinds, coming, page_now, replayed, table_in}, Parts.{StagesTable, coming_of}}
+use Rattle.{mg_pages.specs.declared.{blocks.Blocks.Blocks, pages.Pages.Pages}, std.proofs.Common.{refl, sym, ap, subst, ◌∙◌, ⊎_elim, inl, inr, arith}}
+use Rattle.std.proofs.lemmas.Bool.{and_from, and_parts, both_ways, cases_Bool, eqb-true, le-leb, leb-true, lt-ltb, ltb-true, ne_eqb, or_cases}
+use Rattle.std.{proofs.lemmas.{Bool.{or_left, or_right}, Grind.common_steps, List.length-map}, specs.{List.{list_any, position}, Prelude.{◌≡◌, ◌≢◌}}}
+use Rattle.std.specs.Prelude.{◌⊎◌, ◌+◌, ◌≤◌, ◌<◌, ◌==◌, nat_le, nat_lt, if◌then◌else◌, ℕ, true, false, List, [], ◌∷◌, length, map}
 
 within-parts : (first pages x : ℕ) → is_within first pages x ≡ true → (first ≤ x) × (x < first + pages)
 within-parts first pages x is = let parts = and_parts (nat_le first x) (nat_lt x (first + pages)) is in (leb-true first x parts.0, ltb-true x (first + pages) parts.1)

@@ -1,18 +1,10 @@
 -- A word is written into a block that is staged.
-use Rattle.std.specs.Prelude.{◌≡◌, ◌≤◌, ◌<◌, ℕ, List, length, IfSome, MatchOption, Option, Some, None}
-use Rattle.std.proofs.Common.{ap, ◌∙◌, inl, arith}
-use Rattle.mg_disk.specs.Disk.{Image, block_at}
-use Rattle.mg_journal.specs.Staged.{staged, waiting}
-use Rattle.mg_model.specs.Layout.{globals_block, table_block}
-use Rattle.mg_pages.proofs.Awaited.{coming-waiting}
-use Rattle.mg_pages.proofs.OneBlock.{coming-more, here-more, shape-more, spelled-more, stages-more}
-use Rattle.mg_pages.proofs.Opened.{same-pages}
-use Rattle.mg_pages.proofs.Sound.{sound-staged}
-use Rattle.mg_pages.proofs.Staging.{length-again, waiting-named, waiting-staged}
-use Rattle.mg_pages.specs.declared.blocks.Blocks.{Blocks}
-use Rattle.mg_pages.specs.declared.pages.Pages.{Pages}
-use Rattle.mg_pages.specs.Held.{IsSound, with_writes}
+use Rattle.{mg_disk.specs.Disk.{Image, block_at}, mg_journal.specs.Staged.{staged, waiting}, mg_model.specs.Layout.{globals_block, table_block}}
+use Rattle.mg_pages.proofs.{Awaited.coming-waiting, OneBlock.{coming-more, here-more, shape-more, spelled-more, stages-more}, Opened.same-pages}
+use Rattle.mg_pages.{proofs.{Sound.sound-staged, Staging.{length-again, waiting-named, waiting-staged}}, specs.Held.{IsSound, with_writes}}
 use Rattle.mg_pages.specs.Meaning.{IsSpelledBy, Restages, coming, is_staged, staged_of, table_in, total_of, waiting_in, words_in}
+use Rattle.{mg_pages.specs.declared.{blocks.Blocks.Blocks, pages.Pages.Pages}, std.{proofs.Common.{ap, ◌∙◌, inl, arith}, specs.Prelude.{◌≡◌, ◌≤◌}}}
+use Rattle.std.specs.Prelude.{◌<◌, ℕ, List, length, IfSome, MatchOption, Option, Some, None}
 
 -- what waits is what is coming there
 pub was-there : (p : Pages) (block : ℕ) → block < table_block → (o : Option (List ℕ)) → waiting p.blocks.writes block ≡ o → IfSome o (λ bytes. (image : Image) → IsSpelledBy p image → block_at (coming p image) block ≡ bytes)

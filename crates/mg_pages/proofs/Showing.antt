@@ -1,13 +1,8 @@
 -- A cache that shows other values than it has is searched, ordered and written to as a cache that has them.
-use Rattle.std.proofs.Common.{arith}
-use Rattle.std.specs.Prelude.{◌≡◌, ℕ, Bool, true, false, cond, List, [], ◌∷◌, Option, Some, None, option_map, nat_eq}
-use Rattle.std.specs.Map.{lookup, lookup_entry, remove_entry, set_value}
-use Rattle.std.specs.Option.{option_map_or}
-use Rattle.std.proofs.Common.{refl, ap, subst, sym, ◌∙◌}
-use Rattle.std.proofs.lemmas.List.{take-map}
-use Rattle.lru.specs.LruCache.{LruCache, lru_cache, promoted, put_entries}
-use Rattle.mg_pages.proofs.Looked.{look-put, look-set}
-use Rattle.mg_pages.specs.Kept.{KeepsThis, kept_at, shown}
+use Rattle.{lru.specs.LruCache.{LruCache, lru_cache, promoted, put_entries}, mg_pages.{proofs.Looked.{look-put, look-set}, specs.Kept.KeepsThis}}
+use Rattle.{mg_pages.specs.Kept.{kept_at, shown}, std.{proofs.{Common.{arith, refl, ap, subst, sym, ◌∙◌}, lemmas.List.take-map}, specs.Map.lookup}}
+use Rattle.std.specs.{Map.{lookup_entry, remove_entry, set_value}, Option.option_map_or, Prelude.{◌≡◌, ℕ, Bool, true, false, cond, List, [], ◌∷◌}}
+use Rattle.std.specs.Prelude.{Option, Some, None, option_map, nat_eq}
 
 -- what is done in both arms is done after the test
 within : {X Y : Type 0} (g : X → Y) (t : Bool) (a b : X) → cond t (g a) (g b) ≡ g (cond t a b)

@@ -1,14 +1,8 @@
 -- What every value of the pages keeps.
-use Rattle.std.specs.Prelude.{◌≡◌, ◌⊎◌, ◌≤◌, ◌<◌, ℕ, true, List, length, IsSome}
-use Rattle.std.specs.List.{position}
-use Rattle.std.proofs.Common.{⊎_elim, inl, inr, arith}
-use Rattle.mg_journal.specs.Contents.{names}
-use Rattle.mg_journal.specs.Staged.{goes_to, staged}
-use Rattle.mg_model.specs.Layout.{body_limit, globals_block}
-use Rattle.mg_model.specs.Tests.{all_distinct}
-use Rattle.mg_model.specs.Volume.{bound_pages}
-use Rattle.mg_pages.proofs.Staging.{fit-staged, length-again, length-staged, once-staged, place-named}
-use Rattle.mg_pages.specs.Held.{IsSound}
+use Rattle.{mg_journal.specs.{Contents.names, Staged.{goes_to, staged}}, mg_model.specs.{Layout.{body_limit, globals_block}, Tests.all_distinct}}
+use Rattle.{mg_model.specs.Volume.bound_pages, mg_pages.proofs.Staging.{fit-staged, length-again, length-staged, once-staged, place-named}}
+use Rattle.{mg_pages.specs.Held.IsSound, std.{proofs.Common.{⊎_elim, inl, inr, arith}, specs.{List.position, Prelude.{◌≡◌, ◌⊎◌, ◌≤◌, ◌<◌, ℕ, true}}}}
+use Rattle.std.specs.Prelude.{List, length, IsSome}
 
 -- a write more, if there is room
 pub room-staged : (writes : List (ℕ × List ℕ)) (block : ℕ) → (names writes block ≡ true) ⊎ (length writes < body_limit) → IsSome (position (goes_to block) writes) ⊎ (length writes < body_limit)

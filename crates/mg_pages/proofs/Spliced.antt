@@ -1,15 +1,8 @@
 -- A word that is written in place of 8 bytes of a block.
-use Rattle.std.specs.Prelude.{◌≡◌, ◌≢◌, ◌+◌, ◌-◌, ◌*◌, ◌<◌, ◌^◌, ℕ, List, ◌++◌, drop, length, slice_set, take}
-use Rattle.std.specs.Int.{from_le_bytes, w64}
-use Rattle.std.specs.List.{splice}
-use Rattle.std.proofs.Common.{refl, inl, inr, sym, ap, ◌∙◌, ⊎_elim, arith}
-use Rattle.std.proofs.lemmas.Bool.{cases_lt}
-use Rattle.std.proofs.lemmas.Nat.{from_le_bytes-to_le_bytes_8}
-use Rattle.std.proofs.lemmas.Slice.{between-put_mid}
-use Rattle.mg_bytes.specs.WordLemmas.{beside}
-use Rattle.mg_model.specs.Abbreviations.{word_bytes}
-use Rattle.mg_model.specs.Bytes.{block_words, number_at}
-use Rattle.mg_pages.proofs.Numbers.{block-set}
+use Rattle.{mg_bytes.specs.WordLemmas.beside, mg_model.specs.{Abbreviations.word_bytes, Bytes.{block_words, number_at}}}
+use Rattle.{mg_pages.proofs.Numbers.block-set, std.proofs.{Common.{refl, inl, inr, sym, ap, ◌∙◌, ⊎_elim, arith}, lemmas.Bool.cases_lt}}
+use Rattle.std.{proofs.lemmas.{Nat.from_le_bytes-to_le_bytes_8, Slice.between-put_mid}, specs.{Int.{from_le_bytes, w64}, List.splice, Prelude.◌≡◌}}
+use Rattle.std.specs.Prelude.{◌≢◌, ◌+◌, ◌-◌, ◌*◌, ◌<◌, ◌^◌, ℕ, List, ◌++◌, drop, length, slice_set, take}
 use borrow.Rule.Slice.PartMut.{Post-is, put_mid}
 
 put-splice : (old bytes : List ℕ) (at : ℕ) → splice old at (at + 8) bytes ≡ put_mid at (at + 8 - at) old bytes

@@ -1,18 +1,10 @@
 -- Blocks of the frame table are staged one after another.
-use Rattle.std.specs.Prelude.{◌≡◌, ◌≢◌, ◌+◌, ◌*◌, ◌/◌, ◌≤◌, ◌<◌, ℕ, false, List, [], length, map, slice_index}
-use Rattle.std.proofs.Common.{ap, ◌∙◌, ⊎_elim, inl, inr, arith}
-use Rattle.std.proofs.lemmas.Bool.{cases_eq, cases_lt}
-use Rattle.std.proofs.lemmas.List.{get_or-map, get_or-set_other, get_or-set_same, get_or_past, length-map}
-use Rattle.mg_disk.specs.Disk.{Image, block_at}
-use Rattle.mg_frames.specs.Words.{is_within, unless_within}
-use Rattle.mg_journal.specs.Staged.{staged}
-use Rattle.mg_journal.specs.WrittenLemmas.{written_elsewhere}
-use Rattle.mg_model.specs.Layout.{table_block}
-use Rattle.mg_model.specs.Replay.{written}
-use Rattle.mg_pages.proofs.OneBlock.{still-named}
-use Rattle.mg_pages.proofs.Staging.{fit-staged, length-kept, length-staged, once-staged, written-staged}
-use Rattle.mg_pages.specs.Entries.{HoldsEntries}
-use Rattle.mg_pages.specs.Parts.{StagesTable}
+use Rattle.{mg_disk.specs.Disk.{Image, block_at}, mg_frames.specs.Words.{is_within, unless_within}, mg_journal.specs.Staged.staged}
+use Rattle.{mg_journal.specs.WrittenLemmas.written_elsewhere, mg_model.specs.{Layout.table_block, Replay.written}}
+use Rattle.mg_pages.proofs.{OneBlock.still-named, Staging.{fit-staged, length-kept, length-staged, once-staged, written-staged}}
+use Rattle.{mg_pages.specs.{Entries.HoldsEntries, Parts.StagesTable}, std.proofs.{Common.{ap, ◌∙◌, ⊎_elim, inl, inr, arith}, lemmas.Bool.cases_eq}}
+use Rattle.std.{proofs.lemmas.{Bool.cases_lt, List.{get_or-map, get_or-set_other, get_or-set_same, get_or_past, length-map}}, specs.Prelude.◌≡◌}
+use Rattle.std.specs.Prelude.{◌≢◌, ◌+◌, ◌*◌, ◌/◌, ◌≤◌, ◌<◌, ℕ, false, List, [], length, map, slice_index}
 
 module _ (frames new_frames : List ℕ) (k : ℕ) (old mid : List (ℕ × List ℕ)) (so_far : StagesTable frames new_frames k old mid) where
   -- a block more that is staged

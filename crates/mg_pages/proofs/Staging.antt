@@ -1,18 +1,11 @@
 -- What a write more does to the writes that wait, and to the image with them.
-use Rattle.std.proofs.lemmas.Grind.{common_steps}
-use Rattle.std.specs.Prelude.{◌≡◌, ◌+◌, ◌≤◌, ◌<◌, ◌==◌, ◌&&◌, ◌||◌, nat_le, nat_lt, ℕ, suc, Bool, true, false, not, List, [], ◌∷◌, ◌++◌, length, option_map, slice_set, Option, Some, None, IsSome}
-use Rattle.std.specs.List.{position}
-use Rattle.std.specs.Option.{option_map_or}
-use Rattle.std.proofs.Common.{refl, sym, ap, ◌∙◌, ⊎_elim, arith, length-append}
-use Rattle.std.proofs.lemmas.Bool.{and_from, and_parts, both_ways, cases_Bool, eq-eqb, eqb-true, le-leb, lt-ltb, ne_eqb, not_from_false, not-true, or_from, or_left, or_parts, or_right}
-use Rattle.std.proofs.lemmas.List.{get_or-set_same, length-set, set_comm, set-set}
-use Rattle.mg_disk.specs.Disk.{Image, block_at}
-use Rattle.mg_frames.specs.Places.{position-here, position-there}
-use Rattle.mg_journal.specs.Contents.{names}
-use Rattle.mg_journal.specs.Staged.{are_once, goes_to, staged, waiting}
-use Rattle.mg_journal.specs.WrittenLemmas.{written_elsewhere}
-use Rattle.mg_model.specs.Layout.{globals_block}
-use Rattle.mg_model.specs.Replay.{homes_fit, written}
+use Rattle.{mg_disk.specs.Disk.{Image, block_at}, mg_frames.specs.Places.{position-here, position-there}, mg_journal.specs.Contents.names}
+use Rattle.{mg_journal.specs.{Staged.{are_once, goes_to, staged, waiting}, WrittenLemmas.written_elsewhere}, mg_model.specs.Layout.globals_block}
+use Rattle.{mg_model.specs.Replay.{homes_fit, written}, std.proofs.{Common.{refl, sym, ap, ◌∙◌, ⊎_elim, arith, length-append}, lemmas.Bool.and_from}}
+use Rattle.std.proofs.lemmas.Bool.{and_parts, both_ways, cases_Bool, eq-eqb, eqb-true, le-leb, lt-ltb, ne_eqb, not_from_false, not-true, or_from}
+use Rattle.std.proofs.lemmas.{Bool.{or_left, or_parts, or_right}, Grind.common_steps, List.{get_or-set_same, length-set, set_comm, set-set}}
+use Rattle.std.specs.{List.position, Option.option_map_or, Prelude.{◌≡◌, ◌+◌, ◌≤◌, ◌<◌, ◌==◌, ◌&&◌, ◌||◌, nat_le, nat_lt, ℕ, suc, Bool, true, false}}
+use Rattle.std.specs.Prelude.{not, List, [], ◌∷◌, ◌++◌, length, option_map, slice_set, Option, Some, None, IsSome}
 
 -- one more write, by the first of those that wait
 pub staged-here : (i b : ℕ) (x y : List ℕ) (ws : List (ℕ × List ℕ)) → (i == b) ≡ true → staged ((i, x) ∷ ws) b y ≡ (b, y) ∷ ws

@@ -1,15 +1,7 @@
 -- A store to a word, from the block that it changes.
-use Rattle.std.specs.Prelude.{◌≡◌, ◌+◌, ◌==◌, ℕ, List, length, slice_set, Option, Some}
-use Rattle.std.specs.List.{position}
-use Rattle.std.specs.Option.{ForSome}
-use Rattle.std.proofs.Common.{subst}
-use Rattle.mg_disk.specs.Disk.{Image, block_at}
-use Rattle.mg_journal.specs.Held.{Store}
-use Rattle.mg_model.specs.Bytes.{block_words}
-use Rattle.mg_model.specs.Layout.{first_frame}
-use Rattle.mg_pages.specs.Kept.{AreKept}
-use Rattle.mg_pages.specs.Meaning.{replayed}
-use Rattle.mg_pages.specs.Parts.{ChangesWord, StagesBlock, coming_of}
+use Rattle.{mg_disk.specs.Disk.{Image, block_at}, mg_journal.specs.Held.Store, mg_model.specs.{Bytes.block_words, Layout.first_frame}}
+use Rattle.{mg_pages.specs.{Kept.AreKept, Meaning.replayed, Parts.{ChangesWord, StagesBlock, coming_of}}, std.proofs.Common.subst}
+use Rattle.std.specs.{List.position, Option.ForSome, Prelude.{◌≡◌, ◌+◌, ◌==◌, ℕ, List, length, slice_set, Option, Some}}
 
 pub changes-word : (told : Option Image) (store : Store) (kept : List (ℕ × List ℕ)) (page index value : ℕ) (frames : List ℕ) (old new : List (ℕ × List ℕ)) (frame block : ℕ)
     → position (λ entry. entry == page) frames ≡ Some frame → block ≡ first_frame (length frames) + frame

@@ -1,19 +1,10 @@
 -- The pages after their frame table was read.
+use Rattle.{mg_disk.specs.{Disk.Image, declared.disk.Disk.Ghosts}, mg_model.specs.{Abbreviations.{table_of, whole_table}, Bytes.are_zeros}}
+use Rattle.{mg_model.specs.{Tests.all_distinct, Volume.bound_pages}, mg_pages.{proofs.Made.made-spelled, specs.Meaning.{IsBare, SpellsTable}}}
+use Rattle.mg_pages.specs.{Meaning.{StandsOn, frame_count, kept_in, replayed, staged_of, total_of}, declared.blocks.Blocks.Blocks}
+use Rattle.{mg_pages.specs.declared.pages.Pages.Pages, std.{proofs.{Common.{sym, ap, ◌∙◌, arith}, lemmas.List.nil_from_length}, specs.Option.ForSome}}
 use Rattle.std.specs.Prelude.{◌≡◌, ℕ, true, List, drop, length, Some}
-use Rattle.std.specs.Option.{ForSome}
-use Rattle.std.proofs.Common.{sym, ap, ◌∙◌, arith}
-use Rattle.std.proofs.lemmas.List.{nil_from_length}
-use Rattle.mg_disk.specs.Disk.{Image}
-use Rattle.mg_disk.specs.declared.disk.Disk.{Ghosts}
 use Rattle.mg_journal.specs.Standing as journal
-use Rattle.mg_model.specs.Abbreviations.{table_of, whole_table}
-use Rattle.mg_model.specs.Bytes.{are_zeros}
-use Rattle.mg_model.specs.Tests.{all_distinct}
-use Rattle.mg_model.specs.Volume.{bound_pages}
-use Rattle.mg_pages.proofs.Made.{made-spelled}
-use Rattle.mg_pages.specs.declared.blocks.Blocks.{Blocks}
-use Rattle.mg_pages.specs.declared.pages.Pages.{Pages}
-use Rattle.mg_pages.specs.Meaning.{IsBare, SpellsTable, StandsOn, frame_count, kept_in, replayed, staged_of, total_of}
 
 -- the pages that the table has stand on the disk, if nothing was staged
 pub stands-loaded : {D : Type 0} (facts : Ghosts D) (p q : Pages) (frames : List ℕ) (disk disk' : D) → q.blocks ≡ p.blocks → q.frames ≡ frames → length frames ≡ length p.frames

@@ -1,19 +1,10 @@
 -- What changes of an image and of the frames leave of the frame table.
-use Rattle.std.specs.Prelude.{◌≡◌, ◌≢◌, ◌+◌, ◌*◌, ◌/◌, ◌≤◌, ◌<◌, ℕ, List, length, slice_set}
-use Rattle.std.proofs.Common.{sym, ap, subst, ◌∙◌, arith}
-use Rattle.std.proofs.lemmas.Bool.{cases_eq}
-use Rattle.std.proofs.lemmas.List.{get_or-set_other}
-use Rattle.mg_disk.specs.Disk.{Image, block_at}
-use Rattle.mg_journal.specs.Held.{Store}
+use Rattle.{mg_disk.specs.Disk.{Image, block_at}, mg_journal.specs.Held.Store, mg_model.specs.{Bytes.number_at, Layout.{first_frame, table_block}}}
+use Rattle.{mg_model.specs.Layout.table_blocks, mg_pages.{proofs.Entries.{holds-spelled, spelled-past, spelled-table}, specs.Entries.HoldsEntries}}
+use Rattle.mg_pages.specs.{Entries.HoldsTable, Kept.AreKept, Meaning.{IsSpelledBy, coming, frame_count, kept_in, replayed, table_in, total_of}}
+use Rattle.{mg_pages.specs.{Parts.coming_of, declared.pages.Pages.Pages}, std.proofs.{Common.{sym, ap, subst, ◌∙◌, arith}, lemmas.Bool.cases_eq}}
+use Rattle.std.{proofs.lemmas.List.get_or-set_other, specs.Prelude.{◌≡◌, ◌≢◌, ◌+◌, ◌*◌, ◌/◌, ◌≤◌, ◌<◌, ℕ, List, length, slice_set}}
 use Rattle.mg_journal.specs.Standing as journal
-use Rattle.mg_model.specs.Bytes.{number_at}
-use Rattle.mg_model.specs.Layout.{first_frame, table_block, table_blocks}
-use Rattle.mg_pages.proofs.Entries.{holds-spelled, spelled-past, spelled-table}
-use Rattle.mg_pages.specs.Entries.{HoldsEntries, HoldsTable}
-use Rattle.mg_pages.specs.declared.pages.Pages.{Pages}
-use Rattle.mg_pages.specs.Kept.{AreKept}
-use Rattle.mg_pages.specs.Meaning.{IsSpelledBy, coming, frame_count, kept_in, replayed, table_in, total_of}
-use Rattle.mg_pages.specs.Parts.{coming_of}
 
 -- a value with the same journal that spells another table, with other writes
 pub spelled-new : (p q : Pages) (image : Image) → q.blocks.store ≡ p.blocks.store → length q.frames ≡ length p.frames

@@ -1,20 +1,11 @@
 -- All that a store to a word does, whether its page had a frame or not.
-use Rattle.std.specs.Prelude.{◌≡◌, ◌≢◌, ◌+◌, ◌/◌, ◌≤◌, ℕ, List, length, OnErr, Option, Result, Some}
-use Rattle.std.proofs.Common.{ap, subst, ◌∙◌, ⊎_elim}
-use Rattle.std.proofs.lemmas.List.{length-set}
-use Rattle.mg_disk.specs.Disk.{Image}
-use Rattle.mg_disk.specs.Stops.{CountRose}
-use Rattle.mg_disk.specs.declared.disk.Disk.{Ghosts}
-use Rattle.mg_journal.specs.Held.{Store}
-use Rattle.mg_model.specs.Layout.{body_limit, first_frame}
-use Rattle.mg_pages.proofs.Begun.{binds-begun, sets-begun, sound-begun, spelled-begun, staged-begun}
-use Rattle.mg_pages.proofs.Changed.{binds-changed, sets-changed, sound-changed, spelled-changed, staged-changed}
-use Rattle.mg_pages.proofs.Opened.{held-kept, same-shape, stands-again}
-use Rattle.mg_pages.specs.declared.pages.Pages.{Pages}
-use Rattle.mg_pages.specs.Entries.{HoldsEntries}
-use Rattle.mg_pages.specs.Held.{IsSound}
-use Rattle.mg_pages.specs.Meaning.{BindsOnly, IsSpelledBy, SameShape, ServesPage, SetsWord, StagesMore, StandsOn}
-use Rattle.mg_pages.specs.Parts.{BindsWord, ChangesWord, KeepsMore, LooksAt, Stores}
+use Rattle.{mg_disk.specs.{Disk.Image, Stops.CountRose, declared.disk.Disk.Ghosts}, mg_journal.specs.Held.Store, mg_model.specs.Layout.body_limit}
+use Rattle.{mg_model.specs.Layout.first_frame, mg_pages.proofs.Begun.{binds-begun, sets-begun, sound-begun, spelled-begun, staged-begun}}
+use Rattle.mg_pages.proofs.{Changed.{binds-changed, sets-changed, sound-changed, spelled-changed, staged-changed}, Opened.{held-kept, same-shape}}
+use Rattle.mg_pages.{proofs.Opened.stands-again, specs.{Entries.HoldsEntries, Held.IsSound, Meaning.{BindsOnly, IsSpelledBy, SameShape, ServesPage}}}
+use Rattle.mg_pages.specs.{Meaning.{SetsWord, StagesMore, StandsOn}, Parts.{BindsWord, ChangesWord, KeepsMore, LooksAt, Stores}}
+use Rattle.{mg_pages.specs.declared.pages.Pages.Pages, std.{proofs.{Common.{ap, subst, ◌∙◌, ⊎_elim}, lemmas.List.length-set}, specs.Prelude.◌≡◌}}
+use Rattle.std.specs.Prelude.{◌≢◌, ◌+◌, ◌/◌, ◌≤◌, ℕ, List, length, OnErr, Option, Result, Some}
 
 pub sound-stored : (told : Option Image) (store : Store) (kept : List (ℕ × List ℕ)) (page index value : ℕ) (frames frames' : List ℕ) (writes writes' : List (ℕ × List ℕ)) → page ≢ 0 → length writes + 2 ≤ body_limit
     → Stores told store kept page index value frames frames' writes writes' → IsSound store.total frames writes → IsSound store.total frames' writes'

@@ -1,20 +1,15 @@
 -- Lemmas on what lies outside the journal's reach: the length of an image, and the blocks before the globals.
-use Rattle.std.specs.Prelude.{◌≡◌, ◌+◌, ◌<◌, ◌&&◌, nat_le, nat_lt, ℕ, zero, suc, true, false, List, [], ◌∷◌, ◌++◌, length, slice_set, Some}
-use Rattle.std.proofs.Common.{refl, sym, ap, ◌∙◌, ⊎_elim, arith}
-use Rattle.std.proofs.lemmas.Bool.{and_from, and_parts, cases_Bool, leb-true}
-use Rattle.std.proofs.lemmas.List.{get_or-set_other}
-use Rattle.mg_disk.specs.Disk.{Image}
-use Rattle.mg_journal.specs.JournalLemmas.{open_writes, replayed-fits, replayed-is}
-use Rattle.mg_journal.specs.Contents.{bodies_of}
-use Rattle.mg_journal.specs.SegmentLemmas.{fits-open, writes-closed, writes-open}
-use Rattle.mg_journal.specs.Standing as journal
-use Rattle.mg_model.specs.Layout.{body_limit, globals_block, segment_count}
-use Rattle.mg_model.specs.Abbreviations.{segments_fit, writes_since}
-use Rattle.mg_model.specs.Replay.{block_of, body_count, homes_fit, is_open, replay, segment_fits, writes_of, written}
-use Rattle.mg_model.specs.VolumeLemmas.{length-written}
+use Rattle.std.proofs.{Common.{refl, sym, ap, ◌∙◌, ⊎_elim, arith}, lemmas.Bool.{and_from, and_parts, cases_Bool}}
+use Rattle.std.{proofs.lemmas.{Bool.leb-true, List.get_or-set_other}, specs.Prelude.{◌≡◌, ◌+◌, ◌<◌, ◌&&◌, nat_le}}
+use Rattle.std.specs.Prelude.{nat_lt, ℕ, zero, suc, true, false, List, [], ◌∷◌, ◌++◌, length, slice_set, Some}
+use Rattle.{mg_disk.specs.Disk.Image, mg_journal.specs.{Contents.bodies_of, JournalLemmas.{open_writes, replayed-fits}}}
+use Rattle.mg_journal.specs.{JournalLemmas.replayed-is, SegmentLemmas.{fits-open, writes-closed, writes-open}}
+use Rattle.mg_model.specs.{Abbreviations.{segments_fit, writes_since}, Layout.{body_limit, globals_block}}
+use Rattle.mg_model.specs.{Layout.segment_count, Replay.{block_of, body_count, homes_fit, is_open, replay}}
+use Rattle.mg_model.specs.{Replay.{segment_fits, writes_of, written}, VolumeLemmas.length-written}
+use Rattle.mg_pages.specs.{Meaning.{IsSpelledBy, coming, replayed, total_of}, SpelledLemmas.{replayed_is, replays}}
 use Rattle.mg_pages.specs.declared.pages.Pages.{Pages}
-use Rattle.mg_pages.specs.SpelledLemmas.{replayed_is, replays}
-use Rattle.mg_pages.specs.Meaning.{IsSpelledBy, coming, replayed, total_of}
+use Rattle.mg_journal.specs.Standing as journal
 
 -- no home lies before the globals
 written_low : (total : ℕ) (image : Image) (writes : List (ℕ × List ℕ)) (k : ℕ) → homes_fit total writes ≡ true → k < globals_block → block_of (written image writes) k ≡ block_of image k

@@ -1,8 +1,6 @@
 -- What the blocks of the frame table hold.
 use Rattle.std.specs.Prelude.{◌≡◌, ◌+◌, ◌*◌, ◌<◌, ℕ, List, slice_index}
-use Rattle.mg_disk.specs.Disk.{Image, block_at}
-use Rattle.mg_model.specs.Bytes.{number_at}
-use Rattle.mg_model.specs.Layout.{table_block}
+use Rattle.{mg_disk.specs.Disk.{Image, block_at}, mg_model.specs.{Bytes.number_at, Layout.table_block}}
 
 -- these bytes are block k of the frame table
 abbrev pub HoldsEntries : List ℕ → ℕ → List ℕ → Type 0

@@ -1,11 +1,7 @@
 -- The blocks of a volume, changed, and what pages keep.
 use Rattle.std.specs.Prelude.{◌≡◌, ◌≤◌, ℕ, true, List, length}
-use Rattle.mg_journal.specs.Staged.{are_once}
-use Rattle.mg_model.specs.Layout.{body_limit, total_blocks}
-use Rattle.mg_model.specs.Replay.{homes_fit}
-use Rattle.mg_model.specs.Tests.{all_distinct}
-use Rattle.mg_model.specs.Volume.{bound_pages}
-use Rattle.mg_pages.specs.declared.blocks.Blocks.{Blocks}
+use Rattle.{mg_journal.specs.Staged.are_once, mg_model.specs.{Layout.{body_limit, total_blocks}, Replay.homes_fit}}
+use Rattle.{mg_model.specs.{Tests.all_distinct, Volume.bound_pages}, mg_pages.specs.declared.blocks.Blocks.Blocks}
 
 -- these blocks with other writes
 abbrev pub with_writes : Blocks → List (ℕ × List ℕ) → Blocks

@@ -1,8 +1,6 @@
 -- Blocks of the contents that are kept in memory: pairs of a block's number and its bytes.
-use Rattle.std.specs.Prelude.{◌≡◌, ◌≢◌, ◌⊎◌, ◌≤◌, ℕ, List, map, nat_eq, None, Option, Some}
-use Rattle.std.specs.Map.{lookup}
-use Rattle.mg_disk.specs.Disk.{Image, block_at}
-use Rattle.mg_journal.specs.Staged.{waiting}
+use Rattle.std.specs.{Map.lookup, Prelude.{◌≡◌, ◌≢◌, ◌⊎◌, ◌≤◌, ℕ, List, map, nat_eq, None, Option, Some}}
+use Rattle.{mg_disk.specs.Disk.{Image, block_at}, mg_journal.specs.Staged.waiting}
 
 -- the entries of a cache, with the bytes that each value shows
 abbrev pub shown : {V : Type 0} → (V → List ℕ) → List (ℕ × V) → List (ℕ × List ℕ)

@@ -1,11 +1,7 @@
 -- Lemmas on lengths: a page has 512 words, wherever it lies.
-use Rattle.std.specs.Prelude.{◌≡◌, ◌+◌, ◌==◌, ℕ, zero, suc, List, length, position, replicate, Option, Some, None}
-use Rattle.std.specs.Option.{option_map_or}
-use Rattle.std.proofs.Common.{refl, ap}
-use Rattle.std.proofs.lemmas.List.{length-replicate}
-use Rattle.mg_disk.specs.Disk.{Image, block_at}
-use Rattle.mg_model.specs.Bytes.{block_words, numbers_at}
-use Rattle.mg_model.specs.Layout.{first_frame}
+use Rattle.std.{proofs.{Common.{refl, ap}, lemmas.List.length-replicate}, specs.{Option.option_map_or, Prelude.◌≡◌}}
+use Rattle.std.specs.Prelude.{◌+◌, ◌==◌, ℕ, zero, suc, List, length, position, replicate, Option, Some, None}
+use Rattle.{mg_disk.specs.Disk.{Image, block_at}, mg_model.specs.{Bytes.{block_words, numbers_at}, Layout.first_frame}}
 use Rattle.mg_model.specs.Volume.{page_words}
 
 pub length-numbers : (bytes : List ℕ) (from n : ℕ) → length (numbers_at bytes from n) ≡ n

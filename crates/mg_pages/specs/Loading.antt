@@ -1,7 +1,6 @@
 -- A frame table that is read into frames that hold no page yet.
-use Rattle.std.specs.Prelude.{◌≡◌, ◌+◌, ◌*◌, ◌≤◌, ◌<◌, ◌==◌, nat_le, if◌then◌else◌, ℕ, List, length, position, slice_index, slice_set, take}
-use Rattle.std.specs.List.{list_any}
-use Rattle.std.specs.Option.{option_map_or}
+use Rattle.std.specs.{List.list_any, Option.option_map_or, Prelude.{◌≡◌, ◌+◌, ◌*◌, ◌≤◌, ◌<◌, ◌==◌, nat_le}}
+use Rattle.std.specs.Prelude.{if◌then◌else◌, ℕ, List, length, position, slice_index, slice_set, take}
 use Rattle.mg_model.specs.Bytes.{number_at}
 
 -- the frames from this one on are free

@@ -1,24 +1,14 @@
 -- What the pages of a volume are, as functions of the value and an image. The layers above see these words by their names.
-use Rattle.std.specs.Prelude.{◌≡◌, ◌≢◌, ◌⊎◌, ◌+◌, ◌≤◌, ◌<◌, ◌==◌, ◌%◌, ◌^◌, ℕ, Bool, true, false, List, [], length, replicate, slice_set, Option, Result, Some}
-use Rattle.std.specs.List.{list_any}
-use Rattle.std.specs.Option.{ForSome, option_map_or}
-use Rattle.mg_disk.specs.Disk.{Image, block_at}
-use Rattle.mg_disk.specs.Stops.{NothingPending, OnlyReads}
-use Rattle.mg_disk.specs.declared.disk.Disk.{Ghosts}
-use Rattle.mg_journal.specs.Contents.{names}
-use Rattle.mg_journal.specs.Staged.{waiting}
-use Rattle.mg_journal.specs.Standing as journal
-use Rattle.mg_journal.specs.Held.{Store}
-use Rattle.mg_model.specs.Abbreviations.{table_of, whole_table}
-use Rattle.mg_model.specs.Bytes.{are_zeros}
-use Rattle.mg_model.specs.Layout.{first_frame, globals_block, table_block, total_blocks}
-use Rattle.mg_model.specs.Replay.{replay, written}
-use Rattle.mg_model.specs.Tests.{all_distinct}
-use Rattle.mg_model.specs.Volume.{bound_pages, page_words}
-use Rattle.mg_pages.specs.declared.pages.Pages.{Pages}
-use Rattle.mg_pages.specs.Committing.{HasContents}
-use Rattle.mg_pages.specs.Kept.{AreKept}
+use Rattle.std.specs.{List.list_any, Option.{ForSome, option_map_or}, Prelude.{◌≡◌, ◌≢◌, ◌⊎◌, ◌+◌, ◌≤◌, ◌<◌, ◌==◌, ◌%◌}}
+use Rattle.std.specs.Prelude.{◌^◌, ℕ, Bool, true, false, List, [], length, replicate, slice_set, Option, Result, Some}
 use Rattle.std.specs.Prelude.{drop}
+use Rattle.mg_disk.specs.{Disk.{Image, block_at}, Stops.{NothingPending, OnlyReads}, declared.disk.Disk.Ghosts}
+use Rattle.{mg_journal.specs.{Contents.names, Held.Store, Staged.waiting}, mg_model.specs.Abbreviations.table_of}
+use Rattle.mg_model.specs.{Abbreviations.whole_table, Bytes.are_zeros, Layout.{first_frame, globals_block, table_block}}
+use Rattle.mg_model.specs.{Layout.total_blocks, Replay.{replay, written}, Tests.all_distinct, Volume.bound_pages}
+use Rattle.{mg_model.specs.Volume.page_words, mg_pages.specs.{Committing.HasContents, Kept.AreKept}}
+use Rattle.mg_pages.specs.declared.pages.Pages.{Pages}
+use Rattle.mg_journal.specs.Standing as journal
 
 -- the blocks of an image after replay
 abbrev pub replayed : ℕ → Image → Image

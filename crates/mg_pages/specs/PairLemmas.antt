@@ -1,9 +1,7 @@
 -- A search through pairs of words is one through other words that are the same.
-use Rattle.std.specs.Prelude.{◌≡◌, ◌+◌, ◌*◌, ◌≤◌, ◌<◌, ℕ, IfOk, IfSome, Option, Some, None, Result, Ok, Err}
-use Rattle.std.specs.Option.{ForSome}
-use Rattle.std.proofs.Common.{sym, ◌∙◌, arith}
-use Rattle.mg_disk.specs.Disk.{Image}
-use Rattle.mg_pages.specs.Pairs.{IsNextPair}
+use Rattle.std.{proofs.Common.{sym, ◌∙◌, arith}, specs.{Option.ForSome, Prelude.{◌≡◌, ◌+◌, ◌*◌, ◌≤◌, ◌<◌, ℕ, IfOk}}}
+use Rattle.std.specs.Prelude.{IfSome, Option, Some, None, Result, Ok, Err}
+use Rattle.{mg_disk.specs.Disk.Image, mg_pages.specs.Pairs.IsNextPair}
 
 pub same_pair : (word word' : ℕ → ℕ) (from count first : ℕ) (found : Option (ℕ × ℕ)) → count ≤ 255 → ((index : ℕ) → index < 512 → word index ≡ word' index) → IfSome found (λ pair. (from ≤ pair.0) × (pair.0 < count))
     → IsNextPair word from count first found → IsNextPair word' from count first found

@@ -1,6 +1,5 @@
 -- Pairs of words: pair j of a page is its words 2 + 2 * j and 3 + 2 * j.
-use Rattle.std.specs.Prelude.{◌≡◌, ◌≢◌, ◌+◌, ◌-◌, ◌*◌, ◌≤◌, ◌<◌, ℕ, Option, IfSome}
-use Rattle.std.specs.Option.{option_map_or}
+use Rattle.std.specs.{Option.option_map_or, Prelude.{◌≡◌, ◌≢◌, ◌+◌, ◌-◌, ◌*◌, ◌≤◌, ◌<◌, ℕ, Option, IfSome}}
 
 -- the places of pairs from one on and before another; a page has 255 pairs
 pub record ArePlaces (from count : ℕ) : Type 0 where

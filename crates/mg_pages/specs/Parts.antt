@@ -1,21 +1,10 @@
 -- What the parts of a change of pages do, over the lists that they are given.
-use Rattle.std.specs.Prelude.{◌≡◌, ◌⊎◌, ◌+◌, ◌/◌, ◌≤◌, ◌<◌, ◌==◌, ℕ, true, false, List, [], length, replicate, slice_set, Option, Result, Some}
-use Rattle.std.specs.List.{list_any, position}
-use Rattle.std.specs.Option.{ForSome}
-use Rattle.mg_disk.specs.Disk.{Image, block_at}
-use Rattle.mg_disk.specs.Stops.{OnlyReads}
-use Rattle.mg_disk.specs.declared.disk.Disk.{Ghosts}
-use Rattle.mg_journal.specs.Contents.{names}
-use Rattle.mg_journal.specs.Staged.{are_once, staged}
-use Rattle.mg_journal.specs.Held.{Store}
-use Rattle.mg_journal.specs.Standing.{Stands}
-use Rattle.mg_model.specs.Bytes.{block_words}
-use Rattle.mg_model.specs.Layout.{first_frame, table_block}
-use Rattle.mg_model.specs.Replay.{homes_fit, written}
-use Rattle.mg_pages.specs.Entries.{HoldsEntries}
-use Rattle.mg_pages.specs.declared.blocks.Blocks.{Blocks}
-use Rattle.mg_pages.specs.Kept.{AreKept}
-use Rattle.mg_pages.specs.Meaning.{replayed}
+use Rattle.std.specs.{List.{list_any, position}, Option.ForSome, Prelude.{◌≡◌, ◌⊎◌, ◌+◌, ◌/◌, ◌≤◌, ◌<◌, ◌==◌, ℕ, true}}
+use Rattle.std.specs.Prelude.{false, List, [], length, replicate, slice_set, Option, Result, Some}
+use Rattle.mg_disk.specs.{Disk.{Image, block_at}, Stops.OnlyReads, declared.disk.Disk.Ghosts}
+use Rattle.mg_journal.specs.{Contents.names, Held.Store, Staged.{are_once, staged}, Standing.Stands}
+use Rattle.mg_model.specs.{Bytes.block_words, Layout.{first_frame, table_block}, Replay.{homes_fit, written}}
+use Rattle.mg_pages.specs.{Entries.HoldsEntries, Kept.AreKept, Meaning.replayed, declared.blocks.Blocks.Blocks}
 
 -- the blocks that an image will have once these writes are committed
 abbrev pub coming_of : Store → List (ℕ × List ℕ) → Image → Image

@@ -1,19 +1,12 @@
 -- Lemmas on an image that spells the pages: what the layer above may know of it.
-use Rattle.std.specs.Prelude.{◌≡◌, ◌≤◌, ℕ, true, List, [], ◌∷◌, drop, length, Option, Some}
-use Rattle.std.specs.Option.{ForSome, option_map_or}
-use Rattle.std.proofs.Common.{refl, sym, ap, ◌∙◌, arith}
-use Rattle.mg_disk.specs.Disk.{Image}
-use Rattle.mg_disk.specs.declared.disk.Disk.{Ghosts}
+use Rattle.std.{proofs.Common.{refl, sym, ap, ◌∙◌, arith}, specs.{Option.{ForSome, option_map_or}, Prelude.{◌≡◌, ◌≤◌}}}
+use Rattle.std.specs.Prelude.{ℕ, true, List, [], ◌∷◌, drop, length, Option, Some}
+use Rattle.{mg_disk.specs.{Disk.Image, declared.disk.Disk.Ghosts}, mg_journal.specs.Held.Store}
+use Rattle.mg_model.specs.{Abbreviations.{table_of, whole_table}, Bytes.are_zeros, Layout.total_blocks, Replay.replay}
+use Rattle.{mg_model.specs.{Replay.written, Tests.all_distinct, Volume.bound_pages}, mg_pages.specs.Meaning.IsSpelledBy}
+use Rattle.mg_pages.specs.Meaning.{Spelled, StandsOn, coming, frame_count, replayed, staged_in, staged_of, store_of}
+use Rattle.mg_pages.specs.{Meaning.{table_in, total_of}, declared.pages.Pages.Pages}
 use Rattle.mg_journal.specs.Standing as journal
-use Rattle.mg_journal.specs.Held.{Store}
-use Rattle.mg_model.specs.Abbreviations.{table_of, whole_table}
-use Rattle.mg_model.specs.Bytes.{are_zeros}
-use Rattle.mg_model.specs.Layout.{total_blocks}
-use Rattle.mg_model.specs.Replay.{replay, written}
-use Rattle.mg_model.specs.Tests.{all_distinct}
-use Rattle.mg_model.specs.Volume.{bound_pages}
-use Rattle.mg_pages.specs.declared.pages.Pages.{Pages}
-use Rattle.mg_pages.specs.Meaning.{IsSpelledBy, Spelled, StandsOn, coming, frame_count, replayed, staged_in, staged_of, store_of, table_in, total_of}
 
 spelled : (p : Pages) (image : Image) → IsSpelledBy p image → Spelled p image
 unfolding IsSpelledBy

@@ -1,15 +1,11 @@
 -- The gaps once a range is taken, and once it is given back.
-use Rattle.std.specs.Prelude.{◌≡◌, ◌≢◌, ◌+◌, ◌-◌, ◌<◌, ◌≤◌, ℕ, suc, List, [], ◌++◌, ◌∷◌, All, drop, length, take}
-use Rattle.std.specs.List.{AllWithin, remove}
-use Rattle.std.proofs.Common.{refl, sym, ap, ◌∙◌, subst, ⊎_elim, arith, append_assoc, get_or, length-append}
-use Rattle.std.proofs.lemmas.Bool.{cases_lt}
-use Rattle.std.proofs.lemmas.List.{append-nil, get_or-append_right, get_or_append_left, get_or_at}
-use Rattle.std.proofs.lemmas.List.Elements.{All-append, All-cons, All-nil, All-weaker}
-use Rattle.mg_model.specs.Limits.{first_page, page_end}
-use Rattle.mg_ranges.specs.Gaps.{AreGapsOf, AreTaken, LieFrom, gaps_of, piece}
-use Rattle.mg_ranges.specs.Kept.{Ascends, HasTaken}
-use Rattle.mg_ranges.proofs.Lists.{part-ends, put-at, remove-at}
-use Rattle.mg_ranges.proofs.Spans.{all-piece, end_of, gaps-ascend, gaps-count, gaps-here, gaps-high, gaps-split, lie-begin, lie-end, lie-start, lie-without, piece-none, piece-some, rest-above, rest_of, start_of, up_to, up_to-before}
+use Rattle.{mg_model.specs.Limits.{first_page, page_end}, mg_ranges.proofs.{Lists.{part-ends, put-at, remove-at}, Spans.{all-piece, end_of}}}
+use Rattle.mg_ranges.proofs.Spans.{gaps-ascend, gaps-count, gaps-here, gaps-high, gaps-split, lie-begin, lie-end, lie-start, lie-without, piece-none}
+use Rattle.mg_ranges.{proofs.Spans.{piece-some, rest-above, rest_of, start_of, up_to, up_to-before}, specs.Gaps.{AreGapsOf, AreTaken, LieFrom}}
+use Rattle.{mg_ranges.specs.{Gaps.{gaps_of, piece}, Kept.{Ascends, HasTaken}}, std.proofs.Common.{refl, sym, ap, ◌∙◌, subst, ⊎_elim, arith}}
+use Rattle.std.proofs.{Common.{append_assoc, get_or, length-append}, lemmas.{Bool.cases_lt, List.{append-nil, get_or-append_right}}}
+use Rattle.std.{proofs.lemmas.List.{get_or_append_left, get_or_at, Elements.{All-append, All-cons, All-nil, All-weaker}}, specs.List.AllWithin}
+use Rattle.std.specs.{List.remove, Prelude.{◌≡◌, ◌≢◌, ◌+◌, ◌-◌, ◌<◌, ◌≤◌, ℕ, suc, List, [], ◌++◌, ◌∷◌, All, drop, length, take}}
 
 -- gaps that some ranges leave
 pub kept-ascend : (gaps : List (ℕ × ℕ)) → HasTaken gaps → Ascends gaps

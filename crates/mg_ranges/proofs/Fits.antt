@@ -1,11 +1,8 @@
 -- The first gap with at least n pages begins at the lowest page from which on n pages are free.
-use Rattle.std.specs.Prelude.{◌≡◌, ◌+◌, ◌-◌, ◌<◌, ◌≤◌, ◌⊎◌, ◌||◌, ℕ, Bool, true, false, List, [], ◌++◌, ◌∷◌, Option, None, Some, find, nat_le}
-use Rattle.std.specs.List.{list_all}
-use Rattle.std.proofs.Common.{refl, sym, ap, ◌∙◌, inl, ⊎_elim, arith}
-use Rattle.std.proofs.lemmas.Bool.{cases_Bool, cases_lt, cond-false, cond-true, le-leb, leb-true}
-use Rattle.mg_model.specs.Limits.{page_end}
-use Rattle.mg_ranges.specs.Gaps.{LieFrom, gaps_from, piece}
-use Rattle.mg_ranges.proofs.Spans.{piece-none, piece-some}
+use Rattle.{mg_model.specs.Limits.page_end, mg_ranges.{proofs.Spans.{piece-none, piece-some}, specs.Gaps.{LieFrom, gaps_from, piece}}}
+use Rattle.std.proofs.{Common.{refl, sym, ap, ◌∙◌, inl, ⊎_elim, arith}, lemmas.Bool.{cases_Bool, cases_lt, cond-false, cond-true, le-leb, leb-true}}
+use Rattle.std.specs.{List.list_all, Prelude.{◌≡◌, ◌+◌, ◌-◌, ◌<◌, ◌≤◌, ◌⊎◌, ◌||◌, ℕ, Bool, true, false, List, [], ◌++◌, ◌∷◌, Option, None, Some}}
+use Rattle.std.specs.Prelude.{find, nat_le}
 
 -- whether this many pages from one on are none of a range, and of no range
 abbrev is_beside : ℕ → ℕ → ℕ × ℕ → Bool

@@ -1,11 +1,8 @@
 -- What a range that may be taken, or given back, says of the gaps and the place that was found.
+use Rattle.{mg_model.specs.Limits.page_end, mg_ranges.proofs.Cuts.{NoneBefore, NoneBehind, WithBefore, WithBehind, begin-high, cut-gaps, cut-high}}
+use Rattle.mg_ranges.{proofs.Cuts.{gap-end, given, given-high, joined-high, left-count, place, same-gaps}, specs.Gaps.{AreGapsOf, AreTaken, piece}}
+use Rattle.{mg_ranges.specs.Kept.{CanGive, CanTake}, std.{proofs.Common.{subst, arith, get_or, length-append}, specs.List.{AllWithin, remove}}}
 use Rattle.std.specs.Prelude.{◌≡◌, ◌+◌, ◌<◌, ◌≤◌, ℕ, List, ◌++◌, ◌∷◌, All, drop, length, take}
-use Rattle.std.specs.List.{AllWithin, remove}
-use Rattle.std.proofs.Common.{subst, arith, get_or, length-append}
-use Rattle.mg_model.specs.Limits.{page_end}
-use Rattle.mg_ranges.specs.Gaps.{AreGapsOf, AreTaken, piece}
-use Rattle.mg_ranges.specs.Kept.{CanGive, CanTake}
-use Rattle.mg_ranges.proofs.Cuts.{NoneBefore, NoneBehind, WithBefore, WithBehind, begin-high, cut-gaps, cut-high, gap-end, given, given-high, joined-high, left-count, place, same-gaps}
 
 -- how many gaps begin at a page or before it
 pub record Counted (gaps : List (ℕ × ℕ)) (page i : ℕ) : Type 0 where

@@ -1,11 +1,8 @@
 -- Lists that are made of parts, and the place where one part ends.
-use Rattle.std.specs.Prelude.{◌≡◌, ◌+◌, ◌-◌, ◌<◌, ◌≤◌, ℕ, suc, List, [], ◌++◌, ◌∷◌, All, drop, length, take}
-use Rattle.std.specs.List.{AllWithin, remove}
-use Rattle.std.specs.List.Sorted.{IsNonDecreasingBy}
-use Rattle.std.proofs.Common.{refl, sym, ap, ◌∙◌, subst, ⊎_elim, arith, append_assoc, length-append}
-use Rattle.mg_ranges.specs.Kept.{Ascends}
-use Rattle.std.proofs.lemmas.Bool.{cases_lt}
-use Rattle.std.proofs.lemmas.List.{drop_at, get_or-append_right, get_or_append_left, length-drop, length-take-le, take_at}
+use Rattle.{mg_ranges.specs.Kept.Ascends, std.proofs.Common.{refl, sym, ap, ◌∙◌, subst, ⊎_elim, arith, append_assoc, length-append}}
+use Rattle.std.proofs.lemmas.{Bool.cases_lt, List.{drop_at, get_or-append_right, get_or_append_left, length-drop, length-take-le, take_at}}
+use Rattle.std.specs.{List.{AllWithin, remove, Sorted.IsNonDecreasingBy}, Prelude.{◌≡◌, ◌+◌, ◌-◌, ◌<◌, ◌≤◌, ℕ, suc, List, [], ◌++◌, ◌∷◌, All, drop}}
+use Rattle.std.specs.Prelude.{length, take}
 
 -- an element between two parts
 pub drop-past : {X : Type 0} (xs : List X) (x : X) (ys : List X) → drop (suc (length xs)) (xs ++ x ∷ ys) ≡ ys

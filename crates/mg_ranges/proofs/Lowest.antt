@@ -1,18 +1,10 @@
 -- The first gap with at least n pages begins at the lowest free page of the definition, and there is one.
-use Rattle.std.specs.Prelude.{◌≡◌, ◌+◌, ◌*◌, ◌&&◌, ◌≤◌, ◌⊎◌, ◌||◌, ℕ, Bool, true, false, List, [], ◌∷◌, All, None, Some, find, filter, length, map, min, nat_le, sum_by}
-use Rattle.std.proofs.Common.{refl, sym, ap, ◌∙◌, inl, inr, subst, ⊎_elim, arith}
-use Rattle.std.proofs.lemmas.Bool.{cases_Bool, cases_lt, cond-false, cond-true, leb-false, leb-true, or_cases}
-use Rattle.std.proofs.lemmas.List.Sums.{sum_by-cons}
-use Rattle.mg_model.specs.Abbreviations.{is_apart, least}
-use Rattle.mg_model.specs.Limits.{first_page, page_end}
-use Rattle.mg_model.specs.Objects.{is_free, lowest_free, page_behind}
-use Rattle.mg_model.specs.State.{Object}
-use Rattle.mg_model.specs.RowTestLemmas.{list_all-tells}
-use Rattle.mg_ranges.specs.Gaps.{AreGapsOf, LieFrom, spans_of}
-use Rattle.mg_ranges.specs.Kept.{HasRoom}
-use Rattle.mg_ranges.proofs.Cuts.{left-count}
-use Rattle.mg_ranges.proofs.Fits.{IsEnd, IsLowest, are_beside, fit-lowest, fits}
-use Rattle.mg_ranges.proofs.Spans.{gaps-sum}
+use Rattle.mg_model.specs.{Abbreviations.{is_apart, least}, Limits.{first_page, page_end}, Objects.{is_free, lowest_free, page_behind}}
+use Rattle.{mg_model.specs.{RowTestLemmas.list_all-tells, State.Object}, mg_ranges.proofs.{Cuts.left-count, Fits.{IsEnd, IsLowest, are_beside}}}
+use Rattle.mg_ranges.{proofs.{Fits.{fit-lowest, fits}, Spans.gaps-sum}, specs.{Gaps.{AreGapsOf, LieFrom, spans_of}, Kept.HasRoom}}
+use Rattle.std.proofs.{Common.{refl, sym, ap, ◌∙◌, inl, inr, subst, ⊎_elim, arith}, lemmas.Bool.{cases_Bool, cases_lt, cond-false, cond-true}}
+use Rattle.std.{proofs.lemmas.{Bool.{leb-false, leb-true, or_cases}, List.Sums.sum_by-cons}, specs.Prelude.{◌≡◌, ◌+◌, ◌*◌, ◌&&◌, ◌≤◌, ◌⊎◌, ◌||◌, ℕ}}
+use Rattle.std.specs.Prelude.{Bool, true, false, List, [], ◌∷◌, All, None, Some, find, filter, length, map, min, nat_le, sum_by}
 
 -- a number of a list
 abbrev IsAmong : ℕ → List ℕ → Type 0

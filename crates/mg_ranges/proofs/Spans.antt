@@ -1,13 +1,8 @@
 -- Ranges that lie one after another, and the gaps between them.
+use Rattle.{mg_model.specs.Limits.{first_page, page_end}, mg_ranges.specs.{Gaps.{AreTaken, LieFrom, gaps_from, piece}, Kept.Ascends}}
+use Rattle.std.proofs.{Common.{refl, sym, ap, ◌∙◌, ⊎_elim, arith, append_assoc, length-append}, lemmas.Bool.{cases_lt, le-ltb, lt-ltb}}
+use Rattle.std.proofs.lemmas.List.{append-nil, length-take, take-append-drop, Elements.{All-append, All-nil}, Sums.{sum_by-append, sum_by-cons}}
 use Rattle.std.specs.Prelude.{◌≡◌, ◌+◌, ◌-◌, ◌<◌, ◌≤◌, ℕ, zero, suc, Bool, List, [], ◌++◌, ◌∷◌, All, drop, if◌then◌else◌, length, sum_by, take}
-use Rattle.std.proofs.Common.{refl, sym, ap, ◌∙◌, ⊎_elim, arith, append_assoc, length-append}
-use Rattle.std.proofs.lemmas.Bool.{cases_lt, le-ltb, lt-ltb}
-use Rattle.std.proofs.lemmas.List.{append-nil, length-take, take-append-drop}
-use Rattle.std.proofs.lemmas.List.Elements.{All-append, All-nil}
-use Rattle.std.proofs.lemmas.List.Sums.{sum_by-append, sum_by-cons}
-use Rattle.mg_model.specs.Limits.{first_page, page_end}
-use Rattle.mg_ranges.specs.Gaps.{AreTaken, LieFrom, gaps_from, piece}
-use Rattle.mg_ranges.specs.Kept.{Ascends}
 
 -- a range with a page, and one without
 pub piece-some : (a b : ℕ) → a < b → piece a b ≡ (a, b - a) ∷ []

@@ -1,8 +1,6 @@
 -- Ranges of pages, each with its first page and its number of pages, and the gaps between them.
 use Rattle.std.specs.Prelude.{◌≡◌, ◌+◌, ◌-◌, ◌≤◌, ◌++◌, ℕ, List, [], ◌∷◌, if◌then◌else◌, length, map, nat_lt}
-use Rattle.mg_model.specs.Limits.{first_page, page_end}
-use Rattle.mg_model.specs.Objects.{page_of}
-use Rattle.mg_model.specs.State.{Object}
+use Rattle.mg_model.specs.{Limits.{first_page, page_end}, Objects.page_of, State.Object}
 
 -- the range from one page to before another, if it has a page
 abbrev pub piece : ℕ → ℕ → List (ℕ × ℕ)

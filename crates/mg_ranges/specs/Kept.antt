@@ -1,6 +1,5 @@
 -- What is known of gaps while ranges are taken and given.
-use Rattle.std.specs.Prelude.{◌<◌, ◌≤◌, ◌++◌, ◌∷◌, ℕ, List, sum_by}
-use Rattle.std.specs.List.{AllPairs}
+use Rattle.std.specs.{List.AllPairs, Prelude.{◌<◌, ◌≤◌, ◌++◌, ◌∷◌, ℕ, List, sum_by}}
 use Rattle.mg_ranges.specs.Gaps.{AreGapsOf, AreTaken}
 
 -- each gap begins after those before it

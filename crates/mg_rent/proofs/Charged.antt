@@ -1,21 +1,12 @@
 -- All accounts that are charged, one after another.
-use Rattle.std.proofs.Common.{◌≡◌, ℕ, zero, suc, ◌+◌, ◌-◌, ◌*◌, ◌^◌, ◌<◌, ◌≤◌, ◌==◌, Bool, true, false, cond, if◌then◌else◌, List, [], ◌∷◌, Option, Some, None, filter, length, get_or, set, take, refl, ap, sym, subst, ◌∙◌, arith}
-use Rattle.std.specs.Option.{option_map_or}
-use Rattle.std.proofs.lemmas.Bool.{cond-false, cond-true, eq-eqb, ne_eqb}
-use Rattle.std.proofs.lemmas.List.Elements.{All-cons, All-head, All-nil, All-set, All-tail}
-use Rattle.std.proofs.lemmas.List.Sums.{sum_by-cons}
-use Rattle.std.proofs.lemmas.Nat.{mul-le}
-use Rattle.std.proofs.Math.Seq.{take-length}
-use Rattle.mg_bank.specs.AccountLemmas.{account_of-at, with_account-credits}
-use Rattle.mg_model.specs.AccountLemmas.{account_of-row}
-use Rattle.mg_bank.specs.Bank.{credits_of, pages_at}
-use Rattle.mg_model.specs.declared.accounts.AccRow.{AccRow}
-use Rattle.mg_model.specs.Abbreviations.{with_account}
-use Rattle.mg_model.specs.Bank.{account_of, all_charged, all_paid, charged, credited, owed_by, paid, pages_of, used}
-use Rattle.mg_model.specs.Limits.{debt_limit, step_limit}
-use Rattle.mg_model.specs.State.{Object}
-use Rattle.mg_rent.specs.Charging.{ArePagesOf, OweAtMost, charged_at, paid_at}
-use Rattle.mg_rent.proofs.Mixed.{length-mixed, mixed, mixed-all, mixed-at, mixed-set}
+use Rattle.mg_bank.specs.{AccountLemmas.{account_of-at, with_account-credits}, Bank.{credits_of, pages_at}}
+use Rattle.mg_model.specs.{Abbreviations.with_account, AccountLemmas.account_of-row, Bank.{account_of, all_charged, all_paid, charged, credited}}
+use Rattle.mg_model.specs.{Bank.{owed_by, paid, pages_of, used}, Limits.{debt_limit, step_limit}, State.Object, declared.accounts.AccRow.AccRow}
+use Rattle.mg_rent.{proofs.Mixed.{length-mixed, mixed, mixed-all, mixed-at, mixed-set}, specs.Charging.{ArePagesOf, OweAtMost, charged_at, paid_at}}
+use Rattle.std.proofs.Common.{◌≡◌, ℕ, zero, suc, ◌+◌, ◌-◌, ◌*◌, ◌^◌, ◌<◌, ◌≤◌, ◌==◌, Bool, true, false, cond, if◌then◌else◌, List, [], ◌∷◌, Option}
+use Rattle.std.proofs.{Common.{Some, None, filter, length, get_or, set, take, refl, ap, sym, subst, ◌∙◌, arith}, Math.Seq.take-length}
+use Rattle.std.proofs.lemmas.{Bool.{cond-false, cond-true, eq-eqb, ne_eqb}, List.Elements.{All-cons, All-head, All-nil, All-set, All-tail}}
+use Rattle.std.{proofs.lemmas.{List.Sums.sum_by-cons, Nat.mul-le}, specs.Option.option_map_or}
 
 -- an object for each number from k on, of as many pages as the list says, which pays for it
 abbrev pub bare_from : ℕ → List ℕ → List Object

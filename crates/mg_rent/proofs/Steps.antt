@@ -1,12 +1,8 @@
 -- The rate of a tariff, found step by step.
-use Rattle.std.proofs.Common.{◌≡◌, ℕ, zero, suc, ◌+◌, ◌<◌, ◌≤◌, ◌==◌, nat_le, nat_lt, ◌&&◌, Bool, true, false, cond, List, [], ◌∷◌, length, get_or, drop, refl, ap, sym, ◌∙◌, arith}
-use Rattle.std.proofs.lemmas.Bool.{and_parts, leb-true}
-use Rattle.mg_model.specs.StepwiseLemmas.{from_at, rate_at, rate_from, rate_of-from, tariff_places}
-use Rattle.mg_model.specs.SuperblockLemmas.{tariff-four}
-use Rattle.std.proofs.lemmas.List.{drop_all}
-use Rattle.mg_model.specs.Bank.{rate_of}
-use Rattle.mg_model.specs.Limits.{step_limit}
-use Rattle.mg_model.specs.Tariff.{is_tariff}
+use Rattle.mg_model.specs.{Bank.rate_of, Limits.step_limit, StepwiseLemmas.{from_at, rate_at, rate_from, rate_of-from, tariff_places}}
+use Rattle.{mg_model.specs.{SuperblockLemmas.tariff-four, Tariff.is_tariff}, std.proofs.Common.{◌≡◌, ℕ, zero, suc, ◌+◌, ◌<◌, ◌≤◌, ◌==◌, nat_le}}
+use Rattle.std.proofs.Common.{nat_lt, ◌&&◌, Bool, true, false, cond, List, [], ◌∷◌, length, get_or, drop, refl, ap, sym, ◌∙◌, arith}
+use Rattle.std.proofs.lemmas.{Bool.{and_parts, leb-true}, List.drop_all}
 
 -- the next step holds, or the rate before it stays
 pub rate-next : (before : ℕ) (steps : List (ℕ × ℕ)) (i : ℕ) (d : ℕ × ℕ) (pages : ℕ) → i < length steps

@@ -1,11 +1,8 @@
 -- One account that is charged, and what accounts owe.
-use Rattle.std.specs.Prelude.{◌≡◌, ◌≤◌, ℕ, All, List, length}
-use Rattle.std.specs.Option.{option_map_or}
+use Rattle.std.specs.{Option.option_map_or, Prelude.{◌≡◌, ◌≤◌, ℕ, All, List, length}}
+use Rattle.{mg_bank.specs.Bank.{BankHeld, credits_of, pages_at}, mg_model.specs.Abbreviations.with_account}
+use Rattle.mg_model.specs.{Bank.{account_of, all_charged, all_paid, charged, credited, paid, pages_of}, State.Object}
 use Rattle.mg_model.specs.declared.accounts.AccRow.{AccRow}
-use Rattle.mg_bank.specs.Bank.{BankHeld, credits_of, pages_at}
-use Rattle.mg_model.specs.Abbreviations.{with_account}
-use Rattle.mg_model.specs.Bank.{account_of, all_charged, all_paid, charged, credited, paid, pages_of}
-use Rattle.mg_model.specs.State.{Object}
 
 -- the accounts after one of them was charged what is due
 abbrev pub charged_at : List AccRow → ℕ → ℕ → List AccRow

@@ -1,15 +1,9 @@
 -- The rows that a block of accounts begins with, spelled one after the other.
-use Rattle.std.specs.Prelude.{◌≡◌, ◌≤◌, ◌<◌, ◌+◌, ◌*◌, ◌-◌, ℕ, Bool, true, false, List, ◌++◌, drop, take, length, replicate, nat_lt, slice_get, Some}
-use Rattle.std.proofs.Common.{refl, sym, ap, ◌∙◌, arith, below_more, get_or, length-append}
-use Rattle.std.proofs.lemmas.Bool.{ltb-true, ltb-false}
-use Rattle.std.proofs.lemmas.List.{drop-take, drop-replicate, take-append-le, take-replicate, take_all}
-use Rattle.std.proofs.lemmas.Option.{slice_get-get_or, slice_get_past}
-use Rattle.mg_model.specs.declared.accounts.AccRow.{AccRow}
-use Rattle.mg_model.specs.Bytes.{bytes_at, padded_to}
-use Rattle.mg_model.specs.BytesLemmas.{bytes_at-behind}
-use Rattle.mg_model.specs.Spelling.{account_read}
-use Rattle.mg_rows.specs.Blocks.{account_in}
-use Rattle.mg_rows.proofs.Padded.{padded_twice}
+use Rattle.mg_model.specs.{Bytes.{bytes_at, padded_to}, BytesLemmas.bytes_at-behind, Spelling.account_read, declared.accounts.AccRow.AccRow}
+use Rattle.{mg_rows.{proofs.Padded.padded_twice, specs.Blocks.account_in}, std.proofs.Common.{refl, sym, ap, ◌∙◌, arith, below_more, get_or}}
+use Rattle.std.proofs.{Common.length-append, lemmas.{Bool.{ltb-true, ltb-false}, List.{drop-take, drop-replicate, take-append-le, take-replicate}}}
+use Rattle.std.{proofs.lemmas.{List.take_all, Option.{slice_get-get_or, slice_get_past}}, specs.Prelude.{◌≡◌, ◌≤◌, ◌<◌, ◌+◌, ◌*◌, ◌-◌, ℕ, Bool, true}}
+use Rattle.std.specs.Prelude.{false, List, ◌++◌, drop, take, length, replicate, nat_lt, slice_get, Some}
 
 -- the first n rows from a place on are spelled in these bytes
 pub record AreRows (rows : List AccRow) (first n : ℕ) (bytes : List ℕ) : Type 0 where

@@ -1,9 +1,6 @@
 -- What is written into a part of a block is there, and the parts beside it are as they were.
-use Rattle.std.specs.Prelude.{◌≡◌, ◌⊎◌, ◌+◌, ◌≤◌, ℕ, List, drop, length, take}
-use Rattle.std.proofs.Common.{sym, ap, ◌∙◌, ⊎_elim, arith}
-use Rattle.std.proofs.lemmas.List.{drop-take, drop_at, length-take, take_at}
-use Rattle.std.proofs.lemmas.Slice.{drop-put_mid, take-put_mid_below}
-use Rattle.mg_model.specs.Bytes.{bytes_at}
+use Rattle.{mg_model.specs.Bytes.bytes_at, std.proofs.{Common.{sym, ap, ◌∙◌, ⊎_elim, arith}, lemmas.List.{drop-take, drop_at, length-take, take_at}}}
+use Rattle.std.{proofs.lemmas.Slice.{drop-put_mid, take-put_mid_below}, specs.Prelude.{◌≡◌, ◌⊎◌, ◌+◌, ◌≤◌, ℕ, List, drop, length, take}}
 use borrow.Rule.Slice.PartMut.{put_mid}
 
 pub beside : (old bytes : List ℕ) (at k n b : ℕ) → k ≡ n → length bytes ≡ n → at + n ≤ length old → (b + n ≤ at) ⊎ (at + n ≤ b) → bytes_at (put_mid at k old bytes) b n ≡ bytes_at old b n

@@ -1,21 +1,13 @@
 -- An object's fields are read back from its bytes.
-use Rattle.std.proofs.Common.{◌≡◌, true, ℕ, ◌+◌, ◌-◌, ◌*◌, ◌≤◌, [], ◌∷◌, ◌++◌, List, All, Option, Some, None, if◌then◌else◌, is_some, length, map, replicate, drop, get_or, min, slice_index, refl, sym, ap, ◌∙◌, arith, append_assoc}
-use Rattle.std.specs.Option.{ForSome, option_map_or}
-use Rattle.std.proofs.lemmas.List.{drop-drop, drop_at, get_or-drop, length-map}
-use Rattle.std.proofs.lemmas.List.Elements.{All-cons, All-map, All-nil, All-weaker}
-use Rattle.mg_model.specs.declared.slots.Pw.{Pw}
-use Rattle.mg_model.specs.declared.slots.Slot.{Slot}
-use Rattle.mg_model.specs.Abbreviations.{extension_at, live_if, object_head, passwords_at}
-use Rattle.mg_model.specs.Bytes.{are_zeros, number_at, numbers_at, padded_to, words_bytes}
-use Rattle.mg_model.specs.BytesLemmas.{length-padded_to, length-words_bytes, numbers_at-behind, numbers_at-first}
-use Rattle.mg_model.specs.PasswordRows.{IsPassword}
-use Rattle.mg_model.specs.Ranges.{IsEntryOf, IsExtension, IsObjectRow, IsPlace, IsWord}
-use Rattle.mg_model.specs.RowLemmas.{are_zeros-replicate, object-live, read-free}
-use Rattle.mg_model.specs.Spelling.{object_bytes, object_fields, object_read}
-use Rattle.mg_model.specs.State.{ObjectRow}
-use Rattle.mg_model.specs.Tests.{is_object_row}
-use Rattle.mg_rows.proofs.ObjectKeeps.{object-keeps}
-use Rattle.mg_rows.proofs.ObjectRows.{length-words}
+use Rattle.mg_model.specs.{Abbreviations.{extension_at, live_if, object_head, passwords_at}, Bytes.{are_zeros, number_at, numbers_at, padded_to}}
+use Rattle.mg_model.specs.{Bytes.words_bytes, BytesLemmas.{length-padded_to, length-words_bytes, numbers_at-behind, numbers_at-first}}
+use Rattle.mg_model.specs.{PasswordRows.IsPassword, Ranges.{IsEntryOf, IsExtension, IsObjectRow, IsPlace, IsWord}, RowLemmas.are_zeros-replicate}
+use Rattle.mg_model.specs.{RowLemmas.{object-live, read-free}, Spelling.{object_bytes, object_fields, object_read}, State.ObjectRow}
+use Rattle.{mg_model.specs.{Tests.is_object_row, declared.slots.{Pw.Pw, Slot.Slot}}, mg_rows.proofs.ObjectKeeps.object-keeps}
+use Rattle.{mg_rows.proofs.ObjectRows.length-words, std.proofs.Common.{◌≡◌, true, ℕ, ◌+◌, ◌-◌, ◌*◌, ◌≤◌, [], ◌∷◌, ◌++◌, List, All, Option, Some}}
+use Rattle.std.proofs.Common.{None, if◌then◌else◌, is_some, length, map, replicate, drop, get_or, min, slice_index, refl, sym, ap, ◌∙◌, arith}
+use Rattle.std.proofs.{Common.append_assoc, lemmas.List.{drop-drop, drop_at, get_or-drop, length-map, Elements.{All-cons, All-map, All-nil}}}
+use Rattle.std.{proofs.lemmas.List.Elements.All-weaker, specs.Option.{ForSome, option_map_or}}
 
 -- numbers that are filled up are read from the place where they begin
 numbers-padded : (before behind ns : List ℕ) (at n : ℕ) → length before ≡ at → All IsWord ns → numbers_at (before ++ (padded_to n (words_bytes ns) ++ behind)) (at + 0) (length ns) ≡ ns

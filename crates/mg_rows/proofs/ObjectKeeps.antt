@@ -1,17 +1,9 @@
 -- What a row keeps, as the test that computes.
-use Rattle.std.proofs.Common.{◌≡◌, ◌≢◌, ⊎_elim, ◌==◌, ℕ, suc, true, false, not, [], ◌∷◌, List, All, AllPairs, get_or, Option, Some, None, IsTrue, refl, ap, arith}
-use Rattle.std.specs.List.{list_all, list_any}
-use Rattle.std.specs.Option.{ForSome, option_map_or}
-use Rattle.std.proofs.lemmas.Bool.{and_from, cases_Bool, eqb-true, le-leb}
-use Rattle.std.proofs.lemmas.Bool.Decides.{nat_tests}
-use Rattle.std.proofs.lemmas.List.Folds.{list_any_none}
-use Rattle.std.proofs.lemmas.List.Elements.{All-head, All-tail}
-use Rattle.mg_model.specs.declared.slots.Pw.{Pw}
-use Rattle.mg_model.specs.declared.slots.Slot.{Slot}
-use Rattle.mg_model.specs.PasswordRows.{IsPassword}
-use Rattle.mg_model.specs.Ranges.{IsEntryOf, IsExtension, IsObjectRow, IsPlace}
-use Rattle.mg_model.specs.State.{ObjectRow}
-use Rattle.mg_model.specs.Tests.{all_distinct, is_entry_of, is_object_row, is_password, is_place}
+use Rattle.mg_model.specs.{PasswordRows.IsPassword, Ranges.{IsEntryOf, IsExtension, IsObjectRow, IsPlace}, State.ObjectRow, Tests.all_distinct}
+use Rattle.{mg_model.specs.{Tests.{is_entry_of, is_object_row, is_password, is_place}, declared.slots.{Pw.Pw, Slot.Slot}}, std.proofs.Common.◌≡◌}
+use Rattle.std.proofs.Common.{◌≢◌, ⊎_elim, ◌==◌, ℕ, suc, true, false, not, [], ◌∷◌, List, All, AllPairs, get_or, Option, Some, None, IsTrue, refl, ap}
+use Rattle.std.proofs.{Common.arith, lemmas.{Bool.{and_from, cases_Bool, eqb-true, le-leb, Decides.nat_tests}, List.Elements.{All-head, All-tail}}}
+use Rattle.std.{proofs.lemmas.List.Folds.list_any_none, specs.{List.{list_all, list_any}, Option.{ForSome, option_map_or}}}
 
 pub place-keeps : (base pages : ℕ) → IsPlace base pages → IsTrue (is_place base pages)
 place-keeps base pages is = grind (arith, nat_tests)

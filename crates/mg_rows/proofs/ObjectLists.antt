@@ -1,15 +1,11 @@
 -- The lists of an object are read item by item.
-use Rattle.std.proofs.Common.{◌≡◌, ℕ, zero, suc, ◌+◌, ◌-◌, ◌*◌, ◌<◌, ◌≤◌, ◌==◌, ◌&&◌, ◌||◌, Bool, true, false, not, [], ◌∷◌, ◌++◌, List, Some, None, length, min, nat_le, refl, sym, ap, ◌∙◌, arith, ⊎_elim}
+use Rattle.mg_model.specs.{Abbreviations.passwords_at, Bytes.{number_at, numbers_at}, ObjectCalls.is_entry, State.ObjectRow, Tests.all_distinct}
+use Rattle.{mg_model.specs.{Tests.{is_entry_of, is_password}, declared.slots.Pw.Pw}, mg_rows.specs.ObjectParts.{are_entries, are_passwords}}
+use Rattle.{mg_rows.specs.ObjectParts.{entries_in, password_at, passwords_in, some_if}, std.proofs.Common.{◌≡◌, ℕ, zero, suc, ◌+◌, ◌-◌, ◌*◌, ◌<◌}}
+use Rattle.std.proofs.Common.{◌≤◌, ◌==◌, ◌&&◌, ◌||◌, Bool, true, false, not, [], ◌∷◌, ◌++◌, List, Some, None, length, min, nat_le, refl, sym, ap, ◌∙◌}
+use Rattle.std.proofs.{Common.{arith, ⊎_elim}, lemmas.Bool.{and_cases, and_from, and_left, and_parts, and_right, le-leb, lt-leb, not-false, not-true}}
+use Rattle.std.proofs.lemmas.{Bool.{not_from_true, or_cases, or_left, or_parts, or_right}, List.Folds.{list_all-append, list_any-append}}
 use Rattle.std.specs.List.{list_all, list_any}
-use Rattle.std.proofs.lemmas.Bool.{and_cases, and_from, and_left, and_parts, and_right, le-leb, lt-leb, not-false, not-true, not_from_true, or_cases, or_left, or_parts, or_right}
-use Rattle.std.proofs.lemmas.List.Folds.{list_all-append, list_any-append}
-use Rattle.mg_model.specs.declared.slots.Pw.{Pw}
-use Rattle.mg_model.specs.Bytes.{number_at, numbers_at}
-use Rattle.mg_model.specs.ObjectCalls.{is_entry}
-use Rattle.mg_model.specs.Abbreviations.{passwords_at}
-use Rattle.mg_model.specs.State.{ObjectRow}
-use Rattle.mg_model.specs.Tests.{all_distinct, is_entry_of, is_password}
-use Rattle.mg_rows.specs.ObjectParts.{are_entries, are_passwords, entries_in, password_at, passwords_in, some_if}
 
 pub length-passwords_at : (bytes : List ℕ) (k n : ℕ) → length (passwords_at bytes k n) ≡ n
 length-passwords_at bytes k zero = refl

@@ -1,14 +1,7 @@
 -- An object's row as bytes, and what is read from them.
-use Rattle.std.proofs.Common.{arith}
-use Rattle.std.proofs.Common.{◌≡◌, ◌*◌, ◌-◌, ◌++◌, [], ◌∷◌, ℕ, List, length, map, replicate, ap, ◌∙◌, append_assoc}
-use Rattle.std.proofs.lemmas.List.{length-map}
-use Rattle.mg_model.specs.declared.slots.Pw.{Pw}
-use Rattle.mg_model.specs.Bytes.{padded_to, words_bytes}
-use Rattle.mg_model.specs.BytesLemmas.{length-words_bytes}
-use Rattle.mg_model.specs.Abbreviations.{object_head}
-use Rattle.mg_model.specs.Spelling.{object_bytes}
-use Rattle.mg_model.specs.State.{ObjectRow}
-use Rattle.mg_rows.specs.Answers.{extension_words}
+use Rattle.mg_model.specs.{Abbreviations.object_head, Bytes.{padded_to, words_bytes}, BytesLemmas.length-words_bytes, Spelling.object_bytes}
+use Rattle.{mg_model.specs.{State.ObjectRow, declared.slots.Pw.Pw}, mg_rows.specs.Answers.extension_words, std.proofs.Common.{arith, ◌≡◌, ◌*◌, ◌-◌}}
+use Rattle.std.proofs.{Common.{◌++◌, [], ◌∷◌, ℕ, List, length, map, replicate, ap, ◌∙◌, append_assoc}, lemmas.List.length-map}
 
 pub head-spelled : (row : ObjectRow) (new mid old ext entries : List ℕ) (passwords : List Pw) (base pages account : ℕ) → old ≡ []
     → mid ≡ old ++ words_bytes (1 ∷ base ∷ pages ∷ account ∷ length passwords ∷ length entries ∷ []) → new ≡ mid ++ words_bytes ext

@@ -1,13 +1,8 @@
 -- An object's parts make its fields, and the parts' rules its rule.
-use Rattle.std.proofs.Common.{◌≡◌, ◌&&◌, ℕ, List, [], Bool, true, false, Some, None, sym, ap, ◌∙◌, arith}
-use Rattle.std.proofs.lemmas.Bool.{and_from, and_left, and_right}
-use Rattle.mg_model.specs.Abbreviations.{extension_at}
-use Rattle.mg_model.specs.Bytes.{number_at}
-use Rattle.mg_model.specs.Spelling.{object_fields}
-use Rattle.mg_model.specs.State.{ObjectRow}
-use Rattle.mg_model.specs.Tests.{is_object_row}
-use Rattle.mg_rows.specs.ObjectParts.{are_entries, are_passwords, entries_in, is_extension, is_placed, passwords_in, placed_row, some_if}
-use Rattle.mg_rows.proofs.ObjectLists.{none_tells, some_tells}
+use Rattle.mg_model.specs.{Abbreviations.extension_at, Bytes.number_at, Spelling.object_fields, State.ObjectRow, Tests.is_object_row}
+use Rattle.mg_rows.{proofs.ObjectLists.{none_tells, some_tells}, specs.ObjectParts.{are_entries, are_passwords, entries_in, is_extension, is_placed}}
+use Rattle.{mg_rows.specs.ObjectParts.{passwords_in, placed_row, some_if}, std.proofs.Common.{◌≡◌, ◌&&◌, ℕ, List, [], Bool, true, false, Some, None}}
+use Rattle.std.proofs.{Common.{sym, ap, ◌∙◌, arith}, lemmas.Bool.{and_from, and_left, and_right}}
 
 module _ (bytes : List ℕ) where
   abbrev fields : ObjectRow

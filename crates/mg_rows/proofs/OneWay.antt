@@ -1,29 +1,17 @@
 -- A row that is read from bytes is in its ranges, and writing it gives those bytes.
-use Rattle.std.specs.Prelude.{◌≡◌, ◌+◌, ◌*◌, ◌<◌, ◌==◌, ◌&&◌, ℕ, zero, suc, Bool, true, not, All, List, [], ◌∷◌, drop, get_or, min, slice_index, Option, Some, None}
-use Rattle.std.specs.List.{list_all}
-use Rattle.std.specs.Option.{ForSome, option_map_or}
-use Rattle.std.proofs.Common.{refl, sym, ap, subst, ◌∙◌, arith}
-use Rattle.std.proofs.lemmas.Bool.{and_parts, cases_lt, cond_both, eqb-true, leb-true, ltb-true, not-true, eqb-false}
-use Rattle.std.proofs.lemmas.Bool.Decides.{nat_tests}
-use Rattle.std.proofs.lemmas.List.{get_or-drop, get_or-take, get_or_past}
-use Rattle.std.proofs.lemmas.List.Elements.{All-cons, All-nil}
-use Rattle.std.proofs.lemmas.Option.{same_Some}
-use Rattle.mg_model.specs.declared.accounts.AccRow.{AccRow}
-use Rattle.mg_model.specs.declared.slots.Pw.{Pw}
-use Rattle.mg_model.specs.declared.slots.Slot.{Slot}
-use Rattle.mg_model.specs.Abbreviations.{extension_at, frames_at, free_or, is_call_frame, live_if, passwords_at}
-use Rattle.mg_model.specs.Bytes.{bytes_at, number_at, numbers_at}
-use Rattle.mg_model.specs.PasswordRows.{IsPassword}
-use Rattle.mg_model.specs.Ranges.{IsCallFrame, IsCounters, IsExtension, IsObjectRow, IsSlot, IsThreadRow, IsWord}
-use Rattle.mg_model.specs.Spelling.{Read, account_bytes, account_fields, account_read, frame_at, globals_bytes, globals_fields, globals_read, object_bytes, object_fields, object_read, slots_at, thread_bytes, thread_fields, thread_read}
-use Rattle.mg_model.specs.State.{Counters, ObjectRow, ThreadRow}
-use Rattle.mg_model.specs.Tests.{are_counters, is_object_row, is_password, is_thread_row}
-use Rattle.mg_model.specs.RowTestLemmas.{counters-tell, distinct-tells, entry-tells, list_all-tells, place-tells}
-use Rattle.mg_model.specs.Words.{same_bytes}
-use Rattle.mg_rows.proofs.ObjectFields.{object-written}
-use Rattle.mg_rows.proofs.Reading.{account-back, globals-back}
-use Rattle.mg_rows.proofs.ThreadRows.{thread-back}
-use Rattle.mg_rows.specs.Laws.{IsAccountRow, IsByte, IsSpelledInOneWay, live}
+use Rattle.mg_model.specs.{Abbreviations.{extension_at, frames_at, free_or, is_call_frame, live_if, passwords_at}, Bytes.{bytes_at, number_at}}
+use Rattle.mg_model.specs.{Bytes.numbers_at, PasswordRows.IsPassword, Ranges.{IsCallFrame, IsCounters, IsExtension, IsObjectRow, IsSlot, IsThreadRow}}
+use Rattle.mg_model.specs.{Ranges.IsWord, RowTestLemmas.{counters-tell, distinct-tells, entry-tells, list_all-tells, place-tells}, Spelling.Read}
+use Rattle.mg_model.specs.Spelling.{account_bytes, account_fields, account_read, frame_at, globals_bytes, globals_fields, globals_read, object_bytes}
+use Rattle.mg_model.specs.{Spelling.{object_fields, object_read, slots_at, thread_bytes, thread_fields, thread_read}, State.{Counters, ObjectRow}}
+use Rattle.mg_model.specs.{State.ThreadRow, Tests.{are_counters, is_object_row, is_password, is_thread_row}, Words.same_bytes}
+use Rattle.{mg_model.specs.declared.{accounts.AccRow.AccRow, slots.{Pw.Pw, Slot.Slot}}, mg_rows.proofs.ObjectFields.object-written}
+use Rattle.mg_rows.{proofs.{Reading.{account-back, globals-back}, ThreadRows.thread-back}, specs.Laws.{IsAccountRow, IsByte, IsSpelledInOneWay, live}}
+use Rattle.std.proofs.{Common.{refl, sym, ap, subst, ◌∙◌, arith}, lemmas.Bool.{and_parts, cases_lt, cond_both, eqb-true, leb-true, ltb-true}}
+use Rattle.std.proofs.lemmas.{Bool.{not-true, eqb-false, Decides.nat_tests}, List.{get_or-drop, get_or-take, get_or_past, Elements.All-cons}}
+use Rattle.std.{proofs.lemmas.{List.Elements.All-nil, Option.same_Some}, specs.{List.list_all, Option.{ForSome, option_map_or}, Prelude.{◌≡◌, ◌+◌}}}
+use Rattle.std.specs.Prelude.{◌*◌, ◌<◌, ◌==◌, ◌&&◌, ℕ, zero, suc, Bool, true, not, All, List, [], ◌∷◌, drop, get_or, min, slice_index, Option, Some}
+use Rattle.std.specs.Prelude.{None}
 
 -- bytes that are the same
 same-bytes : (xs ys : List ℕ) → same_bytes xs ys ≡ true → xs ≡ ys

@@ -1,15 +1,8 @@
 -- What a reader answers if no row is spelled, and what it answers if one was written.
-use Rattle.std.proofs.Common.{◌≡◌, ◌&&◌, ℕ, List, false, IsTrue, if◌then◌else◌, Some, None, refl, ap, subst, arith}
-use Rattle.std.proofs.lemmas.Bool.{and_right}
-use Rattle.std.proofs.lemmas.Bool.Decides.{nat_tests}
-use Rattle.std.proofs.lemmas.Nat.{from_le_bytes-to_le_bytes_8}
-use Rattle.mg_model.specs.declared.accounts.AccRow.{AccRow}
-use Rattle.mg_model.specs.Ranges.{IsCounters, IsWord}
-use Rattle.mg_model.specs.RowLemmas.{account_fields-written, account-live, globals-read}
-use Rattle.mg_model.specs.Spelling.{account_bytes, account_read, globals_bytes, globals_fields, globals_read}
-use Rattle.mg_model.specs.State.{Counters}
-use Rattle.mg_model.specs.Tests.{are_counters}
-use Rattle.mg_model.specs.Words.{same_bytes}
+use Rattle.mg_model.specs.{Ranges.{IsCounters, IsWord}, RowLemmas.{account_fields-written, account-live, globals-read}, Spelling.account_bytes}
+use Rattle.mg_model.specs.{Spelling.{account_read, globals_bytes, globals_fields, globals_read}, State.Counters, Tests.are_counters, Words.same_bytes}
+use Rattle.{mg_model.specs.declared.accounts.AccRow.AccRow, std.proofs.Common.{◌≡◌, ◌&&◌, ℕ, List, false, IsTrue, if◌then◌else◌, Some, None, refl}}
+use Rattle.std.proofs.{Common.{ap, subst, arith}, lemmas.{Bool.{and_right, Decides.nat_tests}, Nat.from_le_bytes-to_le_bytes_8}}
 
 pub account-back : (row : AccRow) → IsWord row.password → IsWord row.balance → IsWord row.owed → account_read (account_bytes row) ≡ Some (Some row)
 account-back row password balance owed = account-live (account_bytes row) row refl (account_fields-written row password balance owed) refl

@@ -1,13 +1,7 @@
 -- What a thread's row keeps, as the test that computes.
-use Rattle.std.proofs.Common.{arith}
-use Rattle.std.proofs.Common.{◌≡◌, nat_le, nat_lt, ◌==◌, ◌%◌, true, [], ◌∷◌, List, All, length, refl}
-use Rattle.std.specs.List.{list_all}
-use Rattle.std.proofs.lemmas.Bool.{and_from, eq-eqb, le-leb, lt-ltb}
-use Rattle.std.proofs.lemmas.List.Elements.{All-head, All-tail}
-use Rattle.mg_model.specs.Abbreviations.{first_back, is_call_frame}
-use Rattle.mg_model.specs.Ranges.{IsCallFrame, IsThreadRow}
-use Rattle.mg_model.specs.State.{CallFrame, ThreadRow}
-use Rattle.mg_model.specs.Tests.{is_thread_row}
+use Rattle.mg_model.specs.{Abbreviations.{first_back, is_call_frame}, Ranges.{IsCallFrame, IsThreadRow}, State.{CallFrame, ThreadRow}}
+use Rattle.{mg_model.specs.Tests.is_thread_row, std.proofs.Common.{arith, ◌≡◌, nat_le, nat_lt, ◌==◌, ◌%◌, true, [], ◌∷◌, List, All, length, refl}}
+use Rattle.std.{proofs.lemmas.{Bool.{and_from, eq-eqb, le-leb, lt-ltb}, List.Elements.{All-head, All-tail}}, specs.List.list_all}
 
 pub frame-keeps : (frame : CallFrame) → IsCallFrame frame → is_call_frame frame ≡ true
 frame-keeps frame is = and_from (frame.back % 8 == 0) (nat_le (length frame.slots) 8) (eq-eqb (frame.back % 8) 0 is.aligned) (le-leb (length frame.slots) 8 is.few)

@@ -1,21 +1,12 @@
 -- What a reader of a thread finds, part by part.
-use Rattle.std.proofs.Common.{◌≡◌, ◌≢◌, ◌≤◌, ◌<◌, ◌+◌, ◌*◌, ◌%◌, ◌==◌, ◌&&◌, ◌++◌, [], ◌∷◌, ℕ, zero, suc, min, nat_le, get_or, Bool, true, false, List, length, drop, if◌then◌else◌, replicate, Option, Some, None, refl, sym, ap, subst, ◌∙◌, arith, append_assoc, add-one}
-use Rattle.std.specs.List.{list_all}
-use Rattle.std.proofs.Math.ListN.{set}
-use Rattle.std.proofs.Math.Seq.{drop-cons, set-append_seam}
-use Rattle.std.proofs.lemmas.Bool.{and_from, and_left, and_parts, and_right, eq-eqb, le-leb, le-ltb, lt-ltb, ne_eqb}
-use Rattle.std.proofs.lemmas.List.{append-nil, drop_all}
-use Rattle.std.proofs.lemmas.List.Folds.{list_all-append}
-use Rattle.mg_model.specs.declared.slots.Slot.{Slot}
-use Rattle.mg_model.specs.declared.threads.ThrState.{ThrState}
-use Rattle.mg_model.specs.Abbreviations.{frames_at, free_or, is_call_frame, live_if}
-use Rattle.mg_model.specs.Bytes.{are_zeros, number_at, numbers_at}
-use Rattle.mg_model.specs.Spelling.{Read, frame_at, slots_at, state_numbered, thread_fields}
-use Rattle.mg_model.specs.State.{CallFrame, ThreadRow}
-use Rattle.mg_model.specs.Tests.{is_thread_row}
-use Rattle.mg_model.specs.Words.{same_bytes}
-use Rattle.mg_rows.proofs.ThreadRows.{thread_same}
-use Rattle.mg_rows.specs.ThreadParts.{begins, with_frames}
+use Rattle.mg_model.specs.{Abbreviations.{frames_at, free_or, is_call_frame, live_if}, Bytes.{are_zeros, number_at, numbers_at}, Spelling.Read}
+use Rattle.mg_model.specs.{Spelling.{frame_at, slots_at, state_numbered, thread_fields}, State.{CallFrame, ThreadRow}, Tests.is_thread_row}
+use Rattle.{mg_model.specs.{Words.same_bytes, declared.{slots.Slot.Slot, threads.ThrState.ThrState}}, mg_rows.proofs.ThreadRows.thread_same}
+use Rattle.{mg_rows.specs.ThreadParts.{begins, with_frames}, std.proofs.Common.{◌≡◌, ◌≢◌, ◌≤◌, ◌<◌, ◌+◌, ◌*◌, ◌%◌, ◌==◌, ◌&&◌, ◌++◌, [], ◌∷◌, ℕ}}
+use Rattle.std.proofs.Common.{zero, suc, min, nat_le, get_or, Bool, true, false, List, length, drop, if◌then◌else◌, replicate, Option, Some, None}
+use Rattle.std.proofs.{Common.{refl, sym, ap, subst, ◌∙◌, arith, append_assoc, add-one}, Math.{ListN.set, Seq.{drop-cons, set-append_seam}}}
+use Rattle.std.proofs.lemmas.{Bool.{and_from, and_left, and_parts, and_right, eq-eqb, le-leb, le-ltb, lt-ltb, ne_eqb}, List.{append-nil, drop_all}}
+use Rattle.std.{proofs.lemmas.List.Folds.list_all-append, specs.List.list_all}
 
 -- the answer if a rule holds, and None otherwise
 pub record Are {R : Type 0} (rule : Bool) (row found : R) : Type 0 where

@@ -1,23 +1,14 @@
 -- A thread's row as bytes, and what is read from them.
-use Rattle.std.proofs.lemmas.Grind.{common_steps}
-use Rattle.std.proofs.Common.{◌≡◌, ◌≤◌, ◌<◌, ◌+◌, ◌*◌, ◌-◌, ◌++◌, [], ◌∷◌, ℕ, zero, suc, min, get_or, take, List, length, flat_map, replicate, All, Some, refl, sym, ap, ◌∙◌, arith, append_assoc, add_assoc, length-append}
-use Rattle.std.proofs.lemmas.Grind.{flat_map-append}
-use Rattle.std.proofs.lemmas.List.{append-nil, take_more}
-use Rattle.std.proofs.lemmas.List.Elements.{All-head, All-tail}
-use Rattle.std.proofs.lemmas.Nat.{from_le_bytes-to_le_bytes_8}
-use Rattle.mg_model.specs.declared.slots.Slot.{Slot}
-use Rattle.mg_model.specs.declared.threads.Fault.TheVariants as fault
-use Rattle.mg_model.specs.declared.threads.ThrState.{ThrState}
-use Rattle.mg_model.specs.declared.threads.ThrState.TheVariants.{Ready, Stopped, Faulted}
-use Rattle.mg_model.specs.Abbreviations.{frames_at, slot_words, state_number, word_bytes}
-use Rattle.mg_model.specs.Bytes.{number_at, numbers_at, padded_to, words_bytes}
+use Rattle.mg_model.specs.{Abbreviations.{frames_at, slot_words, state_number, word_bytes}, Bytes.{number_at, numbers_at, padded_to, words_bytes}}
 use Rattle.mg_model.specs.BytesLemmas.{length-padded_to, length-words_bytes, number_at-behind, numbers_at-behind, numbers_at-first, padded_to-append}
-use Rattle.mg_model.specs.Ranges.{IsCallFrame, IsSlot, IsThreadRow}
-use Rattle.mg_model.specs.RowLemmas.{thread-live}
-use Rattle.mg_model.specs.Spelling.{frame_at, frame_bytes, slots_at, state_numbered, thread_bytes, thread_fields, thread_read}
-use Rattle.mg_model.specs.State.{CallFrame, ThreadRow}
-use Rattle.mg_rows.specs.ThreadParts.{head_words}
-use Rattle.mg_rows.proofs.ThreadKeeps.{thread-keeps}
+use Rattle.mg_model.specs.{Ranges.{IsCallFrame, IsSlot, IsThreadRow}, RowLemmas.thread-live, Spelling.{frame_at, frame_bytes, slots_at}}
+use Rattle.mg_model.specs.{Spelling.{state_numbered, thread_bytes, thread_fields, thread_read}, State.{CallFrame, ThreadRow}}
+use Rattle.mg_model.specs.declared.{slots.Slot.Slot, threads.ThrState.{ThrState, TheVariants.{Ready, Stopped, Faulted}}}
+use Rattle.{mg_rows.{proofs.ThreadKeeps.thread-keeps, specs.ThreadParts.head_words}, std.proofs.Common.{◌≡◌, ◌≤◌, ◌<◌, ◌+◌, ◌*◌, ◌-◌, ◌++◌, [], ◌∷◌}}
+use Rattle.std.proofs.Common.{ℕ, zero, suc, min, get_or, take, List, length, flat_map, replicate, All, Some, refl, sym, ap, ◌∙◌, arith, append_assoc}
+use Rattle.std.proofs.{Common.{add_assoc, length-append}, lemmas.{Grind.{common_steps, flat_map-append}, List.{append-nil, take_more}}}
+use Rattle.std.proofs.lemmas.{List.Elements.{All-head, All-tail}, Nat.from_le_bytes-to_le_bytes_8}
+use Rattle.mg_model.specs.declared.threads.Fault.TheVariants as fault
 
 -- the slots of a frame
 slots_at-behind : (xs ys : List ℕ) (n k m : ℕ) → length xs ≡ n → slots_at (xs ++ ys) (n + k) m ≡ slots_at ys k m

@@ -1,15 +1,9 @@
 -- Another pc, state or register of a thread is another word of its block.
-use Rattle.std.specs.Prelude.{◌≡◌, ℕ, zero, suc, ◌+◌, ◌-◌, ◌*◌, ◌<◌, List, [], ◌∷◌, ◌++◌, flat_map, length, replicate, slice_set}
-use Rattle.std.specs.List.{splice}
-use Rattle.std.proofs.Common.{refl, sym, ap, ◌∙◌, arith, append_assoc, length-append}
-use Rattle.std.proofs.lemmas.List.{length-set}
-use Rattle.mg_model.specs.declared.threads.ThrState.{ThrState}
-use Rattle.mg_model.specs.Abbreviations.{state_number, word_bytes}
-use Rattle.mg_model.specs.Bytes.{padded_to, words_bytes}
-use Rattle.mg_model.specs.BytesLemmas.{length-words_bytes}
-use Rattle.mg_model.specs.Spelling.{frame_bytes, thread_bytes}
-use Rattle.mg_model.specs.State.{ThreadRow}
-use Rattle.mg_rows.specs.ThreadParts.{head_words, with_word}
+use Rattle.mg_model.specs.{Abbreviations.{state_number, word_bytes}, Bytes.{padded_to, words_bytes}, BytesLemmas.length-words_bytes}
+use Rattle.mg_model.specs.{Spelling.{frame_bytes, thread_bytes}, State.ThreadRow, declared.threads.ThrState.ThrState}
+use Rattle.{mg_rows.specs.ThreadParts.{head_words, with_word}, std.proofs.Common.{refl, sym, ap, ◌∙◌, arith, append_assoc, length-append}}
+use Rattle.std.{proofs.lemmas.List.length-set, specs.{List.splice, Prelude.{◌≡◌, ℕ, zero, suc, ◌+◌, ◌-◌, ◌*◌, ◌<◌, List, [], ◌∷◌, ◌++◌, flat_map}}}
+use Rattle.std.specs.Prelude.{length, replicate, slice_set}
 
 pub pc_put : (row : ThreadRow) (pc : ℕ) → with_word 24 pc (thread_bytes row) ≡ thread_bytes (record row { pc = pc })
 pc_put row pc = refl

@@ -1,9 +1,6 @@
 -- A reader's answer as what the definitions read.
-use Rattle.std.specs.Prelude.{ℕ, List, [], ◌∷◌, if◌then◌else◌, is_some, Option, Some, None}
-use Rattle.std.specs.Option.{option_map_or}
-use Rattle.mg_model.specs.declared.slots.Slot.{Slot}
-use Rattle.mg_model.specs.Spelling.{Read}
-use Rattle.mg_rows.specs.declared.spelled.Spelled.{Spelled}
+use Rattle.std.specs.{Option.option_map_or, Prelude.{ℕ, List, [], ◌∷◌, if◌then◌else◌, is_some, Option, Some, None}}
+use Rattle.{mg_model.specs.{Spelling.Read, declared.slots.Slot.Slot}, mg_rows.specs.declared.spelled.Spelled.Spelled}
 use Rattle.mg_rows.specs.declared.spelled.Spelled.TheVariants as spelled
 
 abbrev pub row_in : {T : Type 0} → Spelled T → Option T

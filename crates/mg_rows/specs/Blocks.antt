@@ -1,10 +1,7 @@
 -- Rows in the blocks of their tables: what each place of a block spells.
 use Rattle.std.specs.Prelude.{ℕ, ◌*◌, List}
-use Rattle.mg_model.specs.declared.accounts.AccRow.{AccRow}
-use Rattle.mg_model.specs.Bytes.{bytes_at}
-use Rattle.mg_model.specs.Layout.{account_size, object_size}
-use Rattle.mg_model.specs.Spelling.{Read, account_read, object_read}
-use Rattle.mg_model.specs.State.{ObjectRow}
+use Rattle.mg_model.specs.{Bytes.bytes_at, Layout.{account_size, object_size}, Spelling.{Read, account_read}}
+use Rattle.mg_model.specs.{Spelling.object_read, State.ObjectRow, declared.accounts.AccRow.AccRow}
 
 -- row j of a block of objects
 abbrev pub object_in : List ℕ → ℕ → Read ObjectRow

@@ -1,8 +1,6 @@
 -- The meaning of 'rows are spelled in one way alone'.
 use Rattle.std.specs.Prelude.{◌≡◌, ◌<◌, ℕ, All, List, Option, Some, None}
-use Rattle.mg_model.specs.declared.accounts.AccRow.{AccRow}
-use Rattle.mg_model.specs.Ranges.{IsWord}
-use Rattle.mg_model.specs.Spelling.{Read}
+use Rattle.mg_model.specs.{Ranges.IsWord, Spelling.Read, declared.accounts.AccRow.AccRow}
 
 -- the live row of an answer, if there is one
 abbrev pub live : {R : Type 0} → Read R → Option R

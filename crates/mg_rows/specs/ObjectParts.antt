@@ -1,13 +1,8 @@
 -- The parts of an object in its bytes, and the rule of each.
-use Rattle.std.specs.Prelude.{ℕ, ◌+◌, ◌*◌, ◌==◌, ◌&&◌, nat_le, Bool, true, not, min, List, [], if◌then◌else◌, length, slice_index, Option, Some, None}
-use Rattle.std.specs.Option.{option_map_or}
-use Rattle.std.specs.List.{list_all}
-use Rattle.mg_model.specs.declared.slots.Pw.{Pw}
-use Rattle.mg_model.specs.declared.slots.Slot.{Slot}
-use Rattle.mg_model.specs.Bytes.{number_at, numbers_at}
-use Rattle.mg_model.specs.Abbreviations.{passwords_at}
-use Rattle.mg_model.specs.State.{ObjectRow}
-use Rattle.mg_model.specs.Tests.{all_distinct, is_entry_of, is_password, is_place}
+use Rattle.std.specs.{List.list_all, Option.option_map_or, Prelude.{ℕ, ◌+◌, ◌*◌, ◌==◌, ◌&&◌, nat_le, Bool, true, not}}
+use Rattle.std.specs.Prelude.{min, List, [], if◌then◌else◌, length, slice_index, Option, Some, None}
+use Rattle.mg_model.specs.{Abbreviations.passwords_at, Bytes.{number_at, numbers_at}, State.ObjectRow}
+use Rattle.mg_model.specs.{Tests.{all_distinct, is_entry_of, is_password, is_place}, declared.slots.{Pw.Pw, Slot.Slot}}
 
 -- a value, if it passes a test
 abbrev pub some_if : {X : Type 0} → Bool → X → Option X

@@ -1,10 +1,7 @@
 -- Parts of a thread's row.
-use Rattle.std.specs.Prelude.{ℕ, ◌+◌, ◌%◌, ◌==◌, ◌&&◌, nat_lt, Bool, List, [], ◌∷◌, length}
-use Rattle.std.specs.List.{splice}
-use Rattle.mg_model.specs.Abbreviations.{frames_at, is_call_frame, state_number, word_bytes}
-use Rattle.mg_model.specs.Bytes.{number_at, numbers_at}
-use Rattle.mg_model.specs.Spelling.{frame_at, state_numbered}
-use Rattle.mg_model.specs.State.{ThreadRow}
+use Rattle.std.specs.{List.splice, Prelude.{ℕ, ◌+◌, ◌%◌, ◌==◌, ◌&&◌, nat_lt, Bool, List, [], ◌∷◌, length}}
+use Rattle.mg_model.specs.{Abbreviations.{frames_at, is_call_frame, state_number, word_bytes}, Bytes.number_at}
+use Rattle.mg_model.specs.{Bytes.numbers_at, Spelling.{frame_at, state_numbered}, State.ThreadRow}
 
 -- the words that it begins with
 abbrev pub head_words : ThreadRow → List ℕ

@@ -1,17 +1,11 @@
 -- Runs are apart exactly if no number lies in two of them; so a list can be tested in another order.
-use Rattle.std.specs.Prelude.{◌≡◌, ℕ, zero, suc, ◌+◌, ◌<◌, ◌≤◌, ◌==◌, ◌&&◌, nat_le, nat_lt, not, Bool, true, false, List, [], ◌∷◌, All, if◌then◌else◌, length, map, slice_index_or, sum_by}
-use Rattle.std.specs.List.{AllAdjacentBelow, list_any}
-use Rattle.std.specs.List.Sorted.{IsPermutation, IsSorted}
-use Rattle.std.specs.Ordering.{is_lt, nat_cmp, ordering_then}
-use Rattle.std.proofs.Common.{Less, Equal, Greater, refl, sym, ap, ◌∙◌, subst, arith, ⊎_elim}
-use Rattle.std.proofs.lemmas.Bool.{and_from, and_parts, cases_Bool, cases_lt, eqb-true, eq-eqb, le-leb, leb-true, lt-ltb, ltb-true, not-true, or_parts}
-use Rattle.std.proofs.lemmas.Bool.Decides.{nat_tests}
-use Rattle.std.proofs.lemmas.List.Elements.{All-cons, All-head, All-nil, All-tail}
-use Rattle.std.proofs.lemmas.List.Sorted.{sum_by-IsPermutation, IsPermutation-map}
-use Rattle.std.proofs.lemmas.List.Sums.{sum_by-cons}
-use Rattle.std.proofs.Math.Nat.{zero-add}
-use Rattle.mg_model.specs.Tests.{all_distinct}
-use Rattle.mg_rules.specs.Spans.{IsSome, apart_from, is_in, ordered_from, rises_from}
+use Rattle.{mg_model.specs.Tests.all_distinct, mg_rules.specs.Spans.{IsSome, apart_from, is_in, ordered_from, rises_from}, std.proofs.Common.Less}
+use Rattle.std.proofs.{Common.{Equal, Greater, refl, sym, ap, ◌∙◌, subst, arith, ⊎_elim}, Math.Nat.zero-add, lemmas.Bool.{and_from, and_parts}}
+use Rattle.std.proofs.lemmas.Bool.{cases_Bool, cases_lt, eqb-true, eq-eqb, le-leb, leb-true, lt-ltb, ltb-true, not-true, or_parts, Decides.nat_tests}
+use Rattle.std.proofs.lemmas.List.{Elements.{All-cons, All-head, All-nil, All-tail}, Sorted.{sum_by-IsPermutation, IsPermutation-map}}
+use Rattle.std.{proofs.lemmas.List.Sums.sum_by-cons, specs.{List.{AllAdjacentBelow, list_any, Sorted.{IsPermutation, IsSorted}}, Ordering.is_lt}}
+use Rattle.std.specs.{Ordering.{nat_cmp, ordering_then}, Prelude.{◌≡◌, ℕ, zero, suc, ◌+◌, ◌<◌, ◌≤◌, ◌==◌, ◌&&◌, nat_le, nat_lt, not, Bool, true}}
+use Rattle.std.specs.Prelude.{false, List, [], ◌∷◌, All, if◌then◌else◌, length, map, slice_index_or, sum_by}
 
 -- in how many runs it lies
 abbrev pub times : ℕ → List (ℕ × ℕ) → ℕ

@@ -1,15 +1,9 @@
 -- Among runs that are apart, the last one that begins no higher decides whether a number lies in one.
-use Rattle.std.proofs.lemmas.Bool.Decides.{nat_tests}
-use Rattle.std.specs.Prelude.{◌≡◌, ℕ, ◌-◌, ◌<◌, ◌≤◌, ◌&&◌, ◌||◌, nat_le, nat_lt, not, Bool, true, false, List, [], ◌∷◌, All, length, slice_index_or}
-use Rattle.std.specs.List.{list_all, list_any}
-use Rattle.std.specs.List.Sorted.{IsNonDecreasingBy, IsPartitionPoint, IsPermutation}
-use Rattle.std.proofs.Common.{refl, sym, ap, ◌∙◌, arith, ⊎_elim}
-use Rattle.std.proofs.lemmas.Bool.{cases_eq, leb-true, leb-false, lt-ltb, ltb-true}
-use Rattle.std.proofs.lemmas.List.{get_or_default}
-use Rattle.std.proofs.lemmas.List.Folds.{Any-from_list_any, list_any_at}
-use Rattle.std.proofs.lemmas.List.Sorted.{list_any-IsPermutation}
-use Rattle.mg_rules.specs.Spans.{IsSome, IsWithin, apart_from, is_in}
-use Rattle.mg_rules.proofs.Apart.{apart-pairs, both_ways, in_one, one_in}
+use Rattle.mg_rules.{proofs.Apart.{apart-pairs, both_ways, in_one, one_in}, specs.Spans.{IsSome, IsWithin, apart_from, is_in}}
+use Rattle.std.proofs.{Common.{refl, sym, ap, ◌∙◌, arith, ⊎_elim}, lemmas.Bool.{cases_eq, leb-true, leb-false, lt-ltb, ltb-true, Decides.nat_tests}}
+use Rattle.std.{proofs.lemmas.List.{get_or_default, Folds.{Any-from_list_any, list_any_at}, Sorted.list_any-IsPermutation}, specs.List.list_all}
+use Rattle.std.specs.{List.{list_any, Sorted.{IsNonDecreasingBy, IsPartitionPoint, IsPermutation}}, Prelude.{◌≡◌, ℕ, ◌-◌, ◌<◌, ◌≤◌, ◌&&◌, ◌||◌}}
+use Rattle.std.specs.Prelude.{nat_le, nat_lt, not, Bool, true, false, List, [], ◌∷◌, All, length, slice_index_or}
 
 module _ (spans : List (ℕ × ℕ)) (some : All IsSome spans) (apart : apart_from 0 spans ≡ true) where
   pub begins_rise : IsNonDecreasingBy (λ (span : ℕ × ℕ). span.0) spans

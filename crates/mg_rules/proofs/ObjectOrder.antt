@@ -1,25 +1,13 @@
 -- The objects that rows spell, in the order of their bases, and the places of these rows in another order.
-use Rattle.std.proofs.Common.{rules}
-use Rattle.std.specs.Prelude.{◌≡◌, ℕ, ◌≤◌, ◌&&◌, ◌||◌, nat_le, nat_lt, Bool, true, false, List, [], ◌∷◌, All, map}
-use Rattle.std.specs.List.{list_all, list_any}
-use Rattle.std.specs.List.Sorted.{IsPermutation}
-use Rattle.std.proofs.Common.{refl, sym, ap, ◌∙◌, subst, arith, ⊎_elim}
-use Rattle.std.proofs.lemmas.Bool.{and_from, and_parts, cases_Bool, le-leb, ltb-true, ltb-false}
-use Rattle.std.proofs.lemmas.List.Elements.{All-cons, All-head, All-nil, All-tail}
-use Rattle.std.proofs.lemmas.List.Sorted.{IsPermutation-map, IsPermutation-sym, IsPermutation-trans, All-permutation, list_any-IsPermutation, sum_by-IsPermutation}
-use Rattle.std.proofs.lemmas.List.Folds.{list_all-map}
-use Rattle.std.proofs.lemmas.List.Sums.{AllPass-from_list_all, list_all-from_AllPass}
-use Rattle.std.proofs.lemmas.Simd.{map-map}
-use Rattle.mg_model.specs.Objects.{page_behind, page_of, with_object}
-use Rattle.mg_model.specs.Ranges.{IsObjectRow}
-use Rattle.mg_model.specs.State.{Object, ObjectRow}
-use Rattle.mg_model.specs.Abbreviations.{is_page_of}
-use Rattle.mg_model.specs.Volume.{are_apart, object_spelled, objects_spelled}
-use Rattle.mg_rules.specs.RowsRead.{AreInRange}
-use Rattle.mg_rules.specs.Spans.{IsSome, apart_from, is_in, ordered_from}
-use Rattle.mg_rules.specs.Rules.{AreSpans, place_of, places_of}
-use Rattle.mg_rules.specs.ObjectOrderLemmas.{moved}
-use Rattle.mg_rules.proofs.Apart.{apart-same, both_ways}
+use Rattle.mg_model.specs.{Abbreviations.is_page_of, Objects.{page_behind, page_of, with_object}, Ranges.IsObjectRow, State.{Object, ObjectRow}}
+use Rattle.{mg_model.specs.Volume.{are_apart, object_spelled, objects_spelled}, mg_rules.proofs.Apart.{apart-same, both_ways}}
+use Rattle.mg_rules.specs.{ObjectOrderLemmas.moved, RowsRead.AreInRange, Rules.{AreSpans, place_of, places_of}, Spans.{IsSome, apart_from, is_in}}
+use Rattle.{mg_rules.specs.Spans.ordered_from, std.proofs.{Common.{rules, refl, sym, ap, ◌∙◌, subst, arith, ⊎_elim}, lemmas.Bool.and_from}}
+use Rattle.std.proofs.lemmas.{Bool.{and_parts, cases_Bool, le-leb, ltb-true, ltb-false}, List.Elements.{All-cons, All-head, All-nil, All-tail}}
+use Rattle.std.proofs.lemmas.List.{Folds.list_all-map, Sorted.{IsPermutation-map, IsPermutation-sym, IsPermutation-trans, All-permutation}}
+use Rattle.std.proofs.lemmas.List.{Sorted.{list_any-IsPermutation, sum_by-IsPermutation}, Sums.{AllPass-from_list_all, list_all-from_AllPass}}
+use Rattle.std.{proofs.lemmas.Simd.map-map, specs.{List.{list_all, list_any, Sorted.IsPermutation}, Prelude.{◌≡◌, ℕ, ◌≤◌, ◌&&◌, ◌||◌, nat_le}}}
+use Rattle.std.specs.Prelude.{nat_lt, Bool, true, false, List, [], ◌∷◌, All, map}
 
 -- the place of an object
 abbrev pub object_place : Object → ℕ × ℕ

@@ -1,26 +1,13 @@
 -- The tests of the rows decide whether these keep the rules between each other.
-use Rattle.std.proofs.Common.{arith}
-use Rattle.std.specs.Prelude.{◌≡◌, ℕ, ◌+◌, ◌==◌, ◌&&◌, nat_le, Bool, true, false, List, [], ◌∷◌, Option, length, sum_by}
-use Rattle.std.specs.List.{list_all, list_any}
-use Rattle.std.proofs.Common.{refl, sym, ap, ◌∙◌}
-use Rattle.std.proofs.lemmas.Bool.{and_from, eq-eqb}
-use Rattle.std.proofs.lemmas.List.Folds.{list_all-map}
-use Rattle.std.proofs.lemmas.Simd.{map-map}
-use Rattle.mg_rules.specs.declared.volume_rows.VolumeRows.{VolumeRows}
-use Rattle.mg_rules.specs.LiveTableLemmas.{live-pages, live-paid}
-use Rattle.mg_rules.specs.ToldLemmas.{accounts-placed}
-use Rattle.mg_rules.specs.ObjectOrderLemmas.{spelled-used}
-use Rattle.mg_rules.proofs.ObjectOrder.{spelled-apart, spelled-covered, spelled-paid}
-use Rattle.mg_rules.specs.RowsRead.{live_from, objects_of, placed_from, rows_in, state_in}
-use Rattle.mg_rules.specs.Rules.{AreSpans, Decides, births_of}
-use Rattle.mg_rules.specs.Spans.{apart_from, is_in}
-use Rattle.mg_rules.specs.Tables.{is_paid, pages_in}
-use Rattle.mg_disk.specs.Disk.{Image}
-use Rattle.mg_model.specs.declared.accounts.AccRow.{AccRow}
-use Rattle.mg_model.specs.Abbreviations.{is_page_of, threads_spelled}
-use Rattle.mg_model.specs.State.{Object, ObjectRow, Thread, ThreadRow}
-use Rattle.mg_model.specs.Tests.{all_distinct}
-use Rattle.mg_model.specs.Volume.{accounts_fit, begins_with_first, bound_pages, has_no_gap, objects_fit, objects_spelled, state_fits, table_fits, threads_fit}
+use Rattle.{mg_disk.specs.Disk.Image, mg_model.specs.{Abbreviations.{is_page_of, threads_spelled}, State.{Object, ObjectRow, Thread, ThreadRow}}}
+use Rattle.mg_model.specs.{Tests.all_distinct, Volume.{accounts_fit, begins_with_first, bound_pages, has_no_gap, objects_fit, objects_spelled}}
+use Rattle.{mg_model.specs.{Volume.{state_fits, table_fits, threads_fit}, declared.accounts.AccRow.AccRow}, mg_rules.proofs.ObjectOrder.spelled-apart}
+use Rattle.mg_rules.{proofs.ObjectOrder.{spelled-covered, spelled-paid}, specs.LiveTableLemmas.{live-pages, live-paid}}
+use Rattle.mg_rules.specs.{ObjectOrderLemmas.spelled-used, RowsRead.{live_from, objects_of, placed_from, rows_in, state_in}, Rules.AreSpans}
+use Rattle.mg_rules.specs.{Rules.{Decides, births_of}, Spans.{apart_from, is_in}, Tables.{is_paid, pages_in}, ToldLemmas.accounts-placed}
+use Rattle.{mg_rules.specs.declared.volume_rows.VolumeRows.VolumeRows, std.proofs.{Common.{arith, refl, sym, ap, ◌∙◌}, lemmas.Bool.and_from}}
+use Rattle.std.{proofs.lemmas.{Bool.eq-eqb, List.Folds.list_all-map, Simd.map-map}, specs.{List.{list_all, list_any}, Prelude.{◌≡◌, ℕ, ◌+◌, ◌==◌}}}
+use Rattle.std.specs.Prelude.{◌&&◌, nat_le, Bool, true, false, List, [], ◌∷◌, Option, length, sum_by}
 
 all_same : {X : Type 0} (p q : X → Bool) → ((x : X) → p x ≡ q x) → (xs : List X) → list_all p xs ≡ list_all q xs
 all_same p q same [] = refl

@@ -1,16 +1,11 @@
 -- The entries of the frame table, one after another.
-use Rattle.std.specs.Prelude.{◌≡◌, ℕ, zero, suc, ◌+◌, ◌-◌, ◌*◌, ◌/◌, ◌<◌, ◌≤◌, ◌==◌, ◌&&◌, min, true, false, List, [], ◌∷◌, ◌++◌, drop, length, take}
-use Rattle.std.proofs.Common.{refl, sym, ap, ◌∙◌, arith, ⊎_elim}
-use Rattle.std.proofs.lemmas.Bool.{and_from, and_left, and_right, cases_eq}
-use Rattle.std.proofs.lemmas.List.{drop_at, take_at}
-use Rattle.std.proofs.lemmas.List.Folds.{list_all-append}
-use Rattle.std.proofs.Math.Bool.{and-true}
-use Rattle.std.proofs.Math.Nat.{mul-suc}
-use Rattle.mg_model.specs.Abbreviations.{table_entries, table_of, whole_table}
-use Rattle.mg_model.specs.Bytes.{are_zeros, numbers_at}
-use Rattle.mg_model.specs.Layout.{table_block, table_blocks}
-use Rattle.mg_model.specs.Replay.{block_of}
-use Rattle.mg_rules.specs.TableTold.{AreEntries, HasRest, IsTable, entries, entry_in, table_entry}
+use Rattle.std.proofs.{Common.{refl, sym, ap, ◌∙◌, arith, ⊎_elim}, Math.{Bool.and-true, Nat.mul-suc}}
+use Rattle.std.proofs.lemmas.{Bool.{and_from, and_left, and_right, cases_eq}, List.{drop_at, take_at}}
+use Rattle.std.{proofs.lemmas.List.Folds.list_all-append, specs.Prelude.{◌≡◌, ℕ, zero, suc, ◌+◌, ◌-◌, ◌*◌, ◌/◌, ◌<◌}}
+use Rattle.std.specs.Prelude.{◌≤◌, ◌==◌, ◌&&◌, min, true, false, List, [], ◌∷◌, ◌++◌, drop, length, take}
+use Rattle.mg_model.specs.{Abbreviations.{table_entries, table_of, whole_table}, Bytes.{are_zeros, numbers_at}}
+use Rattle.{mg_model.specs.{Layout.{table_block, table_blocks}, Replay.block_of}, mg_rules.specs.TableTold.AreEntries}
+use Rattle.mg_rules.specs.TableTold.{HasRest, IsTable, entries, entry_in, table_entry}
 
 module _ (entry : ℕ → ℕ) where
   length-entries : (i n : ℕ) → length (entries entry i n) ≡ n

@@ -1,11 +1,8 @@
 -- Accounts whose places are the first, and a gap between them.
-use Rattle.std.specs.Prelude.{◌≡◌, ◌≢◌, ℕ, ◌+◌, ◌<◌, ◌==◌, false, List, [], ◌∷◌, ◌++◌, drop, length, slice_index_or, take}
-use Rattle.std.proofs.Common.{sym, ap, ◌∙◌, arith}
-use Rattle.std.proofs.lemmas.Bool.{and_left, and_right, ne_eqb}
-use Rattle.std.proofs.lemmas.List.{drop_more, take-append-drop, take_more}
-use Rattle.mg_model.specs.declared.accounts.AccRow.{AccRow}
-use Rattle.mg_model.specs.Volume.{has_no_gap}
-use Rattle.mg_rules.specs.RowsRead.{placed_from}
+use Rattle.std.proofs.{Common.{sym, ap, ◌∙◌, arith}, lemmas.{Bool.{and_left, and_right, ne_eqb}, List.drop_more}}
+use Rattle.std.{proofs.lemmas.List.{take-append-drop, take_more}, specs.Prelude.{◌≡◌, ◌≢◌, ℕ, ◌+◌, ◌<◌, ◌==◌, false}}
+use Rattle.std.specs.Prelude.{List, [], ◌∷◌, ◌++◌, drop, length, slice_index_or, take}
+use Rattle.{mg_model.specs.{Volume.has_no_gap, declared.accounts.AccRow.AccRow}, mg_rules.specs.RowsRead.placed_from}
 
 -- one account more
 placed_more : (i j : ℕ) (accounts : List AccRow) (row : AccRow) → i + length accounts ≡ j → placed_from i (accounts ++ row ∷ []) ≡ placed_from i accounts ++ (j, row) ∷ []

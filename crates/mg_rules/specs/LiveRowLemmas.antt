@@ -1,12 +1,7 @@
 -- Lemmas on live rows, one place after another.
+use Rattle.std.proofs.{Common.{refl, sym, ap, ◌∙◌, arith, ⊎_elim}, lemmas.{Bool.cases_eq, List.append-nil}}
 use Rattle.std.specs.Prelude.{◌≡◌, ℕ, zero, suc, ◌+◌, ◌<◌, ◌≤◌, List, [], ◌∷◌, ◌++◌, Option, Some, None}
-use Rattle.std.proofs.Common.{refl, sym, ap, ◌∙◌, arith, ⊎_elim}
-use Rattle.std.proofs.lemmas.Bool.{cases_eq}
-use Rattle.std.proofs.lemmas.List.{append-nil}
-use Rattle.mg_model.specs.Spelling.{Read}
-use Rattle.mg_model.specs.Abbreviations.{with_live}
-use Rattle.mg_model.specs.Volume.{live_rows}
-use Rattle.mg_model.specs.Words.{and_then}
+use Rattle.mg_model.specs.{Abbreviations.with_live, Spelling.Read, Volume.live_rows, Words.and_then}
 use Rattle.mg_rules.specs.TableRows.{AreLive, NotSpelled}
 
 pub and_then_some : {X Y : Type 0} (o : Option X) (f : X → Option Y) (y : Y) → and_then o f ≡ Some y → (x : X) × (o ≡ Some x) × (f x ≡ Some y)

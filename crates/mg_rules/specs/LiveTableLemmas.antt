@@ -1,16 +1,9 @@
 -- Lemmas on the live rows of a table that has a row or none in each place.
-use Rattle.std.proofs.Common.{rules}
-use Rattle.std.specs.Prelude.{◌≡◌, ◌&&◌, ℕ, ◌+◌, ◌≤◌, nat_le, List, [], ◌∷◌, ◌++◌, Option, Some, None, length, sum_by}
-use Rattle.std.specs.List.{filter_map, list_all}
-use Rattle.std.specs.Option.{option_map}
-use Rattle.std.proofs.Common.{refl, ap, ◌∙◌, arith}
-use Rattle.std.proofs.lemmas.List.{append-nil, length-append}
-use Rattle.std.proofs.lemmas.List.Sums.{sum_by-cons}
-use Rattle.mg_model.specs.State.{ObjectRow}
-use Rattle.mg_model.specs.Abbreviations.{with_live}
-use Rattle.mg_rules.specs.RowsRead.{live_from}
-use Rattle.mg_rules.specs.Rules.{place_of, places_of}
-use Rattle.mg_rules.specs.Tables.{count_in, is_paid, pages_in}
+use Rattle.std.proofs.{Common.{rules, refl, ap, ◌∙◌, arith}, lemmas.List.{append-nil, length-append, Sums.sum_by-cons}}
+use Rattle.std.specs.{List.{filter_map, list_all}, Option.option_map, Prelude.{◌≡◌, ◌&&◌, ℕ, ◌+◌, ◌≤◌, nat_le, List}}
+use Rattle.std.specs.Prelude.{[], ◌∷◌, ◌++◌, Option, Some, None, length, sum_by}
+use Rattle.{mg_model.specs.{Abbreviations.with_live, State.ObjectRow}, mg_rules.specs.RowsRead.live_from}
+use Rattle.mg_rules.specs.{Rules.{place_of, places_of}, Tables.{count_in, is_paid, pages_in}}
 
 -- one place more
 module _ {R : Type 0} where

@@ -1,23 +1,13 @@
 -- If something is not spelled, or an account follows a free row, there is no state.
-use Rattle.std.proofs.lemmas.Bool.Decides.{nat_tests}
-use Rattle.std.proofs.Common.{arith}
+use Rattle.std.{proofs.{Common.{arith, refl, ap, ◌∙◌}, lemmas.Bool.Decides.nat_tests}, specs.Option.option_map_or}
 use Rattle.std.specs.Prelude.{◌≡◌, ℕ, false, List, drop, if◌then◌else◌, take, Option, None, Some}
-use Rattle.std.specs.Option.{option_map_or}
-use Rattle.std.proofs.Common.{refl, ap, ◌∙◌}
-use Rattle.mg_model.specs.declared.accounts.AccRow.{AccRow}
 use Rattle.mg_model.specs.Abbreviations.{account_row_bytes, fitting, object_row_bytes, thread_row_bytes, whole_table}
-use Rattle.mg_model.specs.Bytes.{are_zeros}
-use Rattle.mg_model.specs.Layout.{globals_block}
-use Rattle.mg_model.specs.Limits.{account_limit, thread_limit, object_limit}
-use Rattle.mg_model.specs.Replay.{block_of}
-use Rattle.mg_model.specs.Settings.{Settings}
-use Rattle.mg_model.specs.Spelling.{account_read, globals_read, object_read, thread_read}
-use Rattle.mg_model.specs.State.{Counters, ObjectRow, ThreadRow}
-use Rattle.mg_model.specs.Volume.{Damaged, Rows, VolumeRead, has_no_gap, live_rows, rows_of, state_spelled}
-use Rattle.mg_model.specs.VolumeLemmas.{rows_from, rows_with}
-use Rattle.mg_rules.specs.RowsTold.{HasNoState, NoCounters}
-use Rattle.mg_rules.specs.TableTold.{HasRest}
-use Rattle.mg_rules.specs.TableRows.{AreLive, NotSpelled}
+use Rattle.mg_model.specs.{Bytes.are_zeros, Layout.globals_block, Limits.{account_limit, thread_limit, object_limit}}
+use Rattle.mg_model.specs.{Replay.block_of, Settings.Settings, Spelling.{account_read, globals_read, object_read}}
+use Rattle.mg_model.specs.{Spelling.thread_read, State.{Counters, ObjectRow, ThreadRow}, Volume.{Damaged, Rows}}
+use Rattle.mg_model.specs.{Volume.{VolumeRead, has_no_gap, live_rows, rows_of, state_spelled}, VolumeLemmas.rows_from}
+use Rattle.mg_model.specs.{VolumeLemmas.rows_with, declared.accounts.AccRow.AccRow}
+use Rattle.mg_rules.specs.{RowsTold.{HasNoState, NoCounters}, TableRows.{AreLive, NotSpelled}, TableTold.HasRest}
 
 -- over what is read, whatever it is
 module _ (frames : ℕ) (whole : List ℕ) where

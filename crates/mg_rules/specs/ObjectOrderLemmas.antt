@@ -1,15 +1,11 @@
 -- The objects that rows spell are as many, and have as many pages.
+use Rattle.std.proofs.{Common.{refl, sym, ap, ◌∙◌, subst, ⊎_elim}, lemmas.{Bool.cases_Bool, List.length-map}}
+use Rattle.std.proofs.lemmas.List.Sorted.{IsPermutation-cons, IsPermutation-middle, IsPermutation-refl}
+use Rattle.std.proofs.lemmas.List.Sorted.{IsPermutation-sym, IsPermutation-trans, length_permutation}
+use Rattle.std.{proofs.lemmas.List.{Sorted.sum_by-IsPermutation, Sums.sum_by-cons}, specs.List.Sorted.IsPermutation}
 use Rattle.std.specs.Prelude.{◌≡◌, ℕ, ◌+◌, nat_lt, Bool, true, false, List, [], ◌∷◌, if◌then◌else◌, length, map, sum_by}
-use Rattle.std.specs.List.Sorted.{IsPermutation}
-use Rattle.std.proofs.Common.{refl, sym, ap, ◌∙◌, subst, ⊎_elim}
-use Rattle.std.proofs.lemmas.Bool.{cases_Bool}
-use Rattle.std.proofs.lemmas.List.Sorted.{IsPermutation-cons, IsPermutation-middle, IsPermutation-refl, IsPermutation-sym, IsPermutation-trans, length_permutation, sum_by-IsPermutation}
-use Rattle.std.proofs.lemmas.List.{length-map}
-use Rattle.std.proofs.lemmas.List.Sums.{sum_by-cons}
-use Rattle.mg_model.specs.Bank.{used}
-use Rattle.mg_model.specs.Objects.{with_object}
-use Rattle.mg_model.specs.State.{Object, ObjectRow}
-use Rattle.mg_model.specs.Volume.{object_spelled, objects_spelled}
+use Rattle.mg_model.specs.{Bank.used, Objects.with_object, State.{Object, ObjectRow}, Volume.object_spelled}
+use Rattle.mg_model.specs.Volume.{objects_spelled}
 
 inserted : (new : Object) (objects : List Object) → IsPermutation (new ∷ objects) (with_object new objects)
 inserted new [] = IsPermutation-refl (new ∷ [])

@@ -1,11 +1,9 @@
 -- Rows in the order of their places, one place after another.
-use Rattle.std.specs.Prelude.{◌≡◌, ℕ, ◌+◌, ◌<◌, ◌≤◌, All, AllPairs, List, [], ◌∷◌, ◌++◌}
-use Rattle.std.proofs.Common.{subst, sym, arith, length-append}
-use Rattle.std.proofs.lemmas.List.Elements.{All-append, All-cons, All-head, All-nil, All-tail}
-use Rattle.std.proofs.lemmas.List.Kept.{AllPairs-cons}
+use Rattle.std.proofs.{Common.{subst, sym, arith, length-append}, lemmas.List.Elements.{All-append, All-cons, All-head}}
+use Rattle.std.{proofs.lemmas.List.{Elements.{All-nil, All-tail}, Kept.AllPairs-cons}, specs.Prelude.{◌≡◌, ℕ, ◌+◌, ◌<◌}}
+use Rattle.std.specs.Prelude.{◌≤◌, All, AllPairs, List, [], ◌∷◌, ◌++◌}
 use Rattle.mg_model.specs.KeptListLemmas.{AllPairs-head, AllPairs-nil, AllPairs-tail}
-use Rattle.mg_rules.specs.RowsRead.{ArePlaced}
-use Rattle.mg_rules.specs.TableRows.{EachKeeps}
+use Rattle.mg_rules.specs.{RowsRead.ArePlaced, TableRows.EachKeeps}
 
 module _ {R : Type 0} where
   abbrev Before : ℕ × R → ℕ × R → Type 0

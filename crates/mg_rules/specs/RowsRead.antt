@@ -1,15 +1,11 @@
 -- The rows of a volume as they are read and held.
-use Rattle.std.specs.Prelude.{◌≡◌, ◌≤◌, ◌<◌, ◌+◌, ℕ, true, List, [], ◌∷◌, All, AllPairs, Option, None, Some, length, vec_capacity}
+use Rattle.std.specs.Prelude.{◌≡◌, ◌≤◌, ◌<◌, ◌+◌, ℕ, true, List, [], ◌∷◌, All, AllPairs, Option, None, Some, length}
+use Rattle.std.specs.Prelude.{vec_capacity}
+use Rattle.{mg_disk.specs.Disk.Image, mg_model.specs.{Layout.{super_block, total_blocks}, Limits.account_limit}}
+use Rattle.mg_model.specs.{Limits.{thread_limit, object_limit}, Ranges.IsObjectRow, Replay.{block_of, replay}}
+use Rattle.mg_model.specs.{Spelling.{Spells, super_read}, State.{ObjectRow, State}, Volume.{Is, Rows, has_open_gate}}
+use Rattle.mg_model.specs.{Volume.{rows_of, state_fits, state_spelled, volume}, declared.accounts.AccRow.AccRow}
 use Rattle.mg_rules.specs.declared.volume_rows.VolumeRows.{VolumeRows}
-use Rattle.mg_disk.specs.Disk.{Image}
-use Rattle.mg_model.specs.declared.accounts.AccRow.{AccRow}
-use Rattle.mg_model.specs.Layout.{super_block, total_blocks}
-use Rattle.mg_model.specs.Limits.{account_limit, thread_limit, object_limit}
-use Rattle.mg_model.specs.Ranges.{IsObjectRow}
-use Rattle.mg_model.specs.Replay.{block_of, replay}
-use Rattle.mg_model.specs.Spelling.{Spells, super_read}
-use Rattle.mg_model.specs.State.{ObjectRow, State}
-use Rattle.mg_model.specs.Volume.{Is, Rows, has_open_gate, rows_of, state_fits, state_spelled, volume}
 
 -- accounts with their places, from place i on
 abbrev pub placed_from : ℕ → List AccRow → List (ℕ × AccRow)

@@ -1,12 +1,8 @@
 -- What the rows that were read say of a volume.
 use Rattle.std.specs.Prelude.{◌≡◌, ℕ, List, None, Some}
+use Rattle.mg_model.specs.{Layout.globals_block, Replay.block_of, Settings.Settings, Spelling.globals_read}
+use Rattle.{mg_model.specs.Volume.{Damaged, Is, replayed_volume, rows_of}, mg_rules.specs.RowsRead.{rows_in, state_in}}
 use Rattle.mg_rules.specs.declared.volume_rows.VolumeRows.{VolumeRows}
-use Rattle.mg_rules.specs.RowsRead.{rows_in, state_in}
-use Rattle.mg_model.specs.Layout.{globals_block}
-use Rattle.mg_model.specs.Replay.{block_of}
-use Rattle.mg_model.specs.Settings.{Settings}
-use Rattle.mg_model.specs.Spelling.{globals_read}
-use Rattle.mg_model.specs.Volume.{Damaged, Is, replayed_volume, rows_of}
 
 -- the globals are not spelled
 pub record NoCounters (image : List (List ℕ)) : Type 0 where

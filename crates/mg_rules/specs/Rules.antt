@@ -1,13 +1,8 @@
 -- The rules that hold between rows, as they are tested.
-use Rattle.std.specs.Prelude.{◌≡◌, ℕ, Bool, true, All, List, map}
-use Rattle.std.specs.List.Sorted.{IsPermutation}
-use Rattle.mg_rules.specs.declared.volume_rows.VolumeRows.{VolumeRows}
-use Rattle.mg_rules.specs.RowsRead.{rows_in, state_in}
-use Rattle.mg_rules.specs.Spans.{IsSome, ordered_from}
-use Rattle.mg_disk.specs.Disk.{Image}
-use Rattle.mg_model.specs.Objects.{page_behind, page_of}
-use Rattle.mg_model.specs.State.{ObjectRow, ThreadRow}
-use Rattle.mg_model.specs.Volume.{state_fits}
+use Rattle.std.specs.{List.Sorted.IsPermutation, Prelude.{◌≡◌, ℕ, Bool, true, All, List, map}}
+use Rattle.{mg_disk.specs.Disk.Image, mg_model.specs.{Objects.{page_behind, page_of}, State.{ObjectRow, ThreadRow}}}
+use Rattle.{mg_model.specs.Volume.state_fits, mg_rules.specs.{RowsRead.{rows_in, state_in}, Spans.IsSome}}
+use Rattle.mg_rules.specs.{Spans.ordered_from, declared.volume_rows.VolumeRows.VolumeRows}
 
 abbrev pub births_of : List (ℕ × ThreadRow) → List ℕ
 births_of rows = map (λ (row : ℕ × ThreadRow). row.1.birth) rows

@@ -1,13 +1,9 @@
 -- What is reported of an image with a superblock.
 use Rattle.std.specs.Prelude.{◌≡◌, ℕ, List, Some}
+use Rattle.{mg_disk.specs.Disk.Image, mg_model.specs.{Layout.{super_block, total_blocks}, Replay.{block_of, replay}}}
+use Rattle.mg_model.specs.{Settings.Settings, Spelling.{Spells, super_read}, Volume.{Is, IsOpened, rows_of}}
+use Rattle.{mg_model.specs.Volume.settled_volume, mg_rules.specs.RowsRead.{rows_in, state_in}}
 use Rattle.mg_rules.specs.declared.volume_rows.VolumeRows.{VolumeRows}
-use Rattle.mg_rules.specs.RowsRead.{rows_in, state_in}
-use Rattle.mg_disk.specs.Disk.{Image}
-use Rattle.mg_model.specs.Layout.{super_block, total_blocks}
-use Rattle.mg_model.specs.Replay.{block_of, replay}
-use Rattle.mg_model.specs.Settings.{Settings}
-use Rattle.mg_model.specs.Spelling.{Spells, super_read}
-use Rattle.mg_model.specs.Volume.{Is, IsOpened, rows_of, settled_volume}
 
 -- its gate is open, and its superblock spells these settings
 pub record HasSettings (settings : Settings) (image : List (List ℕ)) : Type 0 where

@@ -1,19 +1,12 @@
 -- From what is said of the rows to what is said of the image.
-use Rattle.std.proofs.Common.{arith}
-use Rattle.std.specs.Prelude.{◌≡◌, ℕ, ◌<◌, ◌≤◌, ◌==◌, nat_le, Bool, true, List, IsSome, if◌then◌else◌, length, Option, None, Some}
-use Rattle.std.specs.Option.{option_map_or}
-use Rattle.std.proofs.Common.{refl, sym, ap, ◌∙◌}
-use Rattle.std.proofs.lemmas.Bool.{and_from, eq-eqb, eqb-true, le-leb, lt-leb}
-use Rattle.mg_rules.specs.declared.volume_rows.VolumeRows.{VolumeRows}
-use Rattle.mg_rules.specs.RowsRead.{IsReadAs}
-use Rattle.mg_rules.specs.RowsTold.{TellsRows}
-use Rattle.mg_rules.specs.Settled.{HasSettings, IsSettled}
-use Rattle.mg_model.specs.Layout.{gate_open, super_block, total_blocks}
-use Rattle.mg_model.specs.Replay.{block_of, replay}
-use Rattle.mg_model.specs.Settings.{Settings}
-use Rattle.mg_model.specs.Spelling.{Spells, SuperRead, super_read}
-use Rattle.mg_model.specs.Volume.{Damaged, VolumeRead, replayed_volume, rows_of, settled_volume, volume, volume_behind, IsOpened, gate_byte}
-use Rattle.mg_model.specs.VolumeLemmas.{volume-opened}
+use Rattle.std.proofs.{Common.{arith, refl, sym, ap, ◌∙◌}, lemmas.Bool.{and_from, eq-eqb, eqb-true, le-leb, lt-leb}}
+use Rattle.std.specs.{Option.option_map_or, Prelude.{◌≡◌, ℕ, ◌<◌, ◌≤◌, ◌==◌, nat_le, Bool, true, List, IsSome}}
+use Rattle.std.specs.Prelude.{if◌then◌else◌, length, Option, None, Some}
+use Rattle.mg_model.specs.{Layout.{gate_open, super_block, total_blocks}, Replay.{block_of, replay}, Settings.Settings}
+use Rattle.mg_model.specs.{Spelling.{Spells, SuperRead, super_read}, Volume.{Damaged, VolumeRead, replayed_volume}}
+use Rattle.mg_model.specs.Volume.{rows_of, settled_volume, volume, volume_behind, IsOpened, gate_byte}
+use Rattle.{mg_model.specs.VolumeLemmas.volume-opened, mg_rules.specs.{RowsRead.IsReadAs, RowsTold.TellsRows}}
+use Rattle.mg_rules.specs.{Settled.{HasSettings, IsSettled}, declared.volume_rows.VolumeRows.VolumeRows}
 
 pub some_in : {X : Type 0} (o : Option X) → IsSome o → (x : X) × (o ≡ Some x)
 some_in None is = absurd (cc)

@@ -1,6 +1,5 @@
 -- Runs of numbers: each a pair of its first number and the one right after it.
-use Rattle.std.specs.Prelude.{ℕ, ◌≡◌, ◌+◌, ◌<◌, ◌&&◌, nat_le, nat_lt, Bool, true, List, [], ◌∷◌}
-use Rattle.std.specs.List.{list_any}
+use Rattle.std.specs.{List.list_any, Prelude.{ℕ, ◌≡◌, ◌+◌, ◌<◌, ◌&&◌, nat_le, nat_lt, Bool, true, List, [], ◌∷◌}}
 
 -- whether each run begins at or after the end of the one before, and the first at or after a bound
 abbrev pub apart_from : ℕ → List (ℕ × ℕ) → Bool

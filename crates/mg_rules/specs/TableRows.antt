@@ -1,8 +1,6 @@
 -- What is said of the live rows of a table.
 use Rattle.std.specs.Prelude.{◌≡◌, ◌+◌, ℕ, All, List, None, Some}
-use Rattle.mg_model.specs.Spelling.{Read}
-use Rattle.mg_model.specs.Volume.{live_rows}
-use Rattle.mg_rules.specs.RowsRead.{ArePlaced}
+use Rattle.{mg_model.specs.{Spelling.Read, Volume.live_rows}, mg_rules.specs.RowsRead.ArePlaced}
 
 -- each of the first n rows is spelled, and these are the live ones among them, each with its place
 pub record AreLive {R : Type 0} (read : ℕ → Read R) (n : ℕ) (rows : List (ℕ × R)) : Type 0 where

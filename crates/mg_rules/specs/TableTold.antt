@@ -1,8 +1,6 @@
 -- What is read of the frame table.
 use Rattle.std.specs.Prelude.{◌≡◌, ℕ, zero, suc, ◌+◌, ◌-◌, ◌*◌, ◌/◌, ◌%◌, min, true, false, List, [], ◌∷◌, drop}
-use Rattle.mg_model.specs.Abbreviations.{table_of, whole_table}
-use Rattle.mg_model.specs.Bytes.{are_zeros, number_at}
-use Rattle.mg_model.specs.Layout.{table_block}
+use Rattle.mg_model.specs.{Abbreviations.{table_of, whole_table}, Bytes.{are_zeros, number_at}, Layout.table_block}
 use Rattle.mg_model.specs.Replay.{block_of}
 
 -- entry i of the table in its block

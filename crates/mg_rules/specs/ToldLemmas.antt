@@ -1,23 +1,14 @@
 -- What is said of an image that spells the rows.
-use Rattle.std.proofs.Common.{arith}
-use Rattle.std.specs.Prelude.{◌≡◌, ℕ, ◌+◌, true, false, List, [], ◌∷◌, if◌then◌else◌, Some}
-use Rattle.std.proofs.Common.{refl, sym, ap, ◌∙◌}
-use Rattle.mg_rules.specs.declared.volume_rows.VolumeRows.{VolumeRows}
-use Rattle.mg_rules.specs.RowsRead.{objects_of, placed_from, rows_in, state_in}
-use Rattle.mg_rules.specs.RowsTold.{AreTold, HasNoState, TellsRows}
-use Rattle.mg_rules.specs.TableTold.{IsTable}
-use Rattle.mg_rules.specs.TableRows.{AreLive}
-use Rattle.mg_rules.specs.Rules.{Decides}
-use Rattle.mg_disk.specs.Disk.{Image}
-use Rattle.mg_model.specs.declared.accounts.AccRow.{AccRow}
-use Rattle.mg_model.specs.Abbreviations.{account_row_bytes, accounts_spelled, fitting, object_row_bytes, thread_row_bytes, whole_table}
-use Rattle.mg_model.specs.Layout.{globals_block}
-use Rattle.mg_model.specs.Limits.{account_limit, thread_limit, object_limit}
-use Rattle.mg_model.specs.Replay.{block_of}
-use Rattle.mg_model.specs.Settings.{Settings}
-use Rattle.mg_model.specs.Spelling.{account_read, globals_read, object_read, thread_read}
-use Rattle.mg_model.specs.Volume.{Damaged, Is, replayed_volume, rows_of}
-use Rattle.mg_model.specs.VolumeLemmas.{rows-read, rows_with}
+use Rattle.std.{proofs.Common.{arith, refl, sym, ap, ◌∙◌}, specs.Prelude.{◌≡◌, ℕ, ◌+◌, true, false, List, [], ◌∷◌}}
+use Rattle.std.specs.Prelude.{if◌then◌else◌, Some}
+use Rattle.{mg_disk.specs.Disk.Image, mg_model.specs.Abbreviations.{account_row_bytes, accounts_spelled, fitting}}
+use Rattle.mg_model.specs.{Abbreviations.{object_row_bytes, thread_row_bytes, whole_table}, Layout.globals_block}
+use Rattle.mg_model.specs.{Limits.{account_limit, thread_limit, object_limit}, Replay.block_of, Settings.Settings}
+use Rattle.mg_model.specs.{Spelling.{account_read, globals_read, object_read, thread_read}, Volume.{Damaged, Is}}
+use Rattle.mg_model.specs.{Volume.{replayed_volume, rows_of}, VolumeLemmas.{rows-read, rows_with}}
+use Rattle.{mg_model.specs.declared.accounts.AccRow.AccRow, mg_rules.specs.RowsRead.{objects_of, placed_from, rows_in}}
+use Rattle.mg_rules.specs.{RowsRead.state_in, RowsTold.{AreTold, HasNoState, TellsRows}, Rules.Decides}
+use Rattle.mg_rules.specs.{TableRows.AreLive, TableTold.IsTable, declared.volume_rows.VolumeRows.VolumeRows}
 
 -- accounts in their places
 pub accounts-placed : (i : ℕ) (accounts : List AccRow) → accounts_spelled (placed_from i accounts) ≡ accounts

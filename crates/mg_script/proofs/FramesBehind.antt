@@ -1,17 +1,8 @@
 -- The frames of a thread that entered an object, with the last one returning a word further on.
-use Rattle.std.proofs.Common.{◌+◌, ◌-◌, ◌%◌, ◌≤◌, ◌≡◌, ◌++◌, List, [], ◌∷◌, length, Some, ap, ◌∙◌, arith}
-use Rattle.std.proofs.lemmas.Bool.{cond_both, cond-false}
-use Rattle.std.proofs.lemmas.Bool.Decides.{nat_tests}
-use Rattle.std.proofs.lemmas.List.{length-append}
-use Rattle.std.proofs.lemmas.Option.{slice_get-get_or}
-use Rattle.std.proofs.Math.Seq.{get_or-append_seam, take-append_seam}
-use Rattle.std.specs.Prelude.{slice_get}
-use Rattle.std.specs.Option.{option_map_or}
-use Rattle.mg_model.specs.Access.{last_slots}
-use Rattle.mg_model.specs.Domains.{last_back}
-use Rattle.mg_model.specs.Script.{word_end}
-use Rattle.mg_model.specs.State.{CallFrame}
-use Rattle.mg_script.specs.Effects.{returning_on}
+use Rattle.{mg_model.specs.{Access.last_slots, Domains.last_back, Script.word_end, State.CallFrame}, mg_script.specs.Effects.returning_on}
+use Rattle.std.proofs.{Common.{◌+◌, ◌-◌, ◌%◌, ◌≤◌, ◌≡◌, ◌++◌, List, [], ◌∷◌, length, Some, ap, ◌∙◌, arith}, Math.Seq.get_or-append_seam}
+use Rattle.std.proofs.{Math.Seq.take-append_seam, lemmas.{Bool.{cond_both, cond-false, Decides.nat_tests}, List.length-append}}
+use Rattle.std.{proofs.lemmas.Option.slice_get-get_or, specs.{Option.option_map_or, Prelude.slice_get}}
 
 below_last : (frames : List CallFrame) (frame : CallFrame) → length (frames ++ frame ∷ []) - 1 ≡ length frames
 below_last frames frame = let long : length (frames ++ frame ∷ []) ≡ length frames + 1 = length-append frames (frame ∷ []) in omega arith

@@ -1,13 +1,8 @@
 -- Changes of one thread's row, one after another, and what is read of the threads after them.
-use Rattle.std.proofs.Common.{ℕ, suc, ◌<◌, ◌≡◌, ◌≢◌, Bool, true, false, cond, eqb, List, [], ◌∷◌, length, get_or, map, Some, None, refl, sym, ap, ◌∙◌, subst, arith}
-use Rattle.std.proofs.lemmas.Bool.{cond_both, cond-false, eqb-true, ne_eqb}
-use Rattle.std.proofs.lemmas.Option.{same_Some}
-use Rattle.std.specs.Prelude.{AllPairs, find}
-use Rattle.std.specs.Option.{option_map_or}
-use Rattle.mg_model.specs.Access.{domain_of, last_slots}
-use Rattle.mg_model.specs.Domains.{frames_of, row_of, with_thread}
-use Rattle.mg_model.specs.KeptListLemmas.{AllPairs-head, AllPairs-tail}
-use Rattle.mg_model.specs.State.{CallFrame, State, Thread, ThreadRow}
+use Rattle.mg_model.specs.{Access.{domain_of, last_slots}, Domains.{frames_of, row_of, with_thread}, KeptListLemmas.{AllPairs-head, AllPairs-tail}}
+use Rattle.{mg_model.specs.State.{CallFrame, State, Thread, ThreadRow}, std.proofs.Common.{ℕ, suc, ◌<◌, ◌≡◌, ◌≢◌, Bool, true, false, cond, eqb, List}}
+use Rattle.std.proofs.{Common.{[], ◌∷◌, length, get_or, map, Some, None, refl, sym, ap, ◌∙◌, subst, arith}, lemmas.Bool.{cond_both, cond-false}}
+use Rattle.std.{proofs.lemmas.{Bool.{eqb-true, ne_eqb}, Option.same_Some}, specs.{Option.option_map_or, Prelude.{AllPairs, find}}}
 
 -- the thread with a change of its row, if it has the number
 abbrev changed : ℕ → (ThreadRow → ThreadRow) → Thread → Thread

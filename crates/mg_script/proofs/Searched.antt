@@ -1,24 +1,12 @@
 -- What a turn reads and costs, by the instruction that its word spells.
-use Rattle.std.specs.Prelude.{ℕ, ◌≡◌, ◌+◌, ◌&&◌, Bool, true, false, not, nat_lt, [], ◌∷◌, if◌then◌else◌, Option, Some, None}
-use Rattle.std.specs.Option.{option_map_or}
-use Rattle.std.proofs.Common.{arith, refl}
-use Rattle.std.proofs.lemmas.Bool.{false≢true}
-use Rattle.mg_model.specs.declared.calls.Call.{Call}
+use Rattle.mg_model.specs.{Accesses.{call_accesses, call_words, instruction_accesses, instruction_words, word_access}, Refused.checked}
+use Rattle.mg_model.specs.{Script.{decoded, operand, register}, State.{State, ThreadRow}, Turn.thread_call, Warmth.{disturbs, is_calm, is_ok}}
+use Rattle.mg_model.specs.declared.{calls.Call.Call, instructions.Instr.Instr, replies.{Refusal.TheVariants.{Align, Denied}, Reply.TheVariants.Done}}
+use Rattle.{mg_model.specs.declared.rights.Right.TheVariants.P, mg_script.specs.{Actions.call_of, Effects.begun, TurnCosts.TurnsSearchAsCalls}}
+use Rattle.std.{proofs.{Common.{arith, refl}, lemmas.Bool.false≢true}, specs.{Option.option_map_or, Prelude.{ℕ, ◌≡◌, ◌+◌, ◌&&◌, Bool, true, false}}}
+use Rattle.std.specs.Prelude.{not, nat_lt, [], ◌∷◌, if◌then◌else◌, Option, Some, None}
 use Rattle.mg_model.specs.declared.calls.Call.TheVariants as call
-use Rattle.mg_model.specs.declared.instructions.Instr.{Instr}
 use Rattle.mg_model.specs.declared.instructions.Instr.TheVariants as op
-use Rattle.mg_model.specs.declared.replies.Refusal.TheVariants.{Align, Denied}
-use Rattle.mg_model.specs.declared.replies.Reply.TheVariants.{Done}
-use Rattle.mg_model.specs.declared.rights.Right.TheVariants.{P}
-use Rattle.mg_model.specs.Accesses.{call_accesses, call_words, instruction_accesses, instruction_words, word_access}
-use Rattle.mg_model.specs.Refused.{checked}
-use Rattle.mg_model.specs.Script.{decoded, operand, register}
-use Rattle.mg_model.specs.State.{State, ThreadRow}
-use Rattle.mg_model.specs.Turn.{thread_call}
-use Rattle.mg_model.specs.Warmth.{disturbs, is_calm, is_ok}
-use Rattle.mg_script.specs.Actions.{call_of}
-use Rattle.mg_script.specs.Effects.{begun}
-use Rattle.mg_script.specs.TurnCosts.{TurnsSearchAsCalls}
 
 -- the call of what a word spells
 abbrev asked : ThreadRow → Option Instr → Call

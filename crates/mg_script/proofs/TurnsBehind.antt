@@ -1,43 +1,24 @@
 -- A turn is a call, and then another row for the thread.
-use Rattle.std.proofs.Common.{arith}
-use Rattle.std.proofs.Common.{ℕ, ◌+◌, ◌-◌, ◌≤◌, ◌≡◌, ◌++◌, Bool, true, false, cond, eqb, ltb, not, List, [], ◌∷◌, length, take, Option, Some, None, refl, sym, ap, ◌∙◌, subst, All}
-use Rattle.std.proofs.lemmas.Bool.{cond_both}
-use Rattle.std.proofs.lemmas.List.Elements.{All-head, All-tail}
-use Rattle.std.proofs.lemmas.Option.{same_Some}
-use Rattle.std.specs.Prelude.{find}
-use Rattle.std.specs.Option.{option_map_or}
-use Rattle.mg_laws.specs.Backing.{BackingRestsOnDomain, FramesKeepBacked}
-use Rattle.mg_laws.specs.Scripts.{RestsOnNoRegister, is_by_script, with_frames_of}
-use Rattle.mg_model.specs.declared.calls.Call.{Call}
+use Rattle.mg_laws.specs.{Backing.{BackingRestsOnDomain, FramesKeepBacked}, Scripts.{RestsOnNoRegister, is_by_script, with_frames_of}}
+use Rattle.mg_model.specs.{Abbreviations.{advanced, entered_slots, refusal_number, unless_refused}, Access.{allowed, domain_of, last_slots}}
+use Rattle.mg_model.specs.{Access.thread_of, Backed.{KeepsBacked, by_none}, Domains.{frames_of, last_back, pdx, ret, row_of, with_thread}}
+use Rattle.mg_model.specs.{ObjectCalls.is_aligned, Objects.{with_word, word_at}, Ranges.IsThreadRow, Refused.{Answer, checked}, Script.decoded}
+use Rattle.mg_model.specs.{Script.with_register, State.{State, Thread, ThreadRow}, Turn.{faulted, put_row, run, run_word, with_answer, script_call}}
+use Rattle.mg_model.specs.{Turn.{thread_call, turned, values_of, with_registers}, WellFormed.{IsThread, IsWellFormed}, declared.calls.Call.Call}
+use Rattle.mg_model.specs.declared.{instructions.Instr.Instr, replies.{Refusal.Refusal, Reply.Reply}, rights.Right.TheVariants.{R, W, X}}
+use Rattle.{mg_model.specs.declared.{slots.Slot.Slot, threads.ThrState.TheVariants.Ready}, mg_script.proofs.FramesBehind.returning_on-put}
+use Rattle.mg_script.proofs.{FramesBehind.returning_on-slots, RowChanges.{domain-changed, frames-changed, with_thread-like, with_thread-same}}
+use Rattle.mg_script.{proofs.RowChanges.with_thread-then, specs.{Actions.settled, Effects.{HasFrames, IsSpelledBy, entered, faulted_row, finished}}}
+use Rattle.mg_script.specs.{Effects.{is_spelled, loaded, made_by, resumed, returned, stood, stored, turned_on}, Turns.TurnsAreCalls}
+use Rattle.{mg_script.specs.{Turns.{TurnsRowsKeepBacked, fetched_word}, declared.effects.Effect.Effect}, std.proofs.Common.{arith, ℕ, ◌+◌, ◌-◌, ◌≤◌}}
+use Rattle.std.proofs.Common.{◌≡◌, ◌++◌, Bool, true, false, cond, eqb, ltb, not, List, [], ◌∷◌, length, take, Option, Some, None, refl, sym, ap, ◌∙◌}
+use Rattle.std.proofs.{Common.{subst, All}, lemmas.{Bool.cond_both, List.Elements.{All-head, All-tail}, Option.same_Some}}
+use Rattle.std.specs.{Option.option_map_or, Prelude.find}
 use Rattle.mg_model.specs.declared.calls.Call.TheVariants as call
-use Rattle.mg_model.specs.declared.instructions.Instr.{Instr}
-use Rattle.mg_model.specs.declared.replies.Refusal.{Refusal}
 use Rattle.mg_model.specs.declared.replies.Refusal.TheVariants as refusal
-use Rattle.mg_model.specs.declared.replies.Reply.{Reply}
 use Rattle.mg_model.specs.declared.replies.Reply.TheVariants as reply
-use Rattle.mg_model.specs.declared.rights.Right.TheVariants.{R, W, X}
-use Rattle.mg_model.specs.declared.slots.Slot.{Slot}
 use Rattle.mg_model.specs.declared.threads.Fault.TheVariants as fault
-use Rattle.mg_model.specs.declared.threads.ThrState.TheVariants.{Ready}
-use Rattle.mg_model.specs.Abbreviations.{advanced, entered_slots, refusal_number, unless_refused}
-use Rattle.mg_model.specs.Access.{allowed, domain_of, last_slots, thread_of}
-use Rattle.mg_model.specs.Backed.{KeepsBacked, by_none}
-use Rattle.mg_model.specs.Domains.{frames_of, last_back, pdx, ret, row_of, with_thread}
-use Rattle.mg_model.specs.ObjectCalls.{is_aligned}
-use Rattle.mg_model.specs.Objects.{with_word, word_at}
-use Rattle.mg_model.specs.Ranges.{IsThreadRow}
-use Rattle.mg_model.specs.Refused.{Answer, checked}
-use Rattle.mg_model.specs.Script.{decoded, with_register}
-use Rattle.mg_model.specs.State.{State, Thread, ThreadRow}
-use Rattle.mg_model.specs.Turn.{faulted, put_row, run, run_word, with_answer, script_call, thread_call, turned, values_of, with_registers}
-use Rattle.mg_model.specs.WellFormed.{IsThread, IsWellFormed}
-use Rattle.mg_script.specs.declared.effects.Effect.{Effect}
 use Rattle.mg_script.specs.declared.effects.Effect.TheVariants as effect
-use Rattle.mg_script.specs.Actions.{settled}
-use Rattle.mg_script.specs.Effects.{HasFrames, IsSpelledBy, entered, faulted_row, finished, is_spelled, loaded, made_by, resumed, returned, stood, stored, turned_on}
-use Rattle.mg_script.specs.Turns.{TurnsAreCalls, TurnsRowsKeepBacked, fetched_word}
-use Rattle.mg_script.proofs.FramesBehind.{returning_on-put, returning_on-slots}
-use Rattle.mg_script.proofs.RowChanges.{domain-changed, frames-changed, with_thread-like, with_thread-same, with_thread-then}
 
 -- the state with the row after a call
 abbrev behind : ℕ → Effect → Answer → State

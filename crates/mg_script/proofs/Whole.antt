@@ -1,11 +1,7 @@
 -- An effect and its action say the same of a turn.
-use Rattle.std.proofs.Common.{ℕ, ◌≡◌, refl}
-use Rattle.mg_model.specs.Abbreviations.{advanced}
-use Rattle.mg_model.specs.State.{State, ThreadRow}
-use Rattle.mg_script.specs.declared.effects.Effect.{Effect}
+use Rattle.{mg_model.specs.{Abbreviations.advanced, State.{State, ThreadRow}}, mg_script.specs.Actions.{HasRegister, OnlyMoves, carried_out}}
+use Rattle.{mg_script.specs.{Effects.{HasPlace, action_of, finished}, declared.effects.Effect.Effect}, std.proofs.Common.{ℕ, ◌≡◌, refl}}
 use Rattle.mg_script.specs.declared.effects.Effect.TheVariants as effect
-use Rattle.mg_script.specs.Actions.{HasRegister, OnlyMoves, carried_out}
-use Rattle.mg_script.specs.Effects.{HasPlace, action_of, finished}
 
 -- the row's own pc does not matter
 pub whole-turn : (state : State) (t : ℕ) (thread : ThreadRow) (asked : Effect) → carried_out state t (advanced thread) (action_of thread asked) ≡ finished state t (advanced thread) asked

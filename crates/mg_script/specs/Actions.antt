@@ -1,21 +1,15 @@
 -- What an instruction does to the machine, as an action with the thread's whole row.
 use Rattle.std.specs.Prelude.{ℕ, ◌≡◌, ◌<◌, ◌∷◌, nat_lt, if◌then◌else◌}
-use Rattle.mg_model.specs.declared.calls.Call.{Call}
+use Rattle.mg_model.specs.{Abbreviations.refusal_number, Access.allowed, Domains.{pdx, ret}, Objects.with_word}
+use Rattle.mg_model.specs.{Objects.word_at, Script.{operand, register, with_register}, State.{State, ThreadRow}}
+use Rattle.mg_model.specs.Turn.{put_row, with_answer, script_call, thread_call, unless_faulted, values_of}
+use Rattle.mg_model.specs.{Turn.with_registers, declared.{calls.Call.Call, instructions.Instr.Instr}}
+use Rattle.mg_model.specs.declared.{replies.Reply.Reply, rights.Right.TheVariants.{R, W}}
+use Rattle.mg_script.specs.declared.actions.Action.{Action}
 use Rattle.mg_model.specs.declared.calls.Call.TheVariants as call
-use Rattle.mg_model.specs.declared.instructions.Instr.{Instr}
 use Rattle.mg_model.specs.declared.instructions.Instr.TheVariants as op
 use Rattle.mg_model.specs.declared.replies.Refusal.TheVariants as refusal
-use Rattle.mg_model.specs.declared.replies.Reply.{Reply}
 use Rattle.mg_model.specs.declared.replies.Reply.TheVariants as reply
-use Rattle.mg_model.specs.declared.rights.Right.TheVariants.{R, W}
-use Rattle.mg_model.specs.Access.{allowed}
-use Rattle.mg_model.specs.Domains.{pdx, ret}
-use Rattle.mg_model.specs.Objects.{with_word, word_at}
-use Rattle.mg_model.specs.Script.{operand, register, with_register}
-use Rattle.mg_model.specs.State.{State, ThreadRow}
-use Rattle.mg_model.specs.Turn.{put_row, with_answer, script_call, thread_call, unless_faulted, values_of, with_registers}
-use Rattle.mg_model.specs.Abbreviations.{refusal_number}
-use Rattle.mg_script.specs.declared.actions.Action.{Action}
 use Rattle.mg_script.specs.declared.actions.Action.TheVariants as action
 
 -- The row of a thread after the reply to a call that it made by `sys`: register 0 has the refusal's number, or 0 and the next

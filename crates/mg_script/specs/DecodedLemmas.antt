@@ -1,10 +1,9 @@
 -- The fields of an instruction that a row of the table gives.
-use Rattle.std.proofs.Common.{◌≡◌, ℕ, ◌/◌, ◌%◌, ◌^◌, ◌==◌, ◌&&◌, Bool, true, false, Option, Some, None, IfSome, if◌then◌else◌, refl, ◌∙◌, arith}
-use Rattle.std.proofs.lemmas.Bool.Decides.{nat_tests}
-use Rattle.mg_model.specs.declared.instructions.Instr.{Instr}
-use Rattle.mg_model.specs.declared.instructions.Instr.TheVariants as op
-use Rattle.mg_model.specs.Script.{decoded, instruction_of, is_register, where_so}
+use Rattle.std.proofs.Common.{◌≡◌, ℕ, ◌/◌, ◌%◌, ◌^◌, ◌==◌, ◌&&◌, Bool, true, false, Option, Some, None, IfSome}
+use Rattle.std.proofs.{Common.{if◌then◌else◌, refl, ◌∙◌, arith}, lemmas.Bool.Decides.nat_tests}
+use Rattle.mg_model.specs.{Script.{decoded, instruction_of, is_register, where_so}, declared.instructions.Instr.Instr}
 use Rattle.mg_script.specs.Encoded.{HasRegisters, encoded, word_of}
+use Rattle.mg_model.specs.declared.instructions.Instr.TheVariants as op
 
 -- an instruction that has its registers and is spelled by these fields
 record IsSpelling (number a b c i : ℕ) (instr : Instr) : Type 0 where

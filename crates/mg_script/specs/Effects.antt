@@ -1,27 +1,18 @@
 -- What an instruction requires of the machine, and how the turn continues with it.
-use Rattle.std.specs.Prelude.{ℕ, ◌≡◌, ◌<◌, ◌+◌, ◌-◌, ◌%◌, ◌++◌, nat_le, Bool, true, false, List, [], ◌∷◌, if◌then◌else◌, length, take, Option, Some, None}
-use Rattle.std.specs.Option.{option_map_or}
-use Rattle.mg_model.specs.declared.calls.Call.{Call}
+use Rattle.std.specs.{Option.option_map_or, Prelude.{ℕ, ◌≡◌, ◌<◌, ◌+◌, ◌-◌, ◌%◌, ◌++◌, nat_le, Bool, true, false, List}}
+use Rattle.std.specs.Prelude.{[], ◌∷◌, if◌then◌else◌, length, take, Option, Some, None}
+use Rattle.mg_model.specs.{Abbreviations.{advanced, refusal_number}, Access.last_slots, Domains.last_back}
+use Rattle.mg_model.specs.{Script.{decoded, with_register, word_end}, State.{CallFrame, State, ThreadRow}, Turn.put_row}
+use Rattle.mg_model.specs.{Turn.run, declared.{calls.Call.Call, replies.{Refusal.Refusal, Reply.Reply}}}
+use Rattle.mg_model.specs.declared.threads.{Fault.Fault, ThrState.TheVariants.Faulted}
+use Rattle.mg_script.specs.{Actions.{call_of, called_by, carried_out, settled}, declared.actions.Action.Action}
+use Rattle.mg_script.specs.declared.effects.{Effect.Effect, Standing.Standing}
 use Rattle.mg_model.specs.declared.calls.Call.TheVariants as call
-use Rattle.mg_model.specs.declared.replies.Refusal.{Refusal}
 use Rattle.mg_model.specs.declared.replies.Refusal.TheVariants as refusal
-use Rattle.mg_model.specs.declared.replies.Reply.{Reply}
 use Rattle.mg_model.specs.declared.replies.Reply.TheVariants as reply
-use Rattle.mg_model.specs.declared.threads.Fault.{Fault}
 use Rattle.mg_model.specs.declared.threads.Fault.TheVariants as fault
-use Rattle.mg_model.specs.declared.threads.ThrState.TheVariants.{Faulted}
-use Rattle.mg_model.specs.Abbreviations.{advanced, refusal_number}
-use Rattle.mg_model.specs.Access.{last_slots}
-use Rattle.mg_model.specs.Domains.{last_back}
-use Rattle.mg_model.specs.Script.{decoded, with_register, word_end}
-use Rattle.mg_model.specs.State.{CallFrame, State, ThreadRow}
-use Rattle.mg_model.specs.Turn.{put_row, run}
-use Rattle.mg_script.specs.declared.actions.Action.{Action}
 use Rattle.mg_script.specs.declared.actions.Action.TheVariants as action
-use Rattle.mg_script.specs.declared.effects.Effect.{Effect}
 use Rattle.mg_script.specs.declared.effects.Effect.TheVariants as effect
-use Rattle.mg_script.specs.declared.effects.Standing.{Standing}
-use Rattle.mg_script.specs.Actions.{call_of, called_by, carried_out, settled}
 
 -- the parts of a row that an instruction changes by itself, and the row with other such parts
 abbrev pub standing : ThreadRow → Standing

@@ -1,12 +1,8 @@
 -- What a turn reads and costs: the fetch, and then what its call reads and costs.
 use Rattle.std.specs.Prelude.{ℕ, ◌≡◌, ◌+◌, ◌&&◌, true, false, ◌∷◌, if◌then◌else◌, Some}
-use Rattle.mg_model.specs.declared.rights.Right.TheVariants.{X}
-use Rattle.mg_model.specs.Access.{allowed}
-use Rattle.mg_model.specs.Accesses.{call_accesses, call_words, turn_accesses, turn_words}
-use Rattle.mg_model.specs.State.{State, ThreadRow}
-use Rattle.mg_model.specs.Turn.{thread_call}
-use Rattle.mg_model.specs.Warmth.{disturbs, is_calm_turn, is_ok}
-use Rattle.mg_script.specs.Turns.{turn_call}
+use Rattle.mg_model.specs.{Access.allowed, Accesses.{call_accesses, call_words, turn_accesses, turn_words}, State.State}
+use Rattle.mg_model.specs.{State.ThreadRow, Turn.thread_call, Warmth.{disturbs, is_calm_turn, is_ok}}
+use Rattle.{mg_model.specs.declared.rights.Right.TheVariants.X, mg_script.specs.Turns.turn_call}
 
 -- A turn's accesses are the fetch, and then those of its call. Its words are the fetched one and those of its call. If it is
 -- calm, its call disturbs nothing.

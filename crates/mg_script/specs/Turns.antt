@@ -1,18 +1,11 @@
 -- A thread's turn as a call of the machine, and then another row for the thread.
 use Rattle.std.specs.Prelude.{ℕ, ◌≡◌, if◌then◌else◌, Option, Some, None}
-use Rattle.mg_model.specs.declared.calls.Call.{Call}
-use Rattle.mg_model.specs.declared.rights.Right.TheVariants.{X}
-use Rattle.mg_model.specs.declared.threads.ThrState.TheVariants.{Ready}
-use Rattle.mg_model.specs.Abbreviations.{advanced}
-use Rattle.mg_model.specs.Access.{allowed}
-use Rattle.mg_model.specs.Backed.{KeepsBacked, by_none}
-use Rattle.mg_model.specs.Domains.{row_of, with_thread}
-use Rattle.mg_model.specs.Objects.{word_at}
-use Rattle.mg_model.specs.State.{State, ThreadRow}
-use Rattle.mg_model.specs.Turn.{thread_call, turn_state}
-use Rattle.mg_model.specs.WellFormed.{IsWellFormed}
-use Rattle.mg_script.specs.declared.effects.Effect.{Effect}
+use Rattle.mg_model.specs.{Abbreviations.advanced, Access.allowed, Backed.{KeepsBacked, by_none}, Domains.row_of}
+use Rattle.mg_model.specs.{Domains.with_thread, Objects.word_at, State.{State, ThreadRow}, Turn.thread_call}
+use Rattle.mg_model.specs.{Turn.turn_state, WellFormed.IsWellFormed, declared.calls.Call.Call}
+use Rattle.mg_model.specs.declared.{rights.Right.TheVariants.X, threads.ThrState.TheVariants.Ready}
 use Rattle.mg_script.specs.Effects.{HasFrames, IsSpelledBy, begun, finished, made_by, resumed, turned_on}
+use Rattle.mg_script.specs.declared.effects.Effect.{Effect}
 
 -- the word that a thread may fetch at its pc
 abbrev pub fetched_word : State → ℕ → ThreadRow → Option ℕ

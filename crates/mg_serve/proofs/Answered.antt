@@ -1,18 +1,12 @@
 -- How replies add up, and that each is one line.
-use Rattle.std.specs.Prelude.{ℕ, zero, suc, ◌+◌, ◌≡◌, ◌==◌, ◌/◌, ◌%◌, Bool, true, false, List, [], ◌∷◌, ◌++◌, if◌then◌else◌, cond, map, take}
-use Rattle.std.specs.Fmt.{decimal, digit_glyph, digits, digits_onto}
-use Rattle.std.proofs.Common.{refl, ap, ◌∙◌, arith}
-use Rattle.std.proofs.lemmas.Grind.{common_steps}
-use Rattle.std.proofs.lemmas.List.Sums.{sum_by-append}
-use Rattle.mg_model.specs.declared.replies.Refusal.{Refusal}
+use Rattle.mg_model.specs.{Print.{after_text, answered, hex_digit, hex_digits, hex_text, ok_text, reply_line, reply_text, spaced}, Words.is_newline}
+use Rattle.mg_model.specs.declared.{replies.{Refusal.Refusal, Reply.Reply}, threads.After.{After, TheVariants.{Ended, Faulted, Ready, Stopped}}}
+use Rattle.std.{proofs.{Common.{refl, ap, ◌∙◌, arith}, lemmas.{Grind.common_steps, List.Sums.sum_by-append}}, specs.Fmt.{decimal, digit_glyph}}
+use Rattle.std.specs.{Fmt.{digits, digits_onto}, Prelude.{ℕ, zero, suc, ◌+◌, ◌≡◌, ◌==◌, ◌/◌, ◌%◌, Bool, true, false, List, [], ◌∷◌, ◌++◌}}
+use Rattle.std.specs.Prelude.{if◌then◌else◌, cond, map, take}
 use Rattle.mg_model.specs.declared.replies.Refusal.TheVariants as refusal
-use Rattle.mg_model.specs.declared.replies.Reply.{Reply}
 use Rattle.mg_model.specs.declared.replies.Reply.TheVariants as reply
-use Rattle.mg_model.specs.declared.threads.After.{After}
-use Rattle.mg_model.specs.declared.threads.After.TheVariants.{Ended, Faulted, Ready, Stopped}
 use Rattle.mg_model.specs.declared.threads.Fault.TheVariants as fault
-use Rattle.mg_model.specs.Words.{is_newline}
-use Rattle.mg_model.specs.Print.{after_text, answered, hex_digit, hex_digits, hex_text, ok_text, reply_line, reply_text, spaced}
 
 pub answered-append : (xs ys : List ℕ) → answered (xs ++ ys) ≡ answered xs + answered ys
 answered-append xs ys = sum_by-append (λ x. cond (is_newline x) 1 0) xs ys

@@ -1,16 +1,9 @@
 -- How the lines of an input come from those of its parts.
-use Rattle.std.specs.Prelude.{ℕ, zero, suc, ◌+◌, ◌<◌, ◌≤◌, ◌≡◌, ◌||◌, Bool, true, false, List, [], ◌∷◌, ◌++◌, drop, length, take, if◌then◌else◌, replicate, Some}
-use Rattle.std.specs.Option.{option_to_list}
-use Rattle.std.specs.List.{cons_option, filter_map, list_any, onto_first, slice_split}
-use Rattle.std.proofs.Common.{refl, sym, ap, ◌∙◌, append-nil, arith, length-append}
-use Rattle.std.proofs.lemmas.List.{length-replicate, take-append-drop, take-append-le}
-use Rattle.std.proofs.Math.Seq.{take-append_seam}
-use Rattle.std.proofs.lemmas.List.Folds.{list_any-append}
-use Rattle.mg_model.specs.declared.calls.Line.{Line}
-use Rattle.mg_model.specs.Abbreviations.{longest_line}
-use Rattle.mg_model.specs.Ended.{all_but_last, ended_lines}
-use Rattle.mg_model.specs.Words.{is_newline}
-use Rattle.mg_model.specs.Lines.{bad_line, line_of, lines}
+use Rattle.mg_model.specs.{Abbreviations.longest_line, Ended.{all_but_last, ended_lines}, Lines.{bad_line, line_of, lines}, Words.is_newline}
+use Rattle.{mg_model.specs.declared.calls.Line.Line, std.proofs.Common.{refl, sym, ap, ◌∙◌, append-nil, arith, length-append}}
+use Rattle.std.proofs.{Math.Seq.take-append_seam, lemmas.List.{length-replicate, take-append-drop, take-append-le, Folds.list_any-append}}
+use Rattle.std.specs.{List.{cons_option, filter_map, list_any, onto_first, slice_split}, Option.option_to_list, Prelude.{ℕ, zero, suc, ◌+◌, ◌<◌, ◌≤◌}}
+use Rattle.std.specs.Prelude.{◌≡◌, ◌||◌, Bool, true, false, List, [], ◌∷◌, ◌++◌, drop, length, take, if◌then◌else◌, replicate, Some}
 
 -- bytes go to the front of the first piece
 abbrev pub all_onto_first : List ℕ → List (List ℕ) → List (List ℕ)

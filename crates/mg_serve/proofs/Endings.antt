@@ -1,21 +1,15 @@
 -- From how a session ended to the records of what it keeps.
-use Rattle.std.specs.Prelude.{ℕ, ◌+◌, ◌≡◌, ◌≢◌, ◌⊎◌, true, List, Option, Some, None, Result, Ok, Err, IfErr, IfSome, IsOk, OnOk}
-use Rattle.std.specs.Option.{ForSome}
-use Rattle.std.proofs.Common.{arith, inl, inr, refl, ⊎_elim}
-use Rattle.mg_disk.specs.Stops.{NothingPending}
-use Rattle.mg_disk.specs.declared.disk.Disk.{Ghosts}
-use Rattle.mg_serve.specs.declared.ended.Ended.{Ended}
+use Rattle.{mg_disk.specs.{Stops.NothingPending, declared.disk.Disk.Ghosts}, mg_serve.proofs.Outcomes.{disk_exactly, exactly, few_of, finishes_all}}
+use Rattle.mg_serve.proofs.Outcomes.{finishes_kept, finishes_stops, finishes_traces, finishes_within, not_more, sink_one, source_within, stops_bound}
+use Rattle.mg_serve.proofs.Outcomes.{stops_held, stops_moments, stops_prefix, stops_traces, too_long_more, whole_lines, within_more}
+use Rattle.mg_serve.specs.{Machines.{Entry, Point}, Parts.{KeepsExactly, SpellsAfter, TakesMore}, Readings.{Finishes, Stops}, Serving.Broken}
+use Rattle.mg_serve.specs.{Serving.{IsWithin, Serves, Session, Traces}, Sessions.{Answers, DiskRose, DiskUse, Ends, EndsSession, EndsTaking, Holds}}
+use Rattle.mg_serve.specs.{Sessions.{HoldsExactly, IsDoneOrMemory, SinkRose, SinkUse, SourceRose, SourceUse, status_at, status_of}, Waiting.Waiting}
+use Rattle.{mg_serve.specs.declared.{ended.Ended.Ended, status.Status.Status}, std.proofs.Common.{arith, inl, inr, refl, ⊎_elim}}
+use Rattle.std.specs.{Option.ForSome, Prelude.{ℕ, ◌+◌, ◌≡◌, ◌≢◌, ◌⊎◌, true, List, Option, Some, None, Result, Ok, Err, IfErr, IfSome, IsOk, OnOk}}
 use Rattle.mg_serve.specs.declared.ended.Ended.TheVariants as ended
-use Rattle.mg_serve.specs.Parts.{KeepsExactly, SpellsAfter, TakesMore}
-use Rattle.mg_serve.specs.Sessions.{Answers, DiskRose, DiskUse, Ends, EndsSession, EndsTaking, Holds, HoldsExactly, IsDoneOrMemory, SinkRose, SinkUse, SourceRose, SourceUse, status_at, status_of}
 use Rattle.mg_serve.specs.declared.machine.Machine as machines
-use Rattle.mg_serve.specs.declared.status.Status.{Status}
 use Rattle.mg_serve.specs.declared.status.Status.TheVariants as status
-use Rattle.mg_serve.specs.Readings.{Finishes, Stops}
-use Rattle.mg_serve.specs.Machines.{Entry, Point}
-use Rattle.mg_serve.specs.Serving.{Broken, IsWithin, Serves, Session, Traces}
-use Rattle.mg_serve.specs.Waiting.{Waiting}
-use Rattle.mg_serve.proofs.Outcomes.{disk_exactly, exactly, few_of, finishes_all, finishes_kept, finishes_stops, finishes_traces, finishes_within, not_more, sink_one, source_within, stops_bound, stops_held, stops_moments, stops_prefix, stops_traces, too_long_more, whole_lines, within_more}
 
 -- at another status
 not_taking : (r : Status) → r ≢ status.Source → r ≢ status.TooLong → EndsTaking r → ⊥

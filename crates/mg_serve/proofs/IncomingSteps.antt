@@ -1,23 +1,13 @@
 -- How bytes that come one after another add up.
-use Rattle.std.specs.Prelude.{ℕ, ◌+◌, ◌%◌, ◌^◌, ◌≡◌, false, List, [], ◌∷◌, ◌++◌, Some, None, Result, Ok, Err, OnOk}
-use Rattle.std.specs.List.{list_any}
-use Rattle.std.proofs.Common.{refl, sym, ap, ◌∙◌, append_assoc, append-nil, arith, subst}
-use Rattle.mg_disk.specs.Stops.{CountGoes}
-use Rattle.mg_disk.specs.declared.disk.Disk.{Ghosts}
-use Rattle.mg_faults.specs.Faults.{CountGoesOn, count_none, count_then, then_rose}
+use Rattle.{mg_disk.specs.{Stops.CountGoes, declared.disk.Disk.Ghosts}, mg_faults.specs.Faults.{CountGoesOn, count_none, count_then, then_rose}}
+use Rattle.mg_model.specs.{Counts.CountsAlike, Lines.{line_of, lines}, Words.is_newline, declared.calls.Line.Line}
+use Rattle.mg_serve.{proofs.Cutting.lines-last, specs.{Incoming.{Breaks, Goes}, Machines.{Closes, Entry, FailsToClose, Halts, Point, Runs}}}
+use Rattle.{mg_serve.specs.{Serving.{IsServing, Keeps}, Waiting.{Waiting, no_replies}, declared.ended.Ended.Ended}, std.proofs.Common.{refl, sym, ap}}
+use Rattle.std.{proofs.Common.{◌∙◌, append_assoc, append-nil, arith, subst}, specs.{List.list_any, Prelude.{ℕ, ◌+◌, ◌%◌, ◌^◌, ◌≡◌, false, List, []}}}
+use Rattle.std.specs.Prelude.{◌∷◌, ◌++◌, Some, None, Result, Ok, Err, OnOk}
 use Rattle.mg_io.specs.declared.traits.Sink as sinks
-use Rattle.mg_model.specs.declared.calls.Line.{Line}
-use Rattle.mg_serve.proofs.Cutting.{lines-last}
-use Rattle.mg_model.specs.Lines.{line_of, lines}
-use Rattle.mg_model.specs.Words.{is_newline}
-use Rattle.mg_model.specs.Counts.{CountsAlike}
-use Rattle.mg_serve.specs.declared.ended.Ended.{Ended}
 use Rattle.mg_serve.specs.declared.ended.Ended.TheVariants as ended
 use Rattle.mg_serve.specs.declared.machine.Machine as machines
-use Rattle.mg_serve.specs.Incoming.{Breaks, Goes}
-use Rattle.mg_serve.specs.Serving.{IsServing, Keeps}
-use Rattle.mg_serve.specs.Machines.{Closes, Entry, FailsToClose, Halts, Point, Runs}
-use Rattle.mg_serve.specs.Waiting.{Waiting, no_replies}
 
 -- two counts that rise by as much
 pub alike_none : (words steps : ℕ) → CountsAlike words words steps steps

@@ -1,10 +1,6 @@
 -- Where the first of the bytes that pass a test is.
-use Rattle.std.specs.Prelude.{ℕ, ◌+◌, ◌<◌, ◌≤◌, ◌≡◌, Bool, true, false, List, [], ◌∷◌, ◌++◌, drop, length, not, take}
-use Rattle.std.specs.List.{list_any, prefix_len}
-use Rattle.std.proofs.Common.{refl, sym, ap, subst, ◌∙◌, arith, cond}
-use Rattle.std.proofs.lemmas.Bool.{eqb-true}
-use Rattle.std.proofs.lemmas.List.{take_all}
-use Rattle.mg_model.specs.Words.{is_newline}
+use Rattle.{mg_model.specs.Words.is_newline, std.proofs.{Common.{refl, sym, ap, subst, ◌∙◌, arith, cond}, lemmas.{Bool.eqb-true, List.take_all}}}
+use Rattle.std.specs.{List.{list_any, prefix_len}, Prelude.{ℕ, ◌+◌, ◌<◌, ◌≤◌, ◌≡◌, Bool, true, false, List, [], ◌∷◌, ◌++◌, drop, length, not, take}}
 
 -- a byte that is no newline, and one that is
 pub stays : (v : Bool) → (v ≡ true → ⊥) → not v ≡ true

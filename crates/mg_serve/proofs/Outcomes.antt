@@ -1,34 +1,17 @@
 -- From how a session ended to the words of the clauses.
-use Rattle.std.specs.Prelude.{ℕ, ◌+◌, ◌-◌, ◌<◌, ◌≤◌, ◌≡◌, ◌≢◌, ◌⊎◌, Bool, false, true, List, [], ◌∷◌, ◌++◌, length, take, drop, Option, Some, None, IfSome, IsSomeAnd}
-use Rattle.std.specs.Option.{ForSome}
-use Rattle.std.specs.Io.KnownBytes.{Appends, IsAtEnd}
-use Rattle.std.proofs.Common.{refl, sym, ap, inr, ⊎_elim, ◌∙◌, append-nil, arith, length-append, subst}
-use Rattle.std.proofs.lemmas.List.{take-append-le, take_all}
-use Rattle.std.proofs.Math.Seq.{take-append_seam, drop-append_seam}
-use Rattle.mg_disk.specs.Disk.{Image}
-use Rattle.mg_disk.specs.Runs.{leaves_wider}
-use Rattle.mg_disk.specs.Stops.{Leaves, NothingPending}
-use Rattle.mg_disk.specs.declared.disk.Disk.{Ghosts}
-use Rattle.mg_model.specs.declared.calls.Line.{Line}
-use Rattle.mg_model.specs.Print.{answered}
-use Rattle.mg_model.specs.Ended.{ended_lines}
-use Rattle.mg_model.specs.Lines.{lines}
-use Rattle.mg_model.specs.State.{State}
-use Rattle.mg_model.specs.Volume.{Is, volume}
-use Rattle.mg_serve.specs.declared.ended.Ended.{Ended}
+use Rattle.{mg_disk.specs.{Disk.Image, Runs.leaves_wider, Stops.{Leaves, NothingPending}, declared.disk.Disk.Ghosts}, mg_io.specs.Known.TakesAtMost}
+use Rattle.mg_model.specs.{Ended.ended_lines, Lines.lines, Print.answered, State.State, Volume.{Is, volume}, declared.calls.Line.Line}
+use Rattle.mg_serve.{proofs.{Cutting.ended_lines-first, SessionSteps.{left_spells, prefix_longer}}, specs.Machines.{Entry, IsInside, Point}}
+use Rattle.mg_serve.specs.Parts.{AnswersAll, AnswersLines, AnswersPrefix, AreAnswered, FewUnanswered, IsPrefix, KeepsAnswered, KeepsExactly, KeepsOne}
+use Rattle.mg_serve.specs.{Parts.{SpellsAfter, TakesMore, replies}, Readings.{Finishes, Stops}, Serving.{Broken, Held, IsBetween, IsTraced, IsWithin}}
+use Rattle.mg_serve.specs.{Serving.{PutsWhole, Remains, Session, Stands, Traces}, Sessions.{IsAnswered, IsCut, status_at, consumed}, Waiting.Waiting}
+use Rattle.{mg_serve.specs.{Waiting.no_replies, declared.{ended.Ended.Ended, status.Status.Status}}, std.proofs.Common.{refl, sym, ap, inr, ⊎_elim}}
+use Rattle.std.proofs.{Common.{◌∙◌, append-nil, arith, length-append, subst}, Math.Seq.{take-append_seam, drop-append_seam}}
+use Rattle.std.{proofs.lemmas.List.{take-append-le, take_all}, specs.{Io.KnownBytes.{Appends, IsAtEnd}, Option.ForSome, Prelude.{ℕ, ◌+◌, ◌-◌, ◌<◌}}}
+use Rattle.std.specs.Prelude.{◌≤◌, ◌≡◌, ◌≢◌, ◌⊎◌, Bool, false, true, List, [], ◌∷◌, ◌++◌, length, take, drop, Option, Some, None, IfSome, IsSomeAnd}
 use Rattle.mg_serve.specs.declared.ended.Ended.TheVariants as ended
-use Rattle.mg_serve.specs.Parts.{AnswersAll, AnswersLines, AnswersPrefix, AreAnswered, FewUnanswered, IsPrefix, KeepsAnswered, KeepsExactly, KeepsOne, SpellsAfter, TakesMore, replies}
-use Rattle.mg_io.specs.Known.{TakesAtMost}
-use Rattle.mg_serve.specs.Sessions.{IsAnswered, IsCut, status_at, consumed}
 use Rattle.mg_serve.specs.declared.machine.Machine as machines
-use Rattle.mg_serve.specs.declared.status.Status.{Status}
 use Rattle.mg_serve.specs.declared.status.Status.TheVariants as status
-use Rattle.mg_serve.specs.Readings.{Finishes, Stops}
-use Rattle.mg_serve.specs.Machines.{Entry, IsInside, Point}
-use Rattle.mg_serve.specs.Serving.{Broken, Held, IsBetween, IsTraced, IsWithin, PutsWhole, Remains, Session, Stands, Traces}
-use Rattle.mg_serve.specs.Waiting.{Waiting, no_replies}
-use Rattle.mg_serve.proofs.Cutting.{ended_lines-first}
-use Rattle.mg_serve.proofs.SessionSteps.{left_spells, prefix_longer}
 
 -- more than the limit is not within it
 pub not_more : (limit : ℕ) (left left' : Option (List ℕ)) (promise : Type 0) → TakesMore limit left left' → IsWithin limit left promise

@@ -1,12 +1,7 @@
 -- A byte more of the line that is not ended yet.
-use Rattle.std.specs.Prelude.{ℕ, ◌≡◌, false, List, [], ◌∷◌, ◌++◌, length, Option, Result, Ok, Err, OnOk, OnErr}
-use Rattle.std.specs.Option.{option_to_list}
-use Rattle.std.specs.List.{list_any}
-use Rattle.std.proofs.Common.{ap, append_assoc, arith}
-use Rattle.mg_serve.proofs.Cutting.{lines-ended, lines-long}
-use Rattle.mg_model.specs.declared.calls.Line.{Line}
-use Rattle.mg_model.specs.Lines.{line_of, lines}
-use Rattle.mg_model.specs.Words.{is_newline}
+use Rattle.{mg_model.specs.{Lines.{line_of, lines}, Words.is_newline, declared.calls.Line.Line}, mg_serve.proofs.Cutting.{lines-ended, lines-long}}
+use Rattle.std.{proofs.Common.{ap, append_assoc, arith}, specs.{List.list_any, Option.option_to_list, Prelude.{ℕ, ◌≡◌, false, List, [], ◌∷◌, ◌++◌}}}
+use Rattle.std.specs.Prelude.{length, Option, Result, Ok, Err, OnOk, OnErr}
 
 -- it is kept, or the line is too long already
 pub added : {E : Type 0} (result : Result (Unit {0}) E) (old new : List ℕ) (b : ℕ) → OnOk result (new ≡ old ++ b ∷ []) → OnErr result (new ≡ old) → OnErr result (length old ≡ 257)

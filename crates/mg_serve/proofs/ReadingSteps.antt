@@ -1,25 +1,12 @@
 -- The pieces of the input of a session, and each of its ends.
-use Rattle.std.specs.Prelude.{ℕ, ◌+◌, ◌-◌, ◌<◌, ◌≤◌, ◌≡◌, false, List, [], ◌++◌, length, take, drop, Option, Some, None}
-use Rattle.std.specs.List.{list_any}
-use Rattle.std.specs.Io.KnownBytes.{Consumes, IsAtEnd, Keeps}
-use Rattle.std.proofs.Common.{refl, sym, ap, inl, ◌∙◌, append_assoc, append-nil, arith, length-append, subst}
-use Rattle.std.proofs.lemmas.Grind.{common_steps}
-use Rattle.std.proofs.lemmas.List.{length-take-le, take-append-drop, take_all}
-use Rattle.std.proofs.Math.Seq.{take-append-add}
-use Rattle.mg_io.specs.Known.{Consumes-kept, Consumes-none, Consumes-then}
-use Rattle.mg_model.specs.declared.calls.Line.{Line}
-use Rattle.mg_model.specs.Print.{answered}
-use Rattle.mg_serve.proofs.Cutting.{ended_lines-exact, ended_lines-most}
-use Rattle.mg_model.specs.Ended.{ended_lines}
-use Rattle.mg_model.specs.Lines.{lines}
-use Rattle.mg_model.specs.Words.{is_newline}
-use Rattle.mg_serve.specs.declared.ended.Ended.{Ended}
+use Rattle.{mg_io.specs.Known.{Consumes-kept, Consumes-none, Consumes-then}, mg_model.specs.{Ended.ended_lines, Lines.lines, Print.answered}}
+use Rattle.{mg_model.specs.{Words.is_newline, declared.calls.Line.Line}, mg_serve.proofs.Cutting.{ended_lines-exact, ended_lines-most}}
+use Rattle.mg_serve.{proofs.IncomingSteps.Breaks-more, specs.{Incoming.{Breaks, Goes}, Machines.{Entry, Halts, IsInside, Point, Runs}, Readings.Few}}
+use Rattle.{mg_serve.specs.{Readings.{Finishes, Reading, Size, Stops}, Waiting.no_replies, declared.ended.Ended.Ended}, std.proofs.Common.{refl, sym}}
+use Rattle.std.proofs.{Common.{ap, inl, ◌∙◌, append_assoc, append-nil, arith, length-append, subst}, Math.Seq.take-append-add}
+use Rattle.std.{proofs.lemmas.{Grind.common_steps, List.{length-take-le, take-append-drop, take_all}}, specs.Io.KnownBytes.{Consumes, IsAtEnd, Keeps}}
+use Rattle.std.specs.{List.list_any, Prelude.{ℕ, ◌+◌, ◌-◌, ◌<◌, ◌≤◌, ◌≡◌, false, List, [], ◌++◌, length, take, drop, Option, Some, None}}
 use Rattle.mg_serve.specs.declared.ended.Ended.TheVariants as ended
-use Rattle.mg_serve.specs.Incoming.{Breaks, Goes}
-use Rattle.mg_serve.specs.Readings.{Few, Finishes, Reading, Size, Stops}
-use Rattle.mg_serve.specs.Machines.{Entry, Halts, IsInside, Point, Runs}
-use Rattle.mg_serve.specs.Waiting.{no_replies}
-use Rattle.mg_serve.proofs.IncomingSteps.{Breaks-more}
 
 inside_size : (e : Ended) (limit count : ℕ) → IsInside e → Size e limit count
 inside_size ended.Disk limit count h = tt

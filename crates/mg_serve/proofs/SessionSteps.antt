@@ -1,28 +1,15 @@
 -- What the calls of a machine, of the sink and of the replies that wait do to a session.
-use Rattle.std.specs.Prelude.{ℕ, ◌≡◌, ◌<◌, ◌≤◌, ◌+◌, ◌⊎◌, Bool, false, true, List, [], ◌∷◌, ◌++◌, length, take, Option, Some}
-use Rattle.std.specs.Io.KnownBytes.{Appends}
-use Rattle.std.specs.Option.{ForSome}
-use Rattle.std.proofs.Common.{refl, sym, ap, ◌∙◌, append_assoc, append-nil, arith, inl, inr, length-append, subst}
-use Rattle.std.proofs.lemmas.List.{take_all, take-append-le}
-use Rattle.std.proofs.Math.Seq.{take-append_seam}
-use Rattle.mg_disk.specs.Disk.{Image}
-use Rattle.mg_disk.specs.Runs.{leaves_quiet, leaves_then, leaves_wider}
-use Rattle.mg_disk.specs.Stops.{Leaves, NothingPending, WritesNothing}
-use Rattle.mg_disk.specs.declared.disk.Disk.{Ghosts}
-use Rattle.mg_io.specs.Known.{Appends-none, Appends-then, AppendsPrefix}
-use Rattle.mg_model.specs.declared.calls.Line.{Line}
-use Rattle.mg_model.specs.declared.replies.Reply.{Reply}
-use Rattle.mg_model.specs.Print.{answered, reply_line}
-use Rattle.mg_model.specs.State.{State}
-use Rattle.mg_model.specs.Volume.{Is, volume}
-use Rattle.mg_serve.proofs.Answered.{answered-append, reply_answers}
-use Rattle.mg_serve.specs.declared.ended.Ended.{Ended}
+use Rattle.mg_disk.specs.{Disk.Image, Runs.{leaves_quiet, leaves_then, leaves_wider}, Stops.{Leaves, NothingPending, WritesNothing}}
+use Rattle.{mg_disk.specs.declared.disk.Disk.Ghosts, mg_io.specs.Known.{Appends-none, Appends-then, AppendsPrefix}, mg_model.specs.Print.answered}
+use Rattle.mg_model.specs.{Print.reply_line, State.State, Volume.{Is, volume}, declared.{calls.Line.Line, replies.Reply.Reply}}
+use Rattle.mg_serve.{proofs.Answered.{answered-append, reply_answers}, specs.{Machines.{AnswersLine, Commits, Entry, Point}, Parts.IsPrefix}}
+use Rattle.mg_serve.specs.{Serving.{Broken, Held, IsAfter, IsBetween, PutsWhole, Session, Stands}, Waiting.{Waiting, no_replies}}
+use Rattle.{mg_serve.specs.declared.ended.Ended.Ended, std.proofs.Common.{refl, sym, ap, ◌∙◌, append_assoc, append-nil, arith, inl, inr}}
+use Rattle.std.proofs.{Common.{length-append, subst}, Math.Seq.take-append_seam, lemmas.List.{take_all, take-append-le}}
+use Rattle.std.specs.{Io.KnownBytes.Appends, Option.ForSome, Prelude.{ℕ, ◌≡◌, ◌<◌, ◌≤◌, ◌+◌, ◌⊎◌, Bool, false, true, List, [], ◌∷◌, ◌++◌, length}}
+use Rattle.std.specs.Prelude.{take, Option, Some}
 use Rattle.mg_serve.specs.declared.ended.Ended.TheVariants as ended
 use Rattle.mg_serve.specs.declared.machine.Machine as machines
-use Rattle.mg_serve.specs.Machines.{AnswersLine, Commits, Entry, Point}
-use Rattle.mg_serve.specs.Serving.{Broken, Held, IsAfter, IsBetween, PutsWhole, Session, Stands}
-use Rattle.mg_serve.specs.Parts.{IsPrefix}
-use Rattle.mg_serve.specs.Waiting.{Waiting, no_replies}
 
 some_image : (a b : Image) → Some a ≡ Some b → b ≡ a
 some_image a b is = cc

@@ -1,10 +1,8 @@
 -- Bytes come, and the lines that they end are stepped. `rest` is whatever may still come, so nothing here depends on how
 -- the input is cut.
 use Rattle.std.specs.Prelude.{ℕ, ◌≡◌, List, ◌++◌}
-use Rattle.mg_model.specs.declared.calls.Line.{Line}
-use Rattle.mg_model.specs.Lines.{lines}
+use Rattle.{mg_model.specs.{Lines.lines, declared.calls.Line.Line}, mg_serve.specs.Machines.{Entry, Halts, Point, Runs}}
 use Rattle.mg_serve.specs.declared.ended.Ended.{Ended}
-use Rattle.mg_serve.specs.Machines.{Entry, Halts, Point, Runs}
 
 -- `bytes` came after a part of a line, and the lines that they ended were stepped
 pub record Goes {M D : Type 0} (Session : Entry M D → List Line → Point M D → Type 0) (old : Point M D) (part bytes : List ℕ) (new : Point M D) (part' : List ℕ) : Type 0 where

@@ -2,18 +2,11 @@
 -- `Session` and `Broken` are any two words for this. The lines that are cut from the input and the lines that are stepped
 -- are kept apart, so nothing here depends on how the input is cut.
 use Rattle.std.specs.Prelude.{ℕ, ◌≡◌, Bool, List, [], ◌∷◌, ◌++◌, Option, Some}
-use Rattle.mg_disk.specs.Disk.{Image}
-use Rattle.mg_disk.specs.Stops.{NothingPending, WritesNothing}
+use Rattle.{mg_disk.specs.{Disk.Image, Stops.{NothingPending, WritesNothing}}, mg_model.specs.Counts.CountsAlike}
+use Rattle.mg_model.specs.{Print.reply_line, State.State, Volume.{Is, volume}, declared.calls.Line.Line}
+use Rattle.{mg_model.specs.declared.replies.Reply.Reply, mg_serve.specs.{Waiting.Waiting, declared.ended.Ended.Ended}}
 use Rattle.mg_disk.specs.declared.disk.Disk as disks
-use Rattle.mg_model.specs.declared.calls.Line.{Line}
-use Rattle.mg_model.specs.declared.replies.Reply.{Reply}
-use Rattle.mg_model.specs.Counts.{CountsAlike}
-use Rattle.mg_model.specs.Print.{reply_line}
-use Rattle.mg_model.specs.State.{State}
-use Rattle.mg_model.specs.Volume.{Is, volume}
-use Rattle.mg_serve.specs.declared.ended.Ended.{Ended}
 use Rattle.mg_serve.specs.declared.ended.Ended.TheVariants as ended
-use Rattle.mg_serve.specs.Waiting.{Waiting}
 
 -- A machine is described by what it says to lines to come, and by the state that it keeps after them.
 

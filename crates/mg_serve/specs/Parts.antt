@@ -1,14 +1,8 @@
 -- Parts of what a session keeps, each by a name: for the functions and the lemmas that speak of one of them alone.
-use Rattle.std.specs.Prelude.{ℕ, ◌+◌, ◌<◌, ◌≤◌, ◌≡◌, List, [], length, take, drop, Option, Some, IfSome, IsSomeAnd}
-use Rattle.std.specs.Io.KnownBytes.{Appends}
-use Rattle.mg_disk.specs.Disk.{Image}
-use Rattle.mg_io.specs.Known.{AppendsPrefix}
-use Rattle.mg_model.specs.declared.calls.Line.{Line}
-use Rattle.mg_model.specs.Ended.{ended_lines}
-use Rattle.mg_model.specs.Lines.{lines}
-use Rattle.mg_model.specs.Print.{answered}
-use Rattle.mg_model.specs.State.{State}
-use Rattle.mg_model.specs.Volume.{Is, volume}
+use Rattle.std.specs.{Io.KnownBytes.Appends, Prelude.{ℕ, ◌+◌, ◌<◌, ◌≤◌, ◌≡◌, List, [], length, take, drop, Option}}
+use Rattle.std.specs.Prelude.{Some, IfSome, IsSomeAnd}
+use Rattle.{mg_disk.specs.Disk.Image, mg_io.specs.Known.AppendsPrefix, mg_model.specs.{Ended.ended_lines, Lines.lines}}
+use Rattle.mg_model.specs.{Print.answered, State.State, Volume.{Is, volume}, declared.calls.Line.Line}
 use Rattle.mg_serve.specs.Sessions.{IsAnswered, consumed}
 
 -- more bytes were taken

@@ -1,16 +1,9 @@
 -- The input of a session, piece by piece, and how the session ends.
-use Rattle.std.specs.Prelude.{ℕ, ◌+◌, ◌<◌, ◌≤◌, ◌≡◌, ◌⊎◌, false, List, ◌++◌, length, take, Option, Some}
-use Rattle.std.specs.List.{list_any}
-use Rattle.std.specs.Io.KnownBytes.{Consumes, IsAtEnd}
-use Rattle.mg_model.specs.declared.calls.Line.{Line}
-use Rattle.mg_model.specs.Print.{answered}
-use Rattle.mg_model.specs.Ended.{ended_lines}
-use Rattle.mg_model.specs.Lines.{lines}
-use Rattle.mg_model.specs.Words.{is_newline}
-use Rattle.mg_serve.specs.declared.ended.Ended.{Ended}
+use Rattle.std.specs.{Io.KnownBytes.{Consumes, IsAtEnd}, List.list_any, Prelude.{ℕ, ◌+◌, ◌<◌, ◌≤◌, ◌≡◌, ◌⊎◌, false}}
+use Rattle.std.specs.Prelude.{List, ◌++◌, length, take, Option, Some}
+use Rattle.mg_model.specs.{Ended.ended_lines, Lines.lines, Print.answered, Words.is_newline, declared.calls.Line.Line}
+use Rattle.mg_serve.specs.{Machines.{Entry, IsInside, Point}, Waiting.no_replies, declared.ended.Ended.Ended}
 use Rattle.mg_serve.specs.declared.ended.Ended.TheVariants as ended
-use Rattle.mg_serve.specs.Machines.{Entry, IsInside, Point}
-use Rattle.mg_serve.specs.Waiting.{no_replies}
 
 -- the input so far
 pub record Reading {M D : Type 0} (Session : Entry M D → List Line → Point M D → Type 0) (entry : Entry M D) (left : Option (List ℕ)) (total : ℕ) (p : Point M D) (part : List ℕ) (left' : Option (List ℕ)) : Type 0 where

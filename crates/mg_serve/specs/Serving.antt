@@ -1,28 +1,19 @@
 -- A session of a machine on a volume: which lines are kept and answered, which wait, and what a stop may leave.
-use Rattle.std.specs.Prelude.{ℕ, ◌≡◌, ◌≢◌, ◌⊎◌, ◌<◌, ◌≤◌, ◌+◌, Bool, false, true, List, ◌++◌, length, take, drop, Option, Some, IfSome, IsSomeAnd, IsTrue, Result, Err}
-use Rattle.std.specs.Io.KnownBytes.{Appends}
-use Rattle.std.specs.Option.{ForSome}
-use Rattle.mg_disk.specs.Disk.{Image}
-use Rattle.mg_disk.specs.Stops.{DiskCallsBy, Leaves, NothingPending}
+use Rattle.std.specs.{Io.KnownBytes.Appends, Option.ForSome, Prelude.{ℕ, ◌≡◌, ◌≢◌, ◌⊎◌, ◌<◌, ◌≤◌, ◌+◌, Bool, false}}
+use Rattle.std.specs.Prelude.{true, List, ◌++◌, length, take, drop, Option, Some, IfSome, IsSomeAnd, IsTrue, Result}
+use Rattle.std.specs.Prelude.{Err}
+use Rattle.{mg_disk.specs.{Disk.Image, Stops.{DiskCallsBy, Leaves, NothingPending}}, mg_faults.specs.Faults.CountGoesOn}
+use Rattle.{mg_faults.specs.Faults.Rose, mg_model.specs.{Counts.CountsAlike, Ended.ended_lines, Lines.lines}}
+use Rattle.mg_model.specs.{Print.answered, State.State, Volume.{Is, volume}, declared.calls.Line.Line}
+use Rattle.mg_serve.specs.{Machines.{Entry, Point}, Parts.{IsPrefix, SpellsAfter}, Sessions.{Answers, DiskRose}}
+use Rattle.mg_serve.specs.Sessions.{DiskUse, Ends, EndsSession, Holds, HoldsExactly, IsCut, IsDoneOrMemory, OfInput}
+use Rattle.mg_serve.specs.{Sessions.{SinkRose, SinkUse, SourceRose, SourceUse, UnlessDisk, consumed}, Waiting.Waiting}
+use Rattle.mg_serve.specs.declared.{ended.Ended.Ended, status.Status.Status}
 use Rattle.mg_disk.specs.declared.disk.Disk as disks
-use Rattle.mg_faults.specs.Faults.{CountGoesOn, Rose}
 use Rattle.mg_io.specs.declared.traits.Sink as sinks
-use Rattle.mg_model.specs.declared.calls.Line.{Line}
-use Rattle.mg_model.specs.Counts.{CountsAlike}
-use Rattle.mg_model.specs.Ended.{ended_lines}
-use Rattle.mg_model.specs.Lines.{lines}
-use Rattle.mg_model.specs.Print.{answered}
-use Rattle.mg_model.specs.State.{State}
-use Rattle.mg_model.specs.Volume.{Is, volume}
-use Rattle.mg_serve.specs.declared.ended.Ended.{Ended}
 use Rattle.mg_serve.specs.declared.ended.Ended.TheVariants as ended
 use Rattle.mg_serve.specs.declared.machine.Machine as machines
-use Rattle.mg_serve.specs.declared.status.Status.{Status}
 use Rattle.mg_serve.specs.declared.status.Status.TheVariants as status
-use Rattle.mg_serve.specs.Machines.{Entry, Point}
-use Rattle.mg_serve.specs.Parts.{IsPrefix, SpellsAfter}
-use Rattle.mg_serve.specs.Waiting.{Waiting}
-use Rattle.mg_serve.specs.Sessions.{Answers, DiskRose, DiskUse, Ends, EndsSession, Holds, HoldsExactly, IsCut, IsDoneOrMemory, OfInput, SinkRose, SinkUse, SourceRose, SourceUse, UnlessDisk, consumed}
 
 -- the input has no more than this many bytes, if it is told
 abbrev pub IsWithin : ℕ → Option (List ℕ) → Type 0 → Type 0

@@ -1,23 +1,15 @@
 -- What a session of any machine keeps: what the sink took, what a stop leaves, and how the session ends. An object that does
 -- not tell its content has None for it; a promise on content is then empty.
-use Rattle.std.specs.Prelude.{ℕ, ◌+◌, ◌-◌, ◌^◌, ◌<◌, ◌≤◌, ◌≡◌, ◌≢◌, ◌⊎◌, List, [], length, take, drop, Option, Some, IfSome, IsSomeAnd, Result, Ok, Err}
-use Rattle.std.specs.Io.KnownBytes.{Appends}
-use Rattle.mg_disk.specs.Disk.{Image}
-use Rattle.mg_disk.specs.Stops.{CountRose, Leaves}
+use Rattle.std.specs.{Io.KnownBytes.Appends, Prelude.{ℕ, ◌+◌, ◌-◌, ◌^◌, ◌<◌, ◌≤◌, ◌≡◌, ◌≢◌, ◌⊎◌, List, [], length}}
+use Rattle.std.specs.Prelude.{take, drop, Option, Some, IfSome, IsSomeAnd, Result, Ok, Err}
+use Rattle.{mg_disk.specs.{Disk.Image, Stops.{CountRose, Leaves}}, mg_faults.specs.Faults.Rose}
+use Rattle.{mg_io.specs.Known.{AppendsPrefix, TakesAtMost}, mg_model.specs.{Ended.ended_lines, Lines.lines}}
+use Rattle.mg_model.specs.{Print.answered, State.State, Volume.{Is, volume}, declared.calls.Line.Line}
+use Rattle.mg_serve.specs.declared.{ended.Ended.Ended, status.Status.Status}
 use Rattle.mg_disk.specs.declared.disk.Disk as disks
-use Rattle.mg_faults.specs.Faults.{Rose}
-use Rattle.mg_io.specs.Known.{AppendsPrefix, TakesAtMost}
 use Rattle.mg_io.specs.declared.traits.Sink as sinks
 use Rattle.mg_io.specs.declared.traits.Source as sources
-use Rattle.mg_model.specs.declared.calls.Line.{Line}
-use Rattle.mg_model.specs.Ended.{ended_lines}
-use Rattle.mg_model.specs.Lines.{lines}
-use Rattle.mg_model.specs.Print.{answered}
-use Rattle.mg_model.specs.State.{State}
-use Rattle.mg_model.specs.Volume.{Is, volume}
-use Rattle.mg_serve.specs.declared.ended.Ended.{Ended}
 use Rattle.mg_serve.specs.declared.ended.Ended.TheVariants as ended
-use Rattle.mg_serve.specs.declared.status.Status.{Status}
 use Rattle.mg_serve.specs.declared.status.Status.TheVariants as status
 
 -- How a command ends

@@ -1,28 +1,12 @@
 -- What the calls of the kernel do to a generated run.
-use Rattle.std.specs.Prelude.{ℕ, ◌≡◌, ◌≤◌, ◌<◌, ◌+◌, ◌-◌, ◌^◌, List, [], ◌∷◌, ◌++◌, length}
-use Rattle.std.specs.Option.{ForSome}
-use Rattle.std.proofs.Common.{refl, sym, ap, ◌∙◌, arith, subst}
-use Rattle.mg_disk.specs.Disk.{Image}
-use Rattle.mg_disk.specs.Stops.{WritesNothing}
-use Rattle.mg_disk.specs.declared.disk.Disk.{Ghosts}
-use Rattle.mg_gen.specs.Asked.{LinesAreCalls, line_asked}
-use Rattle.mg_gen.specs.Tallies.{tally_of}
-use Rattle.mg_kernel.specs.declared.kernel.Kernel.{Kernel}
-use Rattle.mg_kernel.specs.Meaning.{keeps_key, now_of, seats_in}
-use Rattle.mg_kernel.specs.Opening.{Holds}
-use Rattle.mg_laws.specs.Costs.{BeginsWarm}
-use Rattle.mg_model.specs.declared.calls.Line.{Line}
-use Rattle.mg_model.specs.declared.replies.Reply.{Reply}
-use Rattle.mg_model.specs.Kept.{KeepsLine, KeepsWarm}
-use Rattle.mg_model.specs.Refused.{Answer}
-use Rattle.mg_model.specs.State.{State}
-use Rattle.mg_model.specs.Step.{after, step}
-use Rattle.mg_model.specs.Warmth.{events}
-use Rattle.mg_session.specs.Generating.{At, Counted, Counts}
-use Rattle.mg_commands.specs.GeneratedLemmas.{length-replies, length-run, replies-more, run-more}
-use Rattle.mg_commands.specs.Headline.{replies_from, run_lines}
-use Rattle.mg_session.proofs.Texts.{after-append}
-use Rattle.mg_kernel.specs.SteppingLemmas.{GoesOn, spent-line, warm-more, warm-same}
+use Rattle.mg_commands.specs.{GeneratedLemmas.{length-replies, length-run, replies-more, run-more}, Headline.{replies_from, run_lines}}
+use Rattle.{mg_disk.specs.{Disk.Image, Stops.WritesNothing, declared.disk.Disk.Ghosts}, mg_gen.specs.Asked.{LinesAreCalls, line_asked}}
+use Rattle.{mg_gen.specs.Tallies.tally_of, mg_kernel.specs.{Meaning.{keeps_key, now_of, seats_in}, Opening.Holds, SteppingLemmas.GoesOn}}
+use Rattle.{mg_kernel.specs.{SteppingLemmas.{spent-line, warm-more, warm-same}, declared.kernel.Kernel.Kernel}, mg_laws.specs.Costs.BeginsWarm}
+use Rattle.mg_model.specs.{Kept.{KeepsLine, KeepsWarm}, Refused.Answer, State.State, Step.{after, step}, Warmth.events, declared.calls.Line.Line}
+use Rattle.{mg_model.specs.declared.replies.Reply.Reply, mg_session.{proofs.Texts.after-append, specs.Generating.{At, Counted, Counts}}}
+use Rattle.std.{proofs.Common.{refl, sym, ap, ◌∙◌, arith, subst}, specs.{Option.ForSome, Prelude.{ℕ, ◌≡◌, ◌≤◌, ◌<◌, ◌+◌, ◌-◌, ◌^◌, List, [], ◌∷◌}}}
+use Rattle.std.specs.Prelude.{◌++◌, length}
 
 module _ {D : Type 0} (facts : Ghosts D) where
   -- no line was stepped yet

@@ -1,9 +1,6 @@
 -- A result and its status.
-use Rattle.std.specs.Prelude.{◌≡◌, Result, Ok, Err, OnOk}
-use Rattle.std.proofs.Common.{refl}
-use Rattle.mg_serve.specs.declared.ended.Ended.{Ended}
+use Rattle.{mg_serve.specs.{Sessions.status_of, declared.ended.Ended.Ended}, std.{proofs.Common.refl, specs.Prelude.{◌≡◌, Result, Ok, Err, OnOk}}}
 use Rattle.mg_serve.specs.declared.status.Status.TheVariants as status
-use Rattle.mg_serve.specs.Sessions.{status_of}
 
 -- what holds at the status of a good end
 pub on_ok_at : {T P : Type 0} (r : Result T Ended) → (status_of r ≡ status.Done → P) → OnOk r P

@@ -1,9 +1,6 @@
 -- How states add up over lines.
-use Rattle.std.specs.Prelude.{◌≡◌, List, [], ◌∷◌, ◌++◌}
-use Rattle.std.proofs.Common.{refl}
-use Rattle.mg_model.specs.declared.calls.Line.{Line}
-use Rattle.mg_model.specs.State.{State}
-use Rattle.mg_model.specs.Step.{after, step}
+use Rattle.{mg_model.specs.{State.State, Step.{after, step}, declared.calls.Line.Line}, std.{proofs.Common.refl, specs.Prelude.{◌≡◌, List, [], ◌∷◌}}}
+use Rattle.std.specs.Prelude.{◌++◌}
 
 -- the state after some lines and then others
 pub after-append : (state : State) (ls more : List Line) → after state (ls ++ more) ≡ after (after state ls) more

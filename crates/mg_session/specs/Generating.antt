@@ -1,18 +1,9 @@
 -- A generated run: which lines were stepped on a fresh machine, and what was counted of the replies.
 use Rattle.std.specs.Prelude.{ℕ, ◌≡◌, ◌≤◌, ◌<◌, ◌+◌, ◌-◌, ◌^◌, List, [], ◌∷◌, ◌++◌, length, Some, IsTrue}
-use Rattle.mg_disk.specs.Disk.{Image}
-use Rattle.mg_disk.specs.declared.disk.Disk.{Ghosts}
-use Rattle.mg_gen.specs.Tallies.{tally_of}
-use Rattle.mg_kernel.specs.declared.kernel.Kernel.{Kernel}
-use Rattle.mg_kernel.specs.Meaning.{StandsOn, is_live, keeps_key, now_of, staged_of}
-use Rattle.mg_model.specs.declared.calls.Line.{Line}
-use Rattle.mg_model.specs.Fresh.{fresh}
-use Rattle.mg_model.specs.Kept.{KeepsWarm}
-use Rattle.mg_model.specs.Settings.{Settings}
-use Rattle.mg_model.specs.State.{State}
-use Rattle.mg_model.specs.Step.{after}
-use Rattle.mg_model.specs.Warmth.{cost, events}
-use Rattle.mg_commands.specs.Headline.{replies_from}
+use Rattle.{mg_commands.specs.Headline.replies_from, mg_disk.specs.{Disk.Image, declared.disk.Disk.Ghosts}}
+use Rattle.{mg_gen.specs.Tallies.tally_of, mg_kernel.specs.Meaning.{StandsOn, is_live, keeps_key, now_of, staged_of}}
+use Rattle.{mg_kernel.specs.declared.kernel.Kernel.Kernel, mg_model.specs.{Fresh.fresh, Kept.KeepsWarm}}
+use Rattle.mg_model.specs.{Settings.Settings, State.State, Step.after, Warmth.{cost, events}, declared.calls.Line.Line}
 
 -- a kernel on a disk whose reads are told, in the fresh state of these settings
 pub record IsFresh {D : Type 0} (facts : Ghosts D) (settings : Settings) (disk : D) (k : Kernel) : Type 0 where

@@ -1,12 +1,9 @@
 -- What a session of a kernel keeps.
 use Rattle.std.specs.Prelude.{ℕ, OnOk, Result}
-use Rattle.mg_model.specs.Lines.{lines}
-use Rattle.mg_model.specs.Print.{replies_text}
-use Rattle.mg_model.specs.State.{State}
-use Rattle.mg_model.specs.Step.{after}
+use Rattle.{mg_commands.specs.Headline.IsWithinCost, mg_model.specs.{Lines.lines, Print.replies_text, State.State}}
+use Rattle.{mg_model.specs.Step.after, mg_serve.specs.Sessions.{Answers, DiskUse, Holds, HoldsExactly, OfInput}}
+use Rattle.mg_serve.specs.Sessions.{SinkUse, SourceUse, SpellsNow, left_at, left_now, status_of}
 use Rattle.mg_serve.specs.declared.ended.Ended.{Ended}
-use Rattle.mg_serve.specs.Sessions.{Answers, DiskUse, Holds, HoldsExactly, OfInput, SinkUse, SourceUse, SpellsNow, left_at, left_now, status_of}
-use Rattle.mg_commands.specs.Headline.{IsWithinCost}
 
 -- A session from the state `s` on: what the sink took, what the disk holds and a stop leaves of it, and what the lines cost.
 pub record ServesFrom {D S K T : Type 0} (s : State) (result : Result T Ended)

@@ -1,19 +1,14 @@
 -- The graph by the bytes and the ranks of objects is that of the state.
-use Rattle.mg_show.proofs.Names.{◌≡◌, ℕ, suc, ◌+◌, ◌-◌, ◌<◌, ◌==◌, ◌&&◌, ◌||◌, Bool, true, false, List, [], ◌∷◌, ◌++◌, codes, find, flat_map, if◌then◌else◌}
-use Rattle.mg_show.proofs.Names.{length, map, None, Option, Some, slice_index, slice_index_or, take, list_any, option_map, option_map_or, refl, sym}
-use Rattle.mg_show.proofs.Names.{eq-eqb, ap, ◌∙◌, append_assoc, arith, get_or, fun_ext, flat_map-map, list_any-append, Image, Right, R}
-use Rattle.mg_show.proofs.Names.{Slot, holds, last_slots, has_right, Object, ObjectRow, Thread, ThreadRow, is_among, part_text, reached, thread_part}
-use Rattle.mg_show.proofs.Names.{holds_now, is_list, object_name, slot_arrow, thread_node, bases_of, domains_drawn, entries_drawn, graph_end}
-use Rattle.mg_show.proofs.Names.{graph_head, lists_ranked, node_if, nodes_ranked, threads_drawn, given, is_within, named_by, listed, letters, letters_by}
-use Rattle.mg_show.proofs.Names.{bare, numbered, object_in, state_shown, AreOpened, AreRanked, flat_more, Shown}
-use Rattle.std.specs.Prelude.{All, slice_get}
-use Rattle.std.proofs.lemmas.List.Elements.{All-head, All-tail}
-use Rattle.mg_model.specs.State.{CallFrame, State}
-use Rattle.mg_show.specs.DotText.{arrow, dot_text, entry_arrow, list_arrows, thread_name}
-use Rattle.mg_show.specs.Drawn.{entry_bits, part_ranked, slot_bits}
-use Rattle.mg_show.proofs.ByPlaces.{places-same}
-use Rattle.mg_show.proofs.Letters.{any-right, rights-letters}
-use Rattle.mg_show.proofs.Listing.{held-bare}
+use Rattle.{mg_model.specs.State.{CallFrame, State}, mg_show.proofs.{ByPlaces.places-same, Letters.{any-right, rights-letters}, Listing.held-bare}}
+use Rattle.mg_show.proofs.Names.{◌≡◌, ℕ, suc, ◌+◌, ◌-◌, ◌<◌, ◌==◌, ◌&&◌, ◌||◌, Bool, true, false, List, [], ◌∷◌, ◌++◌, codes, find, flat_map}
+use Rattle.mg_show.proofs.Names.{if◌then◌else◌, length, map, None, Option, Some, slice_index, slice_index_or, take, list_any, option_map}
+use Rattle.mg_show.proofs.Names.{option_map_or, refl, sym, eq-eqb, ap, ◌∙◌, append_assoc, arith, get_or, fun_ext, flat_map-map, list_any-append}
+use Rattle.mg_show.proofs.Names.{Image, Right, R, Slot, holds, last_slots, has_right, Object, ObjectRow, Thread, ThreadRow, is_among, part_text}
+use Rattle.mg_show.proofs.Names.{reached, thread_part, holds_now, is_list, object_name, slot_arrow, thread_node, bases_of, domains_drawn}
+use Rattle.mg_show.proofs.Names.{entries_drawn, graph_end, graph_head, lists_ranked, node_if, nodes_ranked, threads_drawn, given, is_within, named_by}
+use Rattle.mg_show.proofs.Names.{listed, letters, letters_by, bare, numbered, object_in, state_shown, AreOpened, AreRanked, flat_more, Shown}
+use Rattle.mg_show.specs.{DotText.{arrow, dot_text, entry_arrow, list_arrows, thread_name}, Drawn.{entry_bits, part_ranked, slot_bits}}
+use Rattle.std.{proofs.lemmas.List.Elements.{All-head, All-tail}, specs.Prelude.{All, slice_get}}
 
 -- bits that have the rights that pass
 module _ (s : State) (base password bits : ℕ) (same : (right : Right) → has_right bits right ≡ holds_now s base password right) where

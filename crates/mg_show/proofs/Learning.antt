@@ -1,12 +1,8 @@
 -- What reads give, one after another, and what the lists that are read add to marks.
+use Rattle.{mg_check.specs.ReadRuns.{same_contents, still_read}, mg_disk.specs.Stops.OnlyRead, mg_show.proofs.Marked.{marks_none, marks_then}}
 use Rattle.mg_show.proofs.Names.{◌≡◌, ℕ, Bool, List, [], ◌++◌, Option, ap, refl, subst, ◌∙◌, Image, Fits, Slot, ObjectRow, Finds, Learns, Marks}
-use Rattle.mg_show.proofs.Names.{named_by, Shown, Held, reads_none}
-use Rattle.mg_check.specs.ReadRuns.{same_contents, still_read}
+use Rattle.mg_show.{proofs.Names.{named_by, Shown, Held, reads_none}, specs.{Shown.CanShow, WritingLemmas.{reads_kept, reads_then}}}
 use Rattle.mg_disk.specs.declared.disk.Disk as disks
-use Rattle.mg_disk.specs.Stops.{OnlyRead}
-use Rattle.mg_show.specs.Shown.{CanShow}
-use Rattle.mg_show.specs.WritingLemmas.{reads_kept, reads_then}
-use Rattle.mg_show.proofs.Marked.{marks_none, marks_then}
 
 module _ {D : Type 0} (facts : disks.Ghosts D) where
   pub still_shown : (shown : Shown) {d d' : D} → CanShow facts shown d → OnlyRead facts d d' → CanShow facts shown d'

@@ -1,10 +1,7 @@
 -- The rights by their bits: their letters, and six digits.
-use Rattle.mg_show.proofs.Names.{◌≡◌, ℕ, ◌/◌, ◌%◌, ◌==◌, Bool, true, false, if◌then◌else◌, list_any, refl}
-use Rattle.mg_show.proofs.Names.{ap, arith, Right, R, W, X, D, P, O, has_right, letters}
-use Rattle.mg_show.proofs.Names.{letters_by, rights_text}
-use Rattle.mg_show.proofs.Names.{◌+◌, ◌*◌, ◌≤◌}
+use Rattle.mg_show.proofs.Names.{◌≡◌, ℕ, ◌/◌, ◌%◌, ◌==◌, Bool, true, false, if◌then◌else◌, list_any, refl, ap, arith, Right, R, W, X, D, P, O}
+use Rattle.{mg_show.proofs.Names.{has_right, letters, letters_by, rights_text, ◌+◌, ◌*◌, ◌≤◌}, std.proofs.lemmas.Bool.Decides.nat_tests}
 use Rattle.std.specs.Prelude.{not}
-use Rattle.std.proofs.lemmas.Bool.Decides.{nat_tests}
 
 pub none-has : (bits : ℕ) → bits % 64 ≡ 0 → (right : Right) → has_right bits right ≡ false
 none-has bits none R = let e : bits / 1 % 2 ≡ 0 = omega arith in ap (λ n. n == 1) e

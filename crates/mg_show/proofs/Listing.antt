@@ -1,12 +1,9 @@
 -- The list in the first page of an object, and the object that has a base.
-use Rattle.mg_show.proofs.Names.{◌≡◌, ℕ, zero, suc, ◌+◌, ◌*◌, ◌≤◌, ◌==◌, false, List, [], ◌∷◌, ◌++◌, find, if◌then◌else◌, length, map, Option}
-use Rattle.mg_show.proofs.Names.{None, Some, slice_index, option_map, option_map_or, refl, sym, ap, ◌∙◌, arith, Image, Right, R, Slot, pairs_from}
-use Rattle.mg_show.proofs.Names.{pairs_of, pairs_under, holds, Object, ObjectRow, object_spelled, page_words, pages_words, holds_now, listed, object_in}
-use Rattle.mg_show.proofs.Names.{state_shown, Shown}
-use Rattle.mg_show.proofs.Names.{◌<◌, get_or, block_words, number_at, numbers_at}
-use Rattle.std.proofs.Math.ListN.{get_or-append}
-use Rattle.mg_model.specs.Access.{based_at}
-use Rattle.mg_show.proofs.WordTexts.{length-page_words}
+use Rattle.{mg_model.specs.Access.based_at, mg_show.proofs.Names.{◌≡◌, ℕ, zero, suc, ◌+◌, ◌*◌, ◌≤◌, ◌==◌, false, List, [], ◌∷◌, ◌++◌, find}}
+use Rattle.mg_show.proofs.Names.{if◌then◌else◌, length, map, Option, None, Some, slice_index, option_map, option_map_or, refl, sym, ap, ◌∙◌, arith}
+use Rattle.mg_show.proofs.Names.{Image, Right, R, Slot, pairs_from, pairs_of, pairs_under, holds, Object, ObjectRow, object_spelled, page_words}
+use Rattle.mg_show.proofs.Names.{pages_words, holds_now, listed, object_in, state_shown, Shown, ◌<◌, get_or, block_words, number_at, numbers_at}
+use Rattle.{mg_show.proofs.WordTexts.length-page_words, std.proofs.Math.ListN.get_or-append}
 
 -- Entries, one by one
 

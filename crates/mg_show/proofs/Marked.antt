@@ -1,13 +1,8 @@
 -- A mark for each object, and what capabilities add to it.
-use Rattle.mg_show.proofs.Names.{◌≡◌, ◌≢◌, ℕ, ◌+◌, ◌<◌, ◌≤◌, ◌⊎◌, ◌||◌, Bool, All, List, [], ◌∷◌, ◌++◌, length, slice_index}
-use Rattle.mg_show.proofs.Names.{slice_index_or, take, AllPairs, AllWithin, HoldsAt, refl, sym, ap, ◌∙◌, arith, get_or, subst, ⊎_elim, or-false, or_assoc}
-use Rattle.mg_show.proofs.Names.{cases_lt, list_any-append, map_more, Slot, IsObjectRow, ObjectRow, AreApart, IsPlaceOf, Marks}
-use Rattle.mg_show.proofs.Names.{named_by}
-use Rattle.std.proofs.lemmas.Bool.Decides.{nat_tests}
-use Rattle.std.specs.Prelude.{slice_set}
-use Rattle.std.proofs.lemmas.Bool.{cases_eq}
-use Rattle.std.proofs.lemmas.List.{get_or-set_other, get_or-set_same, length-set}
-use Rattle.mg_show.specs.Marking.{IsCut}
+use Rattle.mg_show.proofs.Names.{◌≡◌, ◌≢◌, ℕ, ◌+◌, ◌<◌, ◌≤◌, ◌⊎◌, ◌||◌, Bool, All, List, [], ◌∷◌, ◌++◌, length, slice_index, slice_index_or, take}
+use Rattle.mg_show.proofs.Names.{AllPairs, AllWithin, HoldsAt, refl, sym, ap, ◌∙◌, arith, get_or, subst, ⊎_elim, or-false, or_assoc, cases_lt}
+use Rattle.mg_show.{proofs.Names.{list_any-append, map_more, Slot, IsObjectRow, ObjectRow, AreApart, IsPlaceOf, Marks, named_by}, specs.Marking.IsCut}
+use Rattle.std.{proofs.lemmas.{Bool.{cases_eq, Decides.nat_tests}, List.{get_or-set_other, get_or-set_same, length-set}}, specs.Prelude.slice_set}
 
 -- bases rise
 pub bases-rise : (objects : List (ℕ × ObjectRow)) → All (λ (o : ℕ × ObjectRow). IsObjectRow o.1) objects → AreApart objects → AllPairs (λ (a b : ℕ × ObjectRow). a.1.base < b.1.base) objects

@@ -1,19 +1,11 @@
 -- What is defined by the judgement of each access is what the walk over lists gives.
-use Rattle.mg_show.proofs.Names.{slice_index, slice_index_or}
-use Rattle.mg_show.proofs.Names.{ap, Slot}
-use Rattle.mg_show.proofs.Names.{capabilities, has_right, Marks, bits_line, marked_reach, row_reach}
-use Rattle.mg_show.proofs.Names.{letters_by, reach_line}
-use Rattle.mg_show.proofs.ByPlaces.{places-same}
-use Rattle.mg_show.proofs.Letters.{none-has, rights-letters}
-use Rattle.mg_show.proofs.Names.{◌≡◌, ℕ, zero, suc, ◌+◌, ◌*◌, ◌<◌, ◌≤◌, ◌==◌, Bool, true, false, All, List, [], ◌∷◌, ◌++◌, filter, find}
-use Rattle.mg_show.proofs.Names.{flat_map, if◌then◌else◌, length, map, Some, AllPairs, option_map_or, refl, sym, ◌∙◌, arith, get_or, fun_ext}
-use Rattle.mg_show.proofs.Names.{eq-eqb, flat_map-map, Image, Right, holds, last_slots}
-use Rattle.mg_show.proofs.Names.{IsObjectRow, ObjectRow, Thread, ThreadRow, AreApart, given, thread_reached}
-use Rattle.mg_show.proofs.Names.{numbered, object_in, state_shown, Shown}
-use Rattle.std.proofs.lemmas.Bool.Decides.{nat_tests}
-use Rattle.mg_model.specs.Access.{allowed, at, covers, domain_of}
-use Rattle.mg_show.specs.Reached.{reached_by}
-use Rattle.mg_show.specs.ReachText.{reach_text, thread_reach}
+use Rattle.{mg_model.specs.Access.{allowed, at, covers, domain_of}, mg_show.proofs.{ByPlaces.places-same, Letters.{none-has, rights-letters}}}
+use Rattle.mg_show.proofs.Names.{slice_index, slice_index_or, ap, Slot, capabilities, has_right, Marks, bits_line, marked_reach, row_reach}
+use Rattle.mg_show.proofs.Names.{letters_by, reach_line, ◌≡◌, ℕ, zero, suc, ◌+◌, ◌*◌, ◌<◌, ◌≤◌, ◌==◌, Bool, true, false, All, List, [], ◌∷◌, ◌++◌}
+use Rattle.mg_show.proofs.Names.{filter, find, flat_map, if◌then◌else◌, length, map, Some, AllPairs, option_map_or, refl, sym, ◌∙◌, arith, get_or}
+use Rattle.mg_show.proofs.Names.{fun_ext, eq-eqb, flat_map-map, Image, Right, holds, last_slots, IsObjectRow, ObjectRow, Thread, ThreadRow, AreApart}
+use Rattle.mg_show.{proofs.Names.{given, thread_reached, numbered, object_in, state_shown, Shown}, specs.ReachText.{reach_text, thread_reach}}
+use Rattle.{mg_show.specs.Reached.reached_by, std.proofs.lemmas.Bool.Decides.nat_tests}
 
 -- the same at each element
 pub flat_map_same : {X Y : Type 0} (f g : X → List Y) (xs : List X) → ((i : ℕ) → i < length xs → (d : X) → f (get_or xs i d) ≡ g (get_or xs i d)) → flat_map f xs ≡ flat_map g xs

@@ -1,21 +1,11 @@
 -- What rows keep that were read of a volume, and the parts of the state that they spell.
-use Rattle.mg_show.proofs.Names.{None, Option, Some}
-use Rattle.mg_show.proofs.Names.{cases_Bool, Object}
+use Rattle.mg_model.specs.{KeptListLemmas.{AllPairs-head, AllPairs-nil}, Objects.with_object, Tests.all_distinct, Volume.objects_spelled}
+use Rattle.{mg_model.specs.Volume.{accounts_fit, are_apart, bound_pages}, mg_objects.specs.Held.{by_base, into_place, live_from, IsBefore}}
+use Rattle.{mg_rules.specs.RowsRead.{AreKept, placed_from}, mg_show.proofs.Names.{None, Option, Some, cases_Bool, Object, ◌≡◌, ℕ, ◌+◌, nat_le, true}}
+use Rattle.mg_show.proofs.Names.{List, [], ◌∷◌, map, sum_by, refl, sym, ap, ◌∙◌, arith, and_parts, leb-true, All-cons, All-nil, state_in, VolumeRows}
+use Rattle.mg_show.proofs.Names.{AccRow, page_behind, page_of, ObjectRow, object_spelled, AreApart, objects_in}
+use Rattle.std.proofs.lemmas.{Bool.Decides.nat_tests, List.{Elements.All-weaker, Kept.AllPairs-cons}}
 use Rattle.mg_rules.specs.RowsRead as rows
-use Rattle.mg_model.specs.Objects.{with_object}
-use Rattle.mg_model.specs.Volume.{objects_spelled}
-use Rattle.mg_objects.specs.Held.{by_base, into_place, live_from}
-use Rattle.mg_show.proofs.Names.{◌≡◌, ℕ, ◌+◌, nat_le, true, List, [], ◌∷◌, map, sum_by, refl, sym, ap, ◌∙◌, arith, and_parts}
-use Rattle.mg_show.proofs.Names.{leb-true, All-cons, All-nil, state_in, VolumeRows, AccRow, page_behind, page_of, ObjectRow, object_spelled}
-use Rattle.mg_show.proofs.Names.{AreApart, objects_in}
-use Rattle.std.proofs.lemmas.List.Elements.{All-weaker}
-use Rattle.std.proofs.lemmas.Bool.Decides.{nat_tests}
-use Rattle.std.proofs.lemmas.List.Kept.{AllPairs-cons}
-use Rattle.mg_rules.specs.RowsRead.{AreKept, placed_from}
-use Rattle.mg_model.specs.KeptListLemmas.{AllPairs-head, AllPairs-nil}
-use Rattle.mg_model.specs.Tests.{all_distinct}
-use Rattle.mg_model.specs.Volume.{accounts_fit, are_apart, bound_pages}
-use Rattle.mg_objects.specs.Held.{IsBefore}
 
 -- accounts without their places
 pub accounts-placed : (i : ℕ) (rows : List AccRow) → map (λ (r : ℕ × AccRow). r.1) (placed_from i rows) ≡ rows

@@ -1,22 +1,12 @@
 -- From the text that was put of the contents, and what waited of it, to what is kept of the volume whose rows were read.
-use Rattle.std.proofs.Common.{arith}
-use Rattle.mg_show.proofs.Names.{ℕ, ◌≡◌, List, [], ◌++◌, None, Option, Some, refl, sym, ap, inl, inr, subst, append-nil, ⊎_elim, ◌∙◌, Appends, ForSome}
-use Rattle.mg_show.proofs.Names.{state_in, VolumeRows, Image, AppendsPrefix, text_of, Held, Puts, PutsOf}
-use Rattle.mg_check.specs.ReadRuns.{only_none}
-use Rattle.mg_rules.specs.RowsRead.{IsReadAs}
+use Rattle.{mg_check.specs.ReadRuns.only_none, mg_io.specs.Known.AppendsPrefix-none, mg_model.specs.{Layout.total_blocks, Replay.replay, State.State}}
+use Rattle.{mg_model.specs.Volume.{Is, volume}, mg_rules.specs.RowsRead.IsReadAs, mg_show.proofs.Names.{ℕ, ◌≡◌, List, [], ◌++◌, None, Option, Some}}
+use Rattle.mg_show.proofs.Names.{refl, sym, ap, inl, inr, subst, append-nil, ⊎_elim, ◌∙◌, Appends, ForSome, state_in, VolumeRows, Image}
+use Rattle.mg_show.{proofs.Names.{AppendsPrefix, text_of, Held, Puts, PutsOf}, specs.{Putting.{ShowsRows, status_of}, Writing.{Adds, Writes}}}
+use Rattle.{mg_show.specs.{WritingLemmas.writes_then, declared.{command.Text.Text, faults.ShowFault.ShowFault}}, std.proofs.Common.arith}
 use Rattle.mg_disk.specs.declared.disk.Disk as disks
-use Rattle.mg_io.specs.Known.{AppendsPrefix-none}
 use Rattle.mg_io.specs.declared.traits.Sink as sinks
-use Rattle.mg_model.specs.Layout.{total_blocks}
-use Rattle.mg_model.specs.Replay.{replay}
-use Rattle.mg_model.specs.State.{State}
-use Rattle.mg_model.specs.Volume.{Is, volume}
 use Rattle.mg_serve.specs.declared.status.Status.TheVariants as status
-use Rattle.mg_show.specs.Putting.{ShowsRows, status_of}
-use Rattle.mg_show.specs.Writing.{Adds, Writes}
-use Rattle.mg_show.specs.WritingLemmas.{writes_then}
-use Rattle.mg_show.specs.declared.command.Text.{Text}
-use Rattle.mg_show.specs.declared.faults.ShowFault.{ShowFault}
 use Rattle.mg_show.specs.declared.faults.ShowFault.TheVariants as fault
 
 -- what was taken, where nothing waited and nothing waits

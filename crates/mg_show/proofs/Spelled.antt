@@ -1,11 +1,8 @@
 -- What the words of a command line ask for, by their number.
-use Rattle.mg_show.proofs.Names.{◌⊎◌, ⊎_elim, ℕ, ◌<◌, ◌≤◌, ◌≡◌, List, [], ◌∷◌, length, get_or, None, Some, refl, arith}
-use Rattle.std.specs.Prelude.{String}
-use Rattle.std.specs.String.{string_bytes}
+use Rattle.{mg_io.specs.Arguments.arguments, mg_show.proofs.Names.{◌⊎◌, ⊎_elim, ℕ, ◌<◌, ◌≤◌, ◌≡◌, List, [], ◌∷◌, length, get_or, None, Some, refl}}
+use Rattle.{mg_show.{proofs.Names.arith, specs.Commands.{part_named, spelled}}, std.specs.{Prelude.String, String.string_bytes}}
 use Rattle.std.specs.declared.alloc.Global.{Global}
-use Rattle.mg_io.specs.Arguments.{arguments}
 use Rattle.mg_show.specs.declared.command.Text.TheVariants as texts
-use Rattle.mg_show.specs.Commands.{part_named, spelled}
 
 pub one_word : (words : List (String Global)) → 1 ≤ length words → length words < 2 → Some texts.State ≡ spelled (arguments words)
 one_word [] some few = absurd (omega arith)

@@ -1,20 +1,10 @@
 -- The state of a volume that is held is the one that its rows spell, and its text.
-use Rattle.mg_show.proofs.Names.{◌==◌, true, false, filter, sum_by, ◌+◌, ◌<◌, List, [], ◌∷◌, get_or, take, ap, refl}
-use Rattle.mg_show.proofs.Names.{append_assoc, append-nil, AccRow, pages_paid}
-use Rattle.std.specs.Prelude.{Bool, if◌then◌else◌}
-use Rattle.std.proofs.lemmas.List.{length-take-le, take_more}
-use Rattle.std.proofs.lemmas.List.Sums.{sum_by-cons}
-use Rattle.mg_space.specs.Space.{paid_by}
-use Rattle.mg_show.specs.StateText.{account_text}
-use Rattle.std.proofs.Common.{arith}
-use Rattle.mg_show.proofs.Names.{◌≡◌, ℕ, ◌++◌, flat_map, length, map, sym, ◌∙◌, fun_ext, flat_map-map, map-map, pages_at, state_in, VolumeRows, Image}
-use Rattle.mg_show.proofs.Names.{ObjectRow, ThreadRow, objects_in, numbered, state_shown, accounts_text, object_text}
-use Rattle.mg_show.proofs.Names.{thread_text, rows_text, Shown}
-use Rattle.mg_space.specs.Space.{ArePaid}
-use Rattle.mg_show.specs.StateText.{counters_text, settings_text, state_text}
-use Rattle.mg_show.specs.WordText.{row_text}
-use Rattle.mg_show.proofs.RowsKept.{objects-in-order}
-use Rattle.mg_show.proofs.RowsKept.{accounts-placed}
+use Rattle.mg_show.proofs.Names.{◌==◌, true, false, filter, sum_by, ◌+◌, ◌<◌, List, [], ◌∷◌, get_or, take, ap, refl, append_assoc, append-nil, AccRow}
+use Rattle.mg_show.proofs.Names.{pages_paid, ◌≡◌, ℕ, ◌++◌, flat_map, length, map, sym, ◌∙◌, fun_ext, flat_map-map, map-map, pages_at, state_in}
+use Rattle.mg_show.proofs.Names.{VolumeRows, Image, ObjectRow, ThreadRow, objects_in, numbered, state_shown, accounts_text, object_text, thread_text}
+use Rattle.mg_show.{proofs.{Names.{rows_text, Shown}, RowsKept.{objects-in-order, accounts-placed}}, specs.StateText.{account_text, counters_text}}
+use Rattle.{mg_show.specs.{StateText.{settings_text, state_text}, WordText.row_text}, mg_space.specs.Space.{paid_by, ArePaid}}
+use Rattle.std.{proofs.{Common.arith, lemmas.List.{length-take-le, take_more, Sums.sum_by-cons}}, specs.Prelude.{Bool, if◌then◌else◌}}
 
 pub state-told : (rows : VolumeRows) (r : Image) (shown : Shown) → shown.params ≡ rows.params → shown.counters ≡ rows.globals
     → shown.threads.items ≡ rows.threads.items

@@ -1,14 +1,11 @@
 -- What is reached step by step, and the ranks that a walk gives.
-use Rattle.mg_show.proofs.Names.{◌≡◌, ℕ, zero, suc, ◌+◌, ◌<◌, ◌≤◌, ◌==◌, ◌&&◌, ◌||◌, nat_le, Bool, true, false, List, [], ◌∷◌, ◌++◌, flat_map, if◌then◌else◌}
-use Rattle.mg_show.proofs.Names.{length, map, None, slice_index, slice_index_or, take, HoldsAt, append-nil, refl, sym, ap, subst, ◌∙◌, arith, ⊎_elim}
-use Rattle.mg_show.proofs.Names.{or-false, or_assoc, cases_lt, le-leb, list_any-append, map-append, map-map, Image, R, Slot, pairs_of}
-use Rattle.mg_show.proofs.Names.{has_right, Object, ObjectRow, is_among, reached, is_list, bases_of, Marks, given, gives_rank, is_within, named_by, by_place}
-use Rattle.mg_show.proofs.Names.{listed, object_in, state_shown, AreOpened, AreRanked, listed_at, Shown}
-use Rattle.std.proofs.Math.Bool.{and-false, and-or_distrib_right, and-true}
-use Rattle.std.proofs.lemmas.Bool.{lt-leb}
+use Rattle.mg_show.proofs.{ByPlaces.places-next, Marked.marks_then, Names.{◌≡◌, ℕ, zero, suc, ◌+◌, ◌<◌, ◌≤◌, ◌==◌, ◌&&◌, ◌||◌, nat_le, Bool, true}}
+use Rattle.mg_show.proofs.Names.{false, List, [], ◌∷◌, ◌++◌, flat_map, if◌then◌else◌, length, map, None, slice_index, slice_index_or, take, HoldsAt}
+use Rattle.mg_show.proofs.Names.{append-nil, refl, sym, ap, subst, ◌∙◌, arith, ⊎_elim, or-false, or_assoc, cases_lt, le-leb, list_any-append}
+use Rattle.mg_show.proofs.Names.{map-append, map-map, Image, R, Slot, pairs_of, has_right, Object, ObjectRow, is_among, reached, is_list, bases_of}
+use Rattle.mg_show.proofs.Names.{Marks, given, gives_rank, is_within, named_by, by_place, listed, object_in, state_shown, AreOpened, AreRanked}
+use Rattle.{mg_show.proofs.Names.{listed_at, Shown}, std.proofs.{Math.Bool.{and-false, and-or_distrib_right, and-true}, lemmas.Bool.lt-leb}}
 use Rattle.std.proofs.lemmas.Bool.Decides.{nat_tests}
-use Rattle.mg_show.proofs.ByPlaces.{places-next}
-use Rattle.mg_show.proofs.Marked.{marks_then}
 
 -- Tests
 

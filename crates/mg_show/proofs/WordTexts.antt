@@ -1,12 +1,9 @@
 -- Words as text, some behind others.
-use Rattle.mg_show.proofs.Names.{◌<◌, get_or, map, take, map_more, spaced}
-use Rattle.mg_show.proofs.Names.{◌≡◌, ℕ, zero, suc, ◌+◌, ◌*◌, ◌%◌, ◌==◌, List, [], ◌∷◌, ◌++◌, length, Some, option_map_or, refl, sym, ap}
-use Rattle.mg_show.proofs.Names.{◌∙◌, append_assoc, append-nil, length-append, arith, block_words, number_at, numbers_at, first_frame, page_of, ObjectRow}
-use Rattle.mg_show.proofs.Names.{page_words, pages_words, words_text, word_text}
-use Rattle.std.specs.Prelude.{position, replicate}
-use Rattle.std.proofs.lemmas.List.{length-replicate}
-use Rattle.mg_model.specs.Replay.{block_of}
-use Rattle.mg_show.specs.WordText.{block_text, page_text, pages_text, row_text}
+use Rattle.{mg_model.specs.Replay.block_of, mg_show.proofs.Names.{◌<◌, get_or, map, take, map_more, spaced, ◌≡◌, ℕ, zero, suc, ◌+◌, ◌*◌, ◌%◌, ◌==◌}}
+use Rattle.mg_show.proofs.Names.{List, [], ◌∷◌, ◌++◌, length, Some, option_map_or, refl, sym, ap, ◌∙◌, append_assoc, append-nil, length-append, arith}
+use Rattle.mg_show.proofs.Names.{block_words, number_at, numbers_at, first_frame, page_of, ObjectRow, page_words, pages_words, words_text, word_text}
+use Rattle.{mg_show.specs.WordText.{block_text, page_text, pages_text, row_text}, std.{proofs.lemmas.List.length-replicate, specs.Prelude.position}}
+use Rattle.std.specs.Prelude.{replicate}
 
 -- behind other words
 words_text-append : (address : ℕ) (xs ys : List ℕ) → words_text address (xs ++ ys) ≡ words_text address xs ++ words_text (address + 8 * length xs) ys

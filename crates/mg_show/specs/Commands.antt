@@ -1,13 +1,9 @@
 -- What the words of the command line ask for.
 use Rattle.std.specs.Prelude.{ℕ, ◌&&◌, nat_le, List, [], ◌∷◌, codes, if◌then◌else◌, None, Option, Some}
-use Rattle.mg_model.specs.State.{State}
-use Rattle.mg_model.specs.Words.{and_then, number_of, same_bytes}
+use Rattle.{mg_model.specs.{State.State, Words.{and_then, number_of, same_bytes}}, mg_show.specs.DotFrom.object_part}
+use Rattle.mg_show.specs.{DotFrom.thread_part, DotText.dot_text, ReachText.reach_text, StateText.state_text}
 use Rattle.mg_show.specs.declared.command.Text.{Text}
 use Rattle.mg_show.specs.declared.command.Text.TheVariants as texts
-use Rattle.mg_show.specs.DotFrom.{object_part, thread_part}
-use Rattle.mg_show.specs.DotText.{dot_text}
-use Rattle.mg_show.specs.ReachText.{reach_text}
-use Rattle.mg_show.specs.StateText.{state_text}
 
 -- the text with this name
 abbrev pub named : List ℕ → Option Text

@@ -1,11 +1,9 @@
 -- The part of the graph that one thread or one object reaches in a number of steps. A step goes along an arrow.
-use Rattle.std.specs.Prelude.{ℕ, zero, suc, ◌-◌, ◌==◌, ◌&&◌, Bool, List, [], ◌∷◌, ◌++◌, codes, flat_map, if◌then◌else◌, map}
-use Rattle.std.specs.List.{list_any}
-use Rattle.std.specs.Option.{option_map_or}
-use Rattle.mg_model.specs.declared.slots.Slot.{Slot}
-use Rattle.mg_model.specs.Access.{domain_of, pairs_of, last_slots, thread_of}
-use Rattle.mg_model.specs.State.{Object, State, Thread}
-use Rattle.mg_show.specs.DotText.{graph_line, is_list, list_arrows, object_node, slot_arrow, thread_node}
+use Rattle.std.specs.{List.list_any, Option.option_map_or, Prelude.{ℕ, zero, suc, ◌-◌, ◌==◌, ◌&&◌, Bool, List, [], ◌∷◌}}
+use Rattle.std.specs.Prelude.{◌++◌, codes, flat_map, if◌then◌else◌, map}
+use Rattle.mg_model.specs.{Access.{domain_of, pairs_of, last_slots, thread_of}, State.{Object, State, Thread}}
+use Rattle.{mg_model.specs.declared.slots.Slot.Slot, mg_show.specs.DotText.{graph_line, is_list, list_arrows}}
+use Rattle.mg_show.specs.DotText.{object_node, slot_arrow, thread_node}
 
 abbrev pub is_among : List ℕ → ℕ → Bool
 is_among bases base = list_any (λ (b : ℕ). b == base) bases

@@ -1,16 +1,9 @@
 -- A state as a graph in Graphviz's language: its threads and objects, and an arrow for each slot of a present frame and each entry of a list.
-use Rattle.std.specs.Prelude.{ℕ, ◌==◌, ◌&&◌, Bool, false, List, [], ◌∷◌, ◌++◌, codes, flat_map, if◌then◌else◌}
-use Rattle.std.specs.Fmt.{decimal}
-use Rattle.std.specs.List.{list_any}
-use Rattle.std.specs.Option.{option_map_or}
-use Rattle.mg_model.specs.declared.rights.Right.{Right}
-use Rattle.mg_model.specs.declared.rights.Right.TheVariants.{R}
-use Rattle.mg_model.specs.declared.slots.Slot.{Slot}
-use Rattle.mg_model.specs.Access.{based_at, pairs_of, holds, last_slots}
-use Rattle.mg_model.specs.Print.{hex_text}
-use Rattle.mg_model.specs.State.{Object, ObjectRow, State, Thread}
-use Rattle.mg_model.specs.Rights.{letters}
-use Rattle.mg_show.specs.ReachText.{letters_by}
+use Rattle.std.specs.{Fmt.decimal, List.list_any, Option.option_map_or, Prelude.{ℕ, ◌==◌, ◌&&◌, Bool, false, List, []}}
+use Rattle.std.specs.Prelude.{◌∷◌, ◌++◌, codes, flat_map, if◌then◌else◌}
+use Rattle.mg_model.specs.{Access.{based_at, pairs_of, holds, last_slots}, Print.hex_text, Rights.letters, State.Object}
+use Rattle.mg_model.specs.{State.{ObjectRow, State, Thread}, declared.rights.Right.{Right, TheVariants.R}}
+use Rattle.{mg_model.specs.declared.slots.Slot.Slot, mg_show.specs.ReachText.letters_by}
 
 -- text between quotes
 abbrev pub quoted : List ℕ → List ℕ

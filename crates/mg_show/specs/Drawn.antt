@@ -1,17 +1,11 @@
 -- The graph of a volume that is held, by the byte and the rank of each object.
-use Rattle.std.specs.Prelude.{ℕ, ◌+◌, ◌%◌, ◌==◌, ◌&&◌, Bool, List, [], ◌∷◌, ◌++◌, codes, flat_map, if◌then◌else◌, map, not, slice_index}
-use Rattle.mg_disk.specs.Disk.{Image}
-use Rattle.mg_model.specs.declared.rights.Right.TheVariants.{R}
-use Rattle.mg_model.specs.declared.slots.Slot.{Slot}
-use Rattle.mg_model.specs.Access.{last_slots}
-use Rattle.mg_model.specs.Rights.{has_right}
-use Rattle.mg_model.specs.State.{ObjectRow, ThreadRow}
-use Rattle.mg_show.specs.DotText.{arrow, entry_arrow, graph_line, object_name, object_node, quoted, slot_arrow, thread_name, thread_node}
-use Rattle.mg_show.specs.Marking.{is_within}
-use Rattle.mg_show.specs.Reached.{by_place, listed}
-use Rattle.mg_show.specs.Shown.{bare}
-use Rattle.mg_show.specs.StateText.{rights_text}
-use Rattle.mg_show.specs.declared.held.Shown.{Shown}
+use Rattle.std.specs.Prelude.{ℕ, ◌+◌, ◌%◌, ◌==◌, ◌&&◌, Bool, List, [], ◌∷◌, ◌++◌, codes, flat_map, if◌then◌else◌, map}
+use Rattle.std.specs.Prelude.{not, slice_index}
+use Rattle.{mg_disk.specs.Disk.Image, mg_model.specs.{Access.last_slots, Rights.has_right, State.ObjectRow}}
+use Rattle.mg_model.specs.{State.ThreadRow, declared.{rights.Right.TheVariants.R, slots.Slot.Slot}}
+use Rattle.mg_show.specs.DotText.{arrow, entry_arrow, graph_line, object_name, object_node, quoted, slot_arrow}
+use Rattle.mg_show.specs.{DotText.{thread_name, thread_node}, Marking.is_within, Reached.{by_place, listed}, Shown.bare}
+use Rattle.mg_show.specs.{StateText.rights_text, declared.held.Shown.Shown}
 
 abbrev pub graph_head : List ℕ
 graph_head = codes "digraph volume {" ++ 10 ∷ [] ++ graph_line (codes "rankdir=LR") ++ graph_line (codes "node [shape=box style=dashed]")

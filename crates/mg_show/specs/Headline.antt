@@ -1,21 +1,13 @@
 -- What the program promises: the text of the volume that reads give, all of it, and no write.
-use Rattle.std.specs.Prelude.{◌≡◌, ◌⊎◌}
-use Rattle.std.specs.Io.KnownBytes.{Appends}
-use Rattle.std.specs.Option.{ForSome}
-use Rattle.mg_disk.specs.Stops.{CountRose, WritesNothing}
-use Rattle.mg_disk.specs.declared.disk.Disk as disks
-use Rattle.mg_faults.specs.Faults.{Rose}
-use Rattle.mg_io.specs.Known.{AppendsPrefix}
-use Rattle.mg_io.specs.declared.traits.Sink as sinks
-use Rattle.mg_model.specs.State.{State}
-use Rattle.mg_model.specs.Volume.{Is, volume}
-use Rattle.mg_serve.specs.Sessions.{IsDoneOrMemory}
-use Rattle.mg_serve.specs.declared.status.Status.{Status}
-use Rattle.mg_serve.specs.declared.status.Status.TheVariants as status
-use Rattle.mg_io.specs.Arguments.{PutsUsage}
-use Rattle.mg_commands.specs.Headline.{EndsUnopened, OnVolume, TellsOfNone}
-use Rattle.mg_show.specs.Commands.{text_of}
+use Rattle.std.specs.{Io.KnownBytes.Appends, Option.ForSome, Prelude.{◌≡◌, ◌⊎◌}}
+use Rattle.{mg_commands.specs.Headline.{EndsUnopened, OnVolume, TellsOfNone}, mg_disk.specs.Stops.CountRose}
+use Rattle.{mg_disk.specs.Stops.WritesNothing, mg_faults.specs.Faults.Rose, mg_io.specs.Arguments.PutsUsage}
+use Rattle.{mg_io.specs.Known.AppendsPrefix, mg_model.specs.{State.State, Volume.{Is, volume}}}
+use Rattle.{mg_serve.specs.{Sessions.IsDoneOrMemory, declared.status.Status.Status}, mg_show.specs.Commands.text_of}
 use Rattle.mg_show.specs.declared.command.Text.{Text}
+use Rattle.mg_disk.specs.declared.disk.Disk as disks
+use Rattle.mg_io.specs.declared.traits.Sink as sinks
+use Rattle.mg_serve.specs.declared.status.Status.TheVariants as status
 
 -- What is kept where a text is asked for.
 pub record ShowKeeps {D K : Type 0} (facts : disks.Ghosts D) (to : sinks.Ghosts K) (text : Text)

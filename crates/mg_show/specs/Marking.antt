@@ -1,13 +1,9 @@
 -- A mark for each object of what capabilities give: a byte of rights, or a rank, which is one more than the fewest steps to the object.
-use Rattle.std.specs.Prelude.{◌≡◌, ℕ, ◌<◌, ◌≤◌, ◌==◌, ◌&&◌, ◌||◌, nat_le, not, Bool, List, length, map, None, Option, slice_index, slice_index_or}
-use Rattle.std.specs.List.{AllWithin, list_any}
-use Rattle.std.specs.Option.{ForSome}
-use Rattle.mg_check.specs.Reads.{contents}
-use Rattle.mg_disk.specs.Disk.{Image}
+use Rattle.std.specs.{List.{AllWithin, list_any}, Option.ForSome, Prelude.{◌≡◌, ℕ, ◌<◌, ◌≤◌, ◌==◌, ◌&&◌, ◌||◌, nat_le}}
+use Rattle.std.specs.Prelude.{not, Bool, List, length, map, None, Option, slice_index, slice_index_or}
+use Rattle.{mg_check.specs.Reads.contents, mg_disk.specs.Disk.Image, mg_model.specs.State.ObjectRow}
+use Rattle.{mg_model.specs.declared.slots.Slot.Slot, mg_show.specs.Writing.{Held, Reads}}
 use Rattle.mg_disk.specs.declared.disk.Disk as disks
-use Rattle.mg_model.specs.declared.slots.Slot.{Slot}
-use Rattle.mg_model.specs.State.{ObjectRow}
-use Rattle.mg_show.specs.Writing.{Held, Reads}
 
 -- slots as capabilities
 abbrev pub named_by : List Slot → List (ℕ × ℕ)

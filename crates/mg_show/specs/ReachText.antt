@@ -1,13 +1,7 @@
 -- Who may reach what, as text: for each thread and object the rights of the moment, exactly as an access is judged.
-use Rattle.std.specs.Prelude.{ℕ, Bool, List, [], ◌∷◌, ◌++◌, codes, filter, flat_map, map}
-use Rattle.std.specs.Fmt.{decimal}
-use Rattle.mg_model.specs.declared.rights.Right.{Right}
-use Rattle.mg_model.specs.declared.rights.Right.TheVariants.{P}
-use Rattle.mg_model.specs.Rights.{letters}
-use Rattle.mg_model.specs.Access.{allowed}
-use Rattle.mg_model.specs.Print.{hex_text}
-use Rattle.mg_model.specs.State.{Object, State, Thread}
-use Rattle.mg_show.specs.StateText.{line}
+use Rattle.std.specs.{Fmt.decimal, Prelude.{ℕ, Bool, List, [], ◌∷◌, ◌++◌, codes, filter, flat_map, map}}
+use Rattle.mg_model.specs.{Access.allowed, Print.hex_text, Rights.letters, State.{Object, State, Thread}}
+use Rattle.{mg_model.specs.declared.rights.Right.{Right, TheVariants.P}, mg_show.specs.StateText.line}
 
 -- the letters of the rights that pass
 abbrev pub letters_by : (Right → Bool) → List ℕ

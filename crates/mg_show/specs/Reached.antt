@@ -1,20 +1,11 @@
 -- The rights that lists of capabilities give, object by object, and their text.
-use Rattle.std.specs.Prelude.{ℕ, ◌+◌, ◌%◌, ◌==◌, Bool, List, [], ◌∷◌, ◌++◌, codes, flat_map, if◌then◌else◌, length, slice_index}
-use Rattle.std.specs.Fmt.{decimal}
-use Rattle.mg_disk.specs.Disk.{Image}
-use Rattle.mg_model.specs.declared.rights.Right.{Right}
-use Rattle.mg_model.specs.declared.rights.Right.TheVariants.{P}
-use Rattle.mg_model.specs.Access.{capabilities, pairs_of, holds, last_slots}
-use Rattle.mg_model.specs.Objects.{page_of}
-use Rattle.mg_model.specs.Print.{hex_text}
-use Rattle.mg_model.specs.Rights.{has_right}
-use Rattle.mg_model.specs.State.{ObjectRow, ThreadRow}
-use Rattle.mg_model.specs.Abbreviations.{pages_words}
-use Rattle.mg_show.specs.Marking.{given}
-use Rattle.mg_show.specs.ReachText.{letters_by, reach_line}
-use Rattle.mg_show.specs.Shown.{state_shown}
-use Rattle.mg_show.specs.StateText.{line, rights_text}
-use Rattle.mg_show.specs.declared.held.Shown.{Shown}
+use Rattle.std.specs.{Fmt.decimal, Prelude.{ℕ, ◌+◌, ◌%◌, ◌==◌, Bool, List, [], ◌∷◌, ◌++◌, codes, flat_map}}
+use Rattle.std.specs.Prelude.{if◌then◌else◌, length, slice_index}
+use Rattle.{mg_disk.specs.Disk.Image, mg_model.specs.{Abbreviations.pages_words, Access.{capabilities, pairs_of}}}
+use Rattle.mg_model.specs.{Access.{holds, last_slots}, Objects.page_of, Print.hex_text, Rights.has_right}
+use Rattle.mg_model.specs.{State.{ObjectRow, ThreadRow}, declared.rights.Right.{Right, TheVariants.P}}
+use Rattle.mg_show.specs.{Marking.given, ReachText.{letters_by, reach_line}, Shown.state_shown, StateText.line}
+use Rattle.mg_show.specs.{StateText.rights_text, declared.held.Shown.Shown}
 
 -- the line of an object on which a thread has the rights with these bits; none where it has none
 abbrev pub bits_line : ℕ → ℕ → ℕ → List ℕ

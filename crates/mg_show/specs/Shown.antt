@@ -1,13 +1,9 @@
 -- The state of a volume that is held.
 use Rattle.std.specs.Prelude.{ℕ, ◌+◌, [], length, map, Option}
-use Rattle.mg_check.specs.Reads.{CanRead}
-use Rattle.mg_disk.specs.Disk.{Image}
-use Rattle.mg_disk.specs.declared.disk.Disk as disks
-use Rattle.mg_journal.specs.Looked.{Fits}
-use Rattle.mg_model.specs.Replay.{replay}
-use Rattle.mg_model.specs.State.{Object, ObjectRow, State, Thread, ThreadRow}
-use Rattle.mg_model.specs.Volume.{object_spelled}
+use Rattle.{mg_check.specs.Reads.CanRead, mg_disk.specs.Disk.Image, mg_journal.specs.Looked.Fits}
+use Rattle.mg_model.specs.{Replay.replay, State.{Object, ObjectRow, State, Thread, ThreadRow}, Volume.object_spelled}
 use Rattle.mg_show.specs.declared.held.Shown.{Shown}
+use Rattle.mg_disk.specs.declared.disk.Disk as disks
 
 -- the contents of an image, as the journal gives them
 abbrev pub held_in : Shown → Image → Option Image

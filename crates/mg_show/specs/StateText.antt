@@ -1,15 +1,10 @@
 -- A state as text: a line for each thing in it, in a fixed order.
-use Rattle.std.specs.Prelude.{ℕ, ◌+◌, ◌/◌, ◌%◌, ◌==◌, List, [], ◌∷◌, ◌++◌, codes, filter, flat_map, if◌then◌else◌, map, None, Option, Some, sum_by}
-use Rattle.std.specs.Fmt.{decimal}
-use Rattle.mg_model.specs.declared.accounts.AccRow.{AccRow}
-use Rattle.mg_model.specs.declared.limits.TheConstants.{NEVER as never}
-use Rattle.mg_model.specs.declared.slots.Pw.{Pw}
-use Rattle.mg_model.specs.declared.slots.Slot.{Slot}
-use Rattle.mg_model.specs.declared.rights.Right.{Right}
-use Rattle.mg_model.specs.Print.{hex_digits, hex_text, spaced}
-use Rattle.mg_model.specs.Rights.{has_right, letters}
-use Rattle.mg_model.specs.Settings.{Settings}
+use Rattle.std.specs.{Fmt.decimal, Prelude.{ℕ, ◌+◌, ◌/◌, ◌%◌, ◌==◌, List, [], ◌∷◌, ◌++◌, codes, filter, flat_map}}
+use Rattle.std.specs.Prelude.{if◌then◌else◌, map, None, Option, Some, sum_by}
+use Rattle.mg_model.specs.{Print.{hex_digits, hex_text, spaced}, Rights.{has_right, letters}, Settings.Settings}
 use Rattle.mg_model.specs.State.{CallFrame, Counters, Object, ObjectRow, State, Thread, ThreadRow, state_row}
+use Rattle.mg_model.specs.declared.{accounts.AccRow.AccRow, limits.TheConstants.NEVER as never, rights.Right.Right}
+use Rattle.mg_model.specs.declared.slots.{Pw.Pw, Slot.Slot}
 
 -- a line: its first word, the others, each behind a space, and a newline
 abbrev pub line : List ℕ → List (List ℕ) → List ℕ

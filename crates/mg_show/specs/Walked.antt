@@ -1,14 +1,9 @@
 -- The objects that are reached from a start, by their ranks.
-use Rattle.std.specs.Prelude.{◌≡◌, ℕ, ◌<◌, ◌≤◌, ◌==◌, ◌&&◌, List, [], if◌then◌else◌, length, slice_index, slice_index_or}
-use Rattle.mg_disk.specs.Disk.{Image}
-use Rattle.mg_model.specs.declared.rights.Right.TheVariants.{R}
-use Rattle.mg_model.specs.Rights.{has_right}
-use Rattle.mg_model.specs.State.{ObjectRow}
-use Rattle.mg_show.specs.DotFrom.{is_among, reached}
-use Rattle.mg_show.specs.DotText.{is_list}
-use Rattle.mg_show.specs.Marking.{is_within}
-use Rattle.mg_show.specs.Reached.{by_place, listed}
-use Rattle.mg_show.specs.Shown.{bare, state_shown}
+use Rattle.std.specs.Prelude.{◌≡◌, ℕ, ◌<◌, ◌≤◌, ◌==◌, ◌&&◌, List, [], if◌then◌else◌, length, slice_index}
+use Rattle.std.specs.Prelude.{slice_index_or}
+use Rattle.{mg_disk.specs.Disk.Image, mg_model.specs.{Rights.has_right, State.ObjectRow}}
+use Rattle.{mg_model.specs.declared.rights.Right.TheVariants.R, mg_show.specs.DotFrom.{is_among, reached}}
+use Rattle.mg_show.specs.{DotText.is_list, Marking.is_within, Reached.{by_place, listed}, Shown.{bare, state_shown}}
 use Rattle.mg_show.specs.declared.held.Shown.{Shown}
 
 -- the ranks up to n are those of what is reached, and there are no others

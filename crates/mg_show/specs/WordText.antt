@@ -1,12 +1,7 @@
 -- The words of blocks, pages and objects as text.
 use Rattle.std.specs.Prelude.{ℕ, ◌*◌, ◌==◌, Bool, List, [], ◌∷◌, codes, flat_map, if◌then◌else◌, replicate}
-use Rattle.mg_model.specs.Bytes.{block_words}
-use Rattle.mg_model.specs.Objects.{page_of}
-use Rattle.mg_model.specs.Print.{hex_text}
-use Rattle.mg_model.specs.State.{ObjectRow}
-use Rattle.mg_model.specs.Abbreviations.{pages_words}
-use Rattle.mg_model.specs.Volume.{page_words}
-use Rattle.mg_show.specs.StateText.{line, words_text}
+use Rattle.mg_model.specs.{Abbreviations.pages_words, Bytes.block_words, Objects.page_of, Print.hex_text}
+use Rattle.{mg_model.specs.{State.ObjectRow, Volume.page_words}, mg_show.specs.StateText.{line, words_text}}
 
 -- a word; nothing where it is 0
 abbrev pub word_text : ℕ → ℕ → List ℕ

@@ -1,15 +1,11 @@
 -- Text that is put through a writer, which remembers the first fault.
-use Rattle.std.specs.Prelude.{ℕ, ◌≡◌, ◌⊎◌, List, ◌++◌, Option, Some, None, IsTrue, is_some}
-use Rattle.std.specs.Io.KnownBytes.{Appends}
-use Rattle.std.specs.Option.{ForSome}
-use Rattle.mg_check.specs.Reads.{contents}
-use Rattle.mg_disk.specs.declared.disk.Disk as disks
-use Rattle.mg_disk.specs.Disk.{Image}
-use Rattle.mg_disk.specs.Stops.{CountRose, OnlyRead}
-use Rattle.mg_faults.specs.Faults.{CountGoesOn, Rose}
-use Rattle.mg_io.specs.Known.{AppendsPrefix}
-use Rattle.mg_io.specs.declared.traits.Sink as sinks
+use Rattle.std.specs.{Io.KnownBytes.Appends, Option.ForSome, Prelude.{ℕ, ◌≡◌, ◌⊎◌, List, ◌++◌, Option, Some, None}}
+use Rattle.std.specs.Prelude.{IsTrue, is_some}
+use Rattle.{mg_check.specs.Reads.contents, mg_disk.specs.{Disk.Image, Stops.{CountRose, OnlyRead}}}
+use Rattle.{mg_faults.specs.Faults.{CountGoesOn, Rose}, mg_io.specs.Known.AppendsPrefix}
 use Rattle.mg_show.specs.declared.faults.ShowFault.{ShowFault}
+use Rattle.mg_disk.specs.declared.disk.Disk as disks
+use Rattle.mg_io.specs.declared.traits.Sink as sinks
 use Rattle.mg_show.specs.declared.faults.ShowFault.TheVariants as fault
 
 -- with what waits, the sink's text is longer by this text

@@ -1,20 +1,16 @@
 -- Lemmas on text that is put through a writer: one text behind another, a text behind reads, and the last of a list's texts.
-use Rattle.std.specs.Prelude.{◌⊎◌, IsTrue, is_some, Some, None}
-use Rattle.std.specs.List.{HoldsAt, flat_map}
-use Rattle.std.specs.Option.{ForSome, option_map_or}
-use Rattle.std.proofs.Common.{◌≡◌, ℕ, ◌+◌, ◌<◌, ◌≤◌, List, [], ◌++◌, Option, length, get_or, take, ap, sym, refl, inl, inr, ⊎_elim, ◌∙◌, append_assoc, append-nil, subst}
-use Rattle.std.proofs.lemmas.List.{flat_map_more, take_all, take_more}
-use Rattle.mg_check.specs.ReadRuns.{only_none, only_then, same_contents}
-use Rattle.mg_check.specs.Reads.{contents}
-use Rattle.mg_disk.specs.declared.disk.Disk as disks
-use Rattle.mg_disk.specs.Disk.{Image}
-use Rattle.mg_disk.specs.Stops.{CountGoes, CountRose, OnlyRead}
-use Rattle.mg_faults.specs.Faults.{count_none, count_then, rose_then, then_rose}
-use Rattle.mg_io.specs.Known.{Appends-none, Appends-then, AppendsPrefix, AppendsPrefix-longer, AppendsPrefix-none}
-use Rattle.mg_io.specs.declared.traits.Sink as sinks
-use Rattle.mg_model.specs.State.{ObjectRow}
+use Rattle.std.proofs.Common.{◌≡◌, ℕ, ◌+◌, ◌<◌, ◌≤◌, List, [], ◌++◌, Option, length, get_or, take, ap, sym, refl, inl}
+use Rattle.std.proofs.{Common.{inr, ⊎_elim, ◌∙◌, append_assoc, append-nil, subst}, lemmas.List.flat_map_more}
+use Rattle.std.{proofs.lemmas.List.{take_all, take_more}, specs.{List.{HoldsAt, flat_map}, Option.ForSome}}
+use Rattle.std.specs.{Option.option_map_or, Prelude.{◌⊎◌, IsTrue, is_some, Some, None}}
+use Rattle.{mg_check.specs.{ReadRuns.{only_none, only_then, same_contents}, Reads.contents}, mg_disk.specs.Disk.Image}
+use Rattle.{mg_disk.specs.Stops.{CountGoes, CountRose, OnlyRead}, mg_faults.specs.Faults.{count_none, count_then}}
+use Rattle.{mg_faults.specs.Faults.{rose_then, then_rose}, mg_io.specs.Known.{Appends-none, Appends-then}}
+use Rattle.{mg_io.specs.Known.{AppendsPrefix, AppendsPrefix-longer, AppendsPrefix-none}, mg_model.specs.State.ObjectRow}
 use Rattle.mg_show.specs.Writing.{Adds, Held, Puts, PutsOf, ReadFails, Reads, Writes}
 use Rattle.mg_show.specs.declared.faults.ShowFault.{ShowFault}
+use Rattle.mg_disk.specs.declared.disk.Disk as disks
+use Rattle.mg_io.specs.declared.traits.Sink as sinks
 use Rattle.mg_show.specs.declared.faults.ShowFault.TheVariants as fault
 
 Adds-none : (a : Option (List ℕ)) (w : List ℕ) → Adds a a w w []

@@ -1,5 +1,6 @@
 -- Where a text is cut: a word ends at a blank, a line at its newline, and lines of one kind before a line of another.
-use Rattle.mg_show_laws.proofs.Names.{flat_map, if◌then◌else◌, ◌==◌, ◌≡◌, ℕ, ◌+◌, ◌<◌, ◌≤◌, List, [], ◌∷◌, ◌++◌, get_or, map, refl, ap, sym, ◌∙◌, arith, append_assoc, All, append_cancel_left, All-head, All-tail, spaced, High, line}
+use Rattle.mg_show_laws.proofs.Names.{flat_map, if◌then◌else◌, ◌==◌, ◌≡◌, ℕ, ◌+◌, ◌<◌, ◌≤◌, List, [], ◌∷◌, ◌++◌, get_or, map, refl, ap, sym, ◌∙◌}
+use Rattle.mg_show_laws.proofs.Names.{arith, append_assoc, All, append_cancel_left, All-head, All-tail, spaced, High, line}
 
 -- two things are one, and what stands behind the text of each
 abbrev pub Same : {A : Type 0} → A → A → List ℕ → List ℕ → Type 0

@@ -1,12 +1,11 @@
 -- Accounts, and objects with their passwords, entries and extensions: the lines of each tell it, whatever stands behind.
-use Rattle.mg_show_laws.proofs.Names.{codes, flat_map, decimal, ◌≡◌, ℕ, ◌+◌, ◌^◌, ◌<◌, List, [], ◌∷◌, ◌++◌, Option, Some, None, refl, ap, sym, ◌∙◌, arith, append_assoc, All, decimal_injective, All-head, All-tail, All-weaker, hex_text, IsExtension, IsObjectRow, IsSlot, IsWord, ObjectRow, hex-high, account_text, accounts_text, entry_text, extension_text, object_line, object_text, password_text, rights_text, slot_text, until_text}
-use Rattle.std.specs.Option.{ForSome}
-use Rattle.mg_model.specs.declared.accounts.AccRow.{AccRow}
-use Rattle.mg_model.specs.declared.slots.Pw.{Pw}
-use Rattle.mg_model.specs.declared.slots.Slot.{Slot}
-use Rattle.mg_model.specs.PasswordRows.{IsPassword}
-use Rattle.mg_show_laws.proofs.Cutting.{AllHigh, IsAt, Same, Tells, four-apart, level, line-cut, list-level, list-told, nth}
-use Rattle.mg_show_laws.proofs.ValuesTold.{decimal-high, hex-told, rights-high, rights-told, until-high, until-told}
+use Rattle.mg_model.specs.{PasswordRows.IsPassword, declared.{accounts.AccRow.AccRow, slots.{Pw.Pw, Slot.Slot}}}
+use Rattle.mg_show_laws.proofs.{Cutting.{AllHigh, IsAt, Same, Tells, four-apart, level, line-cut, list-level, list-told, nth}, Names.codes}
+use Rattle.mg_show_laws.proofs.Names.{flat_map, decimal, ◌≡◌, ℕ, ◌+◌, ◌^◌, ◌<◌, List, [], ◌∷◌, ◌++◌, Option, Some, None, refl, ap, sym, ◌∙◌, arith}
+use Rattle.mg_show_laws.proofs.Names.{append_assoc, All, decimal_injective, All-head, All-tail, All-weaker, hex_text, IsExtension, IsObjectRow}
+use Rattle.mg_show_laws.proofs.Names.{IsSlot, IsWord, ObjectRow, hex-high, account_text, accounts_text, entry_text, extension_text, object_line}
+use Rattle.mg_show_laws.proofs.{Names.{object_text, password_text, rights_text, slot_text, until_text}, ValuesTold.{decimal-high, hex-told}}
+use Rattle.{mg_show_laws.proofs.ValuesTold.{rights-high, rights-told, until-high, until-told}, std.specs.Option.ForSome}
 
 -- Accounts
 

@@ -1,9 +1,9 @@
 -- The settings and the counters: their lines tell them, whatever stands behind.
-use Rattle.mg_show_laws.proofs.Names.{codes, IsTrue, decimal, ◌≡◌, ℕ, ◌^◌, ◌<◌, List, [], ◌∷◌, ◌++◌, map, sym, ◌∙◌, arith, All, nat_tests, decimal_injective, All-from_recursion, All-nil, IsCounters, Counters, IsSettings, counters_text, line, seed_text, settings_text, step_text}
-use Rattle.mg_model.specs.Settings.{Settings, within_limits}
-use Rattle.mg_model.specs.Tariff.{is_tariff}
-use Rattle.mg_show_laws.proofs.Cutting.{AllHigh, Same, four-apart, line-cut, map-high, map-told, nth}
-use Rattle.mg_show_laws.proofs.ValuesTold.{IsStep, decimal-high, seed-high, seed-told, step-high, step-told}
+use Rattle.{mg_model.specs.{Settings.{Settings, within_limits}, Tariff.is_tariff}, mg_show_laws.proofs.Cutting.{AllHigh, Same, four-apart, line-cut}}
+use Rattle.mg_show_laws.proofs.{Cutting.{map-high, map-told, nth}, Names.{codes, IsTrue, decimal, ◌≡◌, ℕ, ◌^◌, ◌<◌, List, [], ◌∷◌, ◌++◌, map, sym}}
+use Rattle.mg_show_laws.proofs.Names.{◌∙◌, arith, All, nat_tests, decimal_injective, All-from_recursion, All-nil, IsCounters, Counters, IsSettings}
+use Rattle.mg_show_laws.proofs.{Names.{counters_text, line, seed_text, settings_text, step_text}, ValuesTold.{IsStep, decimal-high, seed-high}}
+use Rattle.mg_show_laws.proofs.ValuesTold.{seed-told, step-high, step-told}
 
 -- a line of one number
 abbrev number_line : List ℕ → ℕ → List ℕ

@@ -1,12 +1,10 @@
 -- Two well-formed states with one text: their settings, counters, accounts, rows of objects, threads and words are told one after another.
-use Rattle.mg_show_laws.proofs.Names.{flat_map, ◌≡◌, ℕ, ◌<◌, List, ◌++◌, ap, sym, ◌∙◌, arith, append_assoc, All, All-map, All-weaker, IsObjectRow, Object, State, IsObject, IsWellFormed, accounts_text, counters_text, object_text, pages_paid, rows_in, settings_text, state_text, thread_text}
-use Rattle.std.proofs.lemmas.List.Sums.{get_or-le-sum_by}
-use Rattle.mg_show_laws.proofs.Cutting.{flat_map-over, level, list-level, list-told}
-use Rattle.mg_show_laws.proofs.ObjectsTold.{IsFunds, accounts-told, object-at, object-told}
-use Rattle.mg_show_laws.proofs.SettingsTold.{counters-told, settings-told, within-fits}
-use Rattle.mg_show_laws.proofs.ThreadsTold.{IsNumbered, thread-at, thread-told}
-use Rattle.mg_show_laws.proofs.WordsTold.{object_words, objects-level, objects-told}
-use Rattle.mg_show_laws.specs.TextLaws.{TellsState}
+use Rattle.mg_show_laws.proofs.{Cutting.{flat_map-over, level, list-level, list-told}, Names.{flat_map, ◌≡◌, ℕ, ◌<◌, List, ◌++◌, ap, sym, ◌∙◌, arith}}
+use Rattle.mg_show_laws.proofs.Names.{append_assoc, All, All-map, All-weaker, IsObjectRow, Object, State, IsObject, IsWellFormed, accounts_text}
+use Rattle.mg_show_laws.proofs.{Names.{counters_text, object_text, pages_paid, rows_in, settings_text, state_text, thread_text}, ObjectsTold.IsFunds}
+use Rattle.mg_show_laws.proofs.{ObjectsTold.{accounts-told, object-at, object-told}, SettingsTold.{counters-told, settings-told, within-fits}}
+use Rattle.mg_show_laws.proofs.{ThreadsTold.{IsNumbered, thread-at, thread-told}, WordsTold.{object_words, objects-level, objects-told}}
+use Rattle.{mg_show_laws.specs.TextLaws.TellsState, std.proofs.lemmas.List.Sums.get_or-le-sum_by}
 
 -- no account has more than the credits, and none owes more than its limit by the last period
 funds-fit : (state : State) → IsWellFormed state → All IsFunds state.accounts

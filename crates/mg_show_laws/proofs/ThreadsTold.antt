@@ -1,8 +1,9 @@
 -- Threads, with their registers, frames and slots: the lines of each tell it, whatever stands behind.
-use Rattle.mg_show_laws.proofs.Names.{codes, flat_map, decimal, ◌≡◌, ℕ, ◌^◌, ◌<◌, List, [], ◌∷◌, ◌++◌, drop, map, refl, ap, sym, ◌∙◌, arith, append_assoc, decimal_injective, hex_text, spaced, IsCallFrame, IsSlot, IsThreadRow, IsWord, CallFrame, Thread, ThreadRow, state_row, hex-high, frame_text, line, registers_text, slot_text, thread_head, thread_text}
 use Rattle.mg_show_laws.proofs.Cutting.{AllHigh, IsAt, Tells, all-high-append, line-cut, list-told, map-high, map-told, nth, spaced-append}
-use Rattle.mg_show_laws.proofs.ObjectsTold.{slot-told}
-use Rattle.mg_show_laws.proofs.ValuesTold.{decimal-high, hex-told, state-high, state-spaced, state-told, state_words}
+use Rattle.mg_show_laws.proofs.Names.{codes, flat_map, decimal, ◌≡◌, ℕ, ◌^◌, ◌<◌, List, [], ◌∷◌, ◌++◌, drop, map, refl, ap, sym, ◌∙◌, arith}
+use Rattle.mg_show_laws.proofs.Names.{append_assoc, decimal_injective, hex_text, spaced, IsCallFrame, IsSlot, IsThreadRow, IsWord, CallFrame, Thread}
+use Rattle.mg_show_laws.proofs.Names.{ThreadRow, state_row, hex-high, frame_text, line, registers_text, slot_text, thread_head, thread_text}
+use Rattle.mg_show_laws.proofs.{ObjectsTold.slot-told, ValuesTold.{decimal-high, hex-told, state-high, state-spaced, state-told, state_words}}
 
 slot-at : IsAt 3 (slot_text (codes "slot"))
 slot-at slot r = refl

@@ -1,11 +1,11 @@
 -- Values as words: no two have one text, and no text has a blank.
-use Rattle.mg_show_laws.proofs.Names.{◌==◌, codes, filter, ◌&&◌, if◌then◌else◌, decimal, digit_glyph, digits, digits_onto, ◌≡◌, ℕ, zero, suc, ◌+◌, ◌/◌, ◌%◌, ◌^◌, ◌<◌, ◌≤◌, Bool, true, false, eqb, leb, List, [], ◌∷◌, ◌++◌, Some, get_or, map, refl, ap, sym, ◌∙◌, arith, All, agree_below_at, and_parts, cond_both, eqb-true, leb-true, nat_tests, decimal_injective, append_cancel_left, All-head, All-tail, hex_digit, hex_text, spaced, IsWord, state_row, Digits, High, decimal-digits, high-append, number_of-hex, rights_text, seed_text, step_text, until_text}
-use Rattle.mg_model.specs.declared.rights.Right.{Right}
-use Rattle.mg_model.specs.declared.threads.Fault.TheVariants.{Align, Denied, Opcode}
-use Rattle.mg_model.specs.declared.threads.ThrState.{ThrState}
-use Rattle.mg_model.specs.declared.threads.ThrState.TheVariants.{Faulted, Ready, Stopped}
-use Rattle.mg_model.specs.Words.{number_of}
-use Rattle.mg_show_laws.proofs.Cutting.{AllHigh, cut}
+use Rattle.mg_model.specs.{Words.number_of, declared.{rights.Right.Right, threads.{Fault.TheVariants.{Align, Denied, Opcode}, ThrState.ThrState}}}
+use Rattle.{mg_model.specs.declared.threads.ThrState.TheVariants.{Faulted, Ready, Stopped}, mg_show_laws.proofs.{Cutting.{AllHigh, cut}, Names.◌==◌}}
+use Rattle.mg_show_laws.proofs.Names.{codes, filter, ◌&&◌, if◌then◌else◌, decimal, digit_glyph, digits, digits_onto, ◌≡◌, ℕ, zero, suc, ◌+◌, ◌/◌, ◌%◌}
+use Rattle.mg_show_laws.proofs.Names.{◌^◌, ◌<◌, ◌≤◌, Bool, true, false, eqb, leb, List, [], ◌∷◌, ◌++◌, Some, get_or, map, refl, ap, sym, ◌∙◌, arith}
+use Rattle.mg_show_laws.proofs.Names.{All, agree_below_at, and_parts, cond_both, eqb-true, leb-true, nat_tests, decimal_injective, append_cancel_left}
+use Rattle.mg_show_laws.proofs.Names.{All-head, All-tail, hex_digit, hex_text, spaced, IsWord, state_row, Digits, High, decimal-digits, high-append}
+use Rattle.mg_show_laws.proofs.Names.{number_of-hex, rights_text, seed_text, step_text, until_text}
 
 -- a text of known bytes has no blank, by computation
 abbrev is_high : List ℕ → Bool

@@ -1,8 +1,8 @@
 -- The words of objects: a line tells its address, so the words of one object end where those of the next begin.
-use Rattle.mg_show_laws.proofs.Names.{AllPairs, codes, flat_map, ◌≡◌, ℕ, suc, ◌+◌, ◌*◌, ◌^◌, ◌<◌, ◌≤◌, cond, eqb, List, [], ◌∷◌, ◌++◌, length, map, refl, ap, sym, subst, ◌∙◌, arith, append_assoc, All, cond_both, eqb-true, All-head, All-tail, hex_text, IsWord, Object, ObjectRow, IsBefore, IsObject, hex-high, line, words_text}
-use Rattle.mg_model.specs.Objects.{page_behind}
-use Rattle.mg_show_laws.proofs.Cutting.{AllHigh, Same, level, line-cut, nth}
-use Rattle.mg_show_laws.proofs.ValuesTold.{hex-told}
+use Rattle.{mg_model.specs.Objects.page_behind, mg_show_laws.proofs.{Cutting.{AllHigh, Same, level, line-cut, nth}, Names.{AllPairs, codes}}}
+use Rattle.mg_show_laws.proofs.Names.{flat_map, ◌≡◌, ℕ, suc, ◌+◌, ◌*◌, ◌^◌, ◌<◌, ◌≤◌, cond, eqb, List, [], ◌∷◌, ◌++◌, length, map, refl, ap, sym}
+use Rattle.mg_show_laws.proofs.Names.{subst, ◌∙◌, arith, append_assoc, All, cond_both, eqb-true, All-head, All-tail, hex_text, IsWord, Object}
+use Rattle.mg_show_laws.proofs.{Names.{ObjectRow, IsBefore, IsObject, hex-high, line, words_text}, ValuesTold.hex-told}
 
 abbrev word_line : ℕ → ℕ → List ℕ
 word_line address word = line (codes "word") (hex_text address ∷ hex_text word ∷ [])

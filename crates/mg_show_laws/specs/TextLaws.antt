@@ -1,7 +1,6 @@
 -- What the text of a state tells, as a statement on a text.
 use Rattle.std.specs.Prelude.{◌≡◌, ℕ, List}
-use Rattle.mg_model.specs.State.{State}
-use Rattle.mg_model.specs.WellFormed.{IsWellFormed}
+use Rattle.mg_model.specs.{State.State, WellFormed.IsWellFormed}
 
 -- no two well-formed states have one text
 abbrev pub TellsState : (State → List ℕ) → Type 0

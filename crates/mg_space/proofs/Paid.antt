@@ -1,18 +1,10 @@
 -- For how many pages an account pays, and what a change of the objects makes of it.
-use Rattle.std.specs.Prelude.{◌≡◌, ◌+◌, ◌<◌, ◌≤◌, ◌==◌, ℕ, suc, Bool, true, false, List, [], ◌++◌, ◌∷◌, All, Option, Some, None, filter, find, if◌then◌else◌, length, not, sum_by, take}
-use Rattle.std.specs.List.{list_any}
-use Rattle.std.specs.Option.{option_map}
-use Rattle.std.proofs.Common.{refl, sym, ap, ◌∙◌, subst, ⊎_elim, arith, get_or}
-use Rattle.std.proofs.lemmas.Bool.{cases_Bool, cond-false, cond-true, eq-eqb, eqb-true, ne_eqb, or_from}
-use Rattle.std.proofs.lemmas.List.{take_more}
-use Rattle.std.proofs.lemmas.List.Elements.{All-head, All-tail}
-use Rattle.std.proofs.lemmas.List.Sums.{sum_by-cons}
-use Rattle.mg_bank.specs.Bank.{pages_at}
-use Rattle.mg_model.specs.Ranges.{IsObjectRow}
-use Rattle.mg_model.specs.State.{ObjectRow}
-use Rattle.mg_objects.specs.Held.{AreApart, with_row}
-use Rattle.mg_space.specs.Space.{paid_by, share}
-use Rattle.mg_space.proofs.Spans.{Between, bases-rise, between-cons, between-without, none-based}
+use Rattle.{mg_bank.specs.Bank.pages_at, mg_model.specs.{Ranges.IsObjectRow, State.ObjectRow}, mg_objects.specs.Held.{AreApart, with_row}}
+use Rattle.mg_space.{proofs.Spans.{Between, bases-rise, between-cons, between-without, none-based}, specs.Space.{paid_by, share}}
+use Rattle.std.proofs.{Common.{refl, sym, ap, ◌∙◌, subst, ⊎_elim, arith, get_or}, lemmas.Bool.{cases_Bool, cond-false, cond-true, eq-eqb, eqb-true}}
+use Rattle.std.{proofs.lemmas.{Bool.{ne_eqb, or_from}, List.{take_more, Elements.{All-head, All-tail}, Sums.sum_by-cons}}, specs.List.list_any}
+use Rattle.std.specs.{Option.option_map, Prelude.{◌≡◌, ◌+◌, ◌<◌, ◌≤◌, ◌==◌, ℕ, suc, Bool, true, false, List, [], ◌++◌, ◌∷◌, All, Option, Some, None}}
+use Rattle.std.specs.Prelude.{filter, find, if◌then◌else◌, length, not, sum_by, take}
 
 paid-cons : (n : ℕ) (o : ℕ × ObjectRow) (objects : List (ℕ × ObjectRow)) → paid_by n (o ∷ objects) ≡ paid_by n objects + share o.1 n
 paid-cons n o objects = ⊎_elim own other (cases_Bool (o.1.account == n))

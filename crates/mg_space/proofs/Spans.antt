@@ -1,18 +1,11 @@
 -- The pages of objects: they lie one after another, and what a change of the objects makes of them.
-use Rattle.std.specs.Prelude.{◌≡◌, ◌+◌, ◌*◌, ◌/◌, ◌<◌, ◌≤◌, ◌==◌, ℕ, suc, true, false, List, [], ◌++◌, ◌∷◌, All, Some, None, filter, find, if◌then◌else◌, length, map, nat_lt, not, sum_by, take}
-use Rattle.std.proofs.Common.{refl, sym, ap, ◌∙◌, subst, ⊎_elim, arith, get_or}
-use Rattle.std.proofs.lemmas.Bool.{cases_Bool, cond-false, cond-true, eqb-true, ne_eqb}
-use Rattle.std.proofs.lemmas.List.{length-map, length-take-le, map-append, take_more}
-use Rattle.std.proofs.lemmas.List.Elements.{All-cons, All-head, All-nil, All-tail, All-take}
-use Rattle.std.proofs.lemmas.List.Sums.{sum_by-append, sum_by-cons}
-use Rattle.mg_model.specs.Limits.{page_end}
-use Rattle.mg_model.specs.Objects.{page_behind, page_of}
-use Rattle.mg_model.specs.Ranges.{IsObjectRow}
-use Rattle.mg_model.specs.State.{Object, ObjectRow}
-use Rattle.mg_objects.specs.Held.{AreApart, into_place, with_row}
-use Rattle.mg_ranges.specs.Gaps.{AreGapsOf, AreTaken, LieFrom, spans_of}
-use Rattle.mg_ranges.specs.Kept.{CanGive, CanTake, HasRoom}
-use Rattle.mg_space.specs.Space.{AreRowsOf, spans_in}
+use Rattle.mg_model.specs.{Limits.page_end, Objects.{page_behind, page_of}, Ranges.IsObjectRow, State.{Object, ObjectRow}}
+use Rattle.{mg_objects.specs.Held.{AreApart, into_place, with_row}, mg_ranges.specs.{Gaps.{AreGapsOf, AreTaken, LieFrom, spans_of}, Kept.CanGive}}
+use Rattle.{mg_ranges.specs.Kept.{CanTake, HasRoom}, mg_space.specs.Space.{AreRowsOf, spans_in}, std.proofs.Common.{refl, sym, ap, ◌∙◌, subst}}
+use Rattle.std.proofs.{Common.{⊎_elim, arith, get_or}, lemmas.{Bool.{cases_Bool, cond-false, cond-true, eqb-true, ne_eqb}, List.length-map}}
+use Rattle.std.proofs.lemmas.List.{length-take-le, map-append, take_more, Elements.{All-cons, All-head, All-nil, All-tail, All-take}}
+use Rattle.std.{proofs.lemmas.List.Sums.{sum_by-append, sum_by-cons}, specs.Prelude.{◌≡◌, ◌+◌, ◌*◌, ◌/◌, ◌<◌, ◌≤◌, ◌==◌, ℕ, suc, true, false, List}}
+use Rattle.std.specs.Prelude.{[], ◌++◌, ◌∷◌, All, Some, None, filter, find, if◌then◌else◌, length, map, nat_lt, not, sum_by, take}
 
 -- objects that lie apart, from a page on
 lie-spans :

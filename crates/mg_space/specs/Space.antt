@@ -1,8 +1,6 @@
 -- Objects with the pages between them.
 use Rattle.std.specs.Prelude.{◌≡◌, ◌==◌, ℕ, List, filter, if◌then◌else◌, map, sum_by}
-use Rattle.mg_bank.specs.Bank.{pages_at}
-use Rattle.mg_model.specs.Objects.{page_of}
-use Rattle.mg_model.specs.State.{Object, ObjectRow}
+use Rattle.{mg_bank.specs.Bank.pages_at, mg_model.specs.{Objects.page_of, State.{Object, ObjectRow}}}
 use Rattle.mg_ranges.specs.Gaps.{AreGapsOf}
 
 -- the pages of objects: of each the first one, and how many

@@ -1,12 +1,8 @@
 -- The number that the first word spells.
-use Rattle.std.proofs.Common.{◌≡◌, ℕ, zero, suc, ◌+◌, ◌==◌, ◌&&◌, not, Bool, true, false, List, [], ◌∷◌, Option, Some, None, take, drop, if◌then◌else◌, option_map, refl, ap, sym, ◌∙◌, arith}
-use Rattle.std.specs.List.{prefix_len}
-use Rattle.std.specs.Option.{option_map_or}
-use Rattle.std.proofs.lemmas.Bool.Decides.{nat_tests}
-use Rattle.mg_model.specs.Abbreviations.{below_word}
-use Rattle.mg_model.specs.Words.{hex_part, is_blank, value_of_digits, words}
-use Rattle.mg_text.specs.Fronts.{before_blank, first_number, from_blank}
-use Rattle.mg_text.specs.PieceLemmas.{pieces-found, pieces-lacking}
+use Rattle.{mg_model.specs.{Abbreviations.below_word, Words.{hex_part, is_blank, value_of_digits, words}}, mg_text.specs.Fronts.before_blank}
+use Rattle.{mg_text.specs.{Fronts.{first_number, from_blank}, PieceLemmas.{pieces-found, pieces-lacking}}, std.proofs.Common.{◌≡◌, ℕ, zero, suc, ◌+◌}}
+use Rattle.std.proofs.Common.{◌==◌, ◌&&◌, not, Bool, true, false, List, [], ◌∷◌, Option, Some, None, take, drop, if◌then◌else◌, option_map, refl, ap}
+use Rattle.std.{proofs.{Common.{sym, ◌∙◌, arith}, lemmas.Bool.Decides.nat_tests}, specs.{List.prefix_len, Option.option_map_or}}
 
 -- what comes after a number, as words
 pub behind-words : {X : Type 0} (f : X → ℕ × List ℕ) (r : Option X) (behind : List ℕ) (o : Option ℕ) → option_map f r ≡ option_map {U = ℕ × List ℕ} (λ n. (n, behind)) o

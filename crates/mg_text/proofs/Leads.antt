@@ -1,15 +1,10 @@
 -- The digits at the front of bytes, and the word that they are in.
-use Rattle.std.proofs.Common.{◌≡◌, ℕ, zero, suc, not, nat_lt, min, ◌⊎◌, ◌+◌, ◌*◌, ◌^◌, ◌<◌, ◌≤◌, ◌&&◌, nat_le, Bool, true, false, List, [], ◌∷◌, Option, Some, None, length, get_or, take, drop, if◌then◌else◌, option_map, refl, ap, sym, ◌∙◌, arith}
-use Rattle.std.proofs.lemmas.List.{drop_more, length-take-le, take_all}
-use Rattle.std.specs.Prelude.{is_some}
-use Rattle.std.specs.List.{prefix_len}
-use Rattle.std.proofs.lemmas.Bool.{ltb-false, ltb-true}
-use Rattle.std.proofs.lemmas.Bool.Decides.{nat_tests}
-use Rattle.std.proofs.lemmas.List.Sums.{prefix_len-drop_yes, prefix_len-le-length}
-use Rattle.mg_model.specs.Abbreviations.{below_word}
-use Rattle.mg_model.specs.Words.{and_then, digit_of, is_blank, value_from, value_of_digits}
-use Rattle.mg_text.specs.Fronts.{digits_front, from_blank, number_before_blank}
-use Rattle.mg_text.proofs.Values.{value_from-large}
+use Rattle.mg_model.specs.{Abbreviations.below_word, Words.{and_then, digit_of, is_blank, value_from, value_of_digits}}
+use Rattle.{mg_text.{proofs.Values.value_from-large, specs.Fronts.{digits_front, from_blank, number_before_blank}}, std.proofs.Common.{◌≡◌, ℕ, zero}}
+use Rattle.std.proofs.Common.{suc, not, nat_lt, min, ◌⊎◌, ◌+◌, ◌*◌, ◌^◌, ◌<◌, ◌≤◌, ◌&&◌, nat_le, Bool, true, false, List, [], ◌∷◌, Option, Some, None}
+use Rattle.std.proofs.{Common.{length, get_or, take, drop, if◌then◌else◌, option_map, refl, ap, sym, ◌∙◌, arith}, lemmas.Bool.{ltb-false, ltb-true}}
+use Rattle.std.proofs.lemmas.{Bool.Decides.nat_tests, List.{drop_more, length-take-le, take_all, Sums.{prefix_len-drop_yes, prefix_len-le-length}}}
+use Rattle.std.specs.{List.prefix_len, Prelude.is_some}
 
 -- one digit more
 front-cons : (base x d : ℕ) (ys : List ℕ) → Some d ≡ digit_of base x → digits_front base (x ∷ ys) ≡ x ∷ digits_front base ys

@@ -1,10 +1,8 @@
 -- The rights of letters, one letter more.
-use Rattle.std.proofs.Common.{◌≡◌, ℕ, ◌+◌, ◌/◌, ◌%◌, ◌<◌, ◌==◌, true, false, List, [], ◌∷◌, Option, Some, None, length, get_or, drop, if◌then◌else◌, refl, ap, sym, ◌∙◌, add-one, arith, drop-cons, inl, inr, ◌≤◌, ◌↔◌, IsSome, IfSome}
+use Rattle.mg_model.specs.{Rights.IsRights, StepwiseLemmas.{IsBit, rights_from, rights_of-from}, Words.{and_then, letter_weight, rights_of}}
+use Rattle.std.proofs.Common.{◌≡◌, ℕ, ◌+◌, ◌/◌, ◌%◌, ◌<◌, ◌==◌, true, false, List, [], ◌∷◌, Option, Some, None, length, get_or, drop, if◌then◌else◌}
+use Rattle.std.proofs.{Common.{refl, ap, sym, ◌∙◌, add-one, arith, drop-cons, inl, inr, ◌≤◌, ◌↔◌, IsSome, IfSome}, lemmas.Bool.Decides.nat_tests}
 use Rattle.std.proofs.lemmas.List.{drop_all}
-use Rattle.std.proofs.lemmas.Bool.Decides.{nat_tests}
-use Rattle.mg_model.specs.Rights.{IsRights}
-use Rattle.mg_model.specs.Words.{and_then, letter_weight, rights_of}
-use Rattle.mg_model.specs.StepwiseLemmas.{IsBit, rights_from, rights_of-from}
 
 -- a bit that is free among the six
 free_below : (bits bit : ℕ) → IsBit bit → bits < 64 → (bits / bit % 2 ≡ 1 → ⊥) → bits + bit < 64

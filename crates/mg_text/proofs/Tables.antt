@@ -1,9 +1,6 @@
 -- The table of pairs holds the two digits of each byte.
-use Rattle.std.proofs.Common.{◌≡◌, ℕ, ◌+◌, ◌*◌, ◌/◌, ◌%◌, ◌<◌, get_or, map, refl, ap, sym, ◌∙◌, arith}
-use Rattle.std.specs.List.{range_with_len}
-use Rattle.std.proofs.lemmas.List.FromFn.{get_or-map-range_with_len}
-use Rattle.mg_model.specs.Print.{hex_digit}
-use Rattle.mg_text.specs.declared.replies.TheConstants.{PAIRS}
+use Rattle.{mg_model.specs.Print.hex_digit, mg_text.specs.declared.replies.TheConstants.PAIRS, std.proofs.Common.{◌≡◌, ℕ, ◌+◌, ◌*◌, ◌/◌, ◌%◌, ◌<◌}}
+use Rattle.std.{proofs.{Common.{get_or, map, refl, ap, sym, ◌∙◌, arith}, lemmas.List.FromFn.get_or-map-range_with_len}, specs.List.range_with_len}
 
 -- two functions that give the same list give the same of each place in it
 same_at : (f g : ℕ → ℕ) (n b : ℕ) → map f (range_with_len 0 n) ≡ map g (range_with_len 0 n) → b < n → f b ≡ g b

@@ -1,8 +1,8 @@
 -- How texts grow at their end.
-use Rattle.std.proofs.Common.{◌≡◌, ℕ, suc, ◌+◌, ◌/◌, ◌%◌, ◌<◌, List, [], ◌∷◌, ◌++◌, drop, length, get_or, map, take, refl, ap, subst, sym, ◌∙◌, append_assoc, arith}
-use Rattle.std.proofs.lemmas.List.{append-nil, map_more}
+use Rattle.{mg_model.specs.Print.{hex_digit, hex_digits, hex_text, reply_line, spaced}, std.proofs.Common.{◌≡◌, ℕ, suc, ◌+◌, ◌/◌, ◌%◌, ◌<◌, List, []}}
+use Rattle.std.proofs.{Common.{◌∷◌, ◌++◌, drop, length, get_or, map, take, refl, ap, subst, sym, ◌∙◌, append_assoc, arith}, lemmas.List.append-nil}
+use Rattle.std.proofs.lemmas.List.{map_more}
 use Rattle.mg_model.specs.declared.replies.Reply.TheVariants as reply
-use Rattle.mg_model.specs.Print.{hex_digit, hex_digits, hex_text, reply_line, spaced}
 
 -- a space, 0x and the digits
 pub word_after : (front : List ℕ) (w : ℕ) → (front ++ 32 ∷ 48 ∷ 120 ∷ []) ++ hex_digits 16 w ≡ front ++ spaced (hex_text w ∷ [])

@@ -1,11 +1,7 @@
 -- The value of digits, one digit more, and when it leaves 64 bits.
-use Rattle.std.proofs.Common.{◌≡◌, ℕ, ◌+◌, ◌*◌, ◌^◌, ◌<◌, ◌≤◌, nat_lt, Bool, true, false, List, [], ◌∷◌, Some, None, if◌then◌else◌, refl, ap, arith}
-use Rattle.std.proofs.Math.Nat.{mul-le-mul_left, pow-le-pow_right}
-use Rattle.std.proofs.lemmas.Bool.{le-ltb, ltb-false, ltb-true}
-use Rattle.std.proofs.lemmas.Bool.Decides.{nat_tests}
-use Rattle.std.proofs.lemmas.Grind.{pow_more}
-use Rattle.mg_model.specs.Abbreviations.{below_word}
-use Rattle.mg_model.specs.Words.{and_then, digit_of, value_from}
+use Rattle.{mg_model.specs.{Abbreviations.below_word, Words.{and_then, digit_of, value_from}}, std.proofs.Common.{◌≡◌, ℕ, ◌+◌, ◌*◌, ◌^◌, ◌<◌, ◌≤◌}}
+use Rattle.std.proofs.{Common.{nat_lt, Bool, true, false, List, [], ◌∷◌, Some, None, if◌then◌else◌, refl, ap, arith}, Math.Nat.mul-le-mul_left}
+use Rattle.std.proofs.{Math.Nat.pow-le-pow_right, lemmas.{Bool.{le-ltb, ltb-false, ltb-true, Decides.nat_tests}, Grind.pow_more}}
 
 -- once past 64 bits, always past them
 pub value_from-large : (base n : ℕ) (xs : List ℕ) → 0 < base → 2 ^ 64 ≤ n → below_word (value_from base n xs) ≡ None

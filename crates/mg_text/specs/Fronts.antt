@@ -1,9 +1,6 @@
 -- What is at the front of bytes, and of words.
-use Rattle.std.specs.Prelude.{ℕ, not, List, [], ◌∷◌, take, drop, Option, None, is_some}
-use Rattle.std.specs.List.{prefix_len}
-use Rattle.std.specs.Prelude.{option_map}
-use Rattle.mg_model.specs.Abbreviations.{below_word}
-use Rattle.mg_model.specs.Words.{digit_of, is_blank, number_of, value_of_digits}
+use Rattle.std.specs.{List.prefix_len, Prelude.{ℕ, not, List, [], ◌∷◌, take, drop, Option, None, is_some, option_map}}
+use Rattle.mg_model.specs.{Abbreviations.below_word, Words.{digit_of, is_blank, number_of, value_of_digits}}
 
 -- the digits that these bytes begin with
 abbrev pub digits_front : ℕ → List ℕ → List ℕ

@@ -1,12 +1,10 @@
 -- Lemmas that crates above cite: numbers as they are printed are read back, and their bytes are no blanks.
-use Rattle.std.proofs.Common.{◌≡◌, ℕ, zero, suc, ◌+◌, ◌*◌, ◌/◌, ◌%◌, ◌^◌, ◌<◌, ◌≤◌, List, [], ◌∷◌, ◌++◌, length, Option, Some, None, true, refl, ap, ◌∙◌, arith, length-append}
-use Rattle.std.specs.Fmt.{decimal}
+use Rattle.std.proofs.Common.{◌≡◌, ℕ, zero, suc, ◌+◌, ◌*◌, ◌/◌, ◌%◌, ◌^◌, ◌<◌, ◌≤◌, List, [], ◌∷◌, ◌++◌, length, Option}
+use Rattle.std.proofs.{Common.{Some, None, true, refl, ap, ◌∙◌, arith, length-append}, lemmas.Bool.Decides.nat_tests}
+use Rattle.std.{proofs.lemmas.Fmt.{decimal_by_steps, decimal_nonempty, length-decimal-le}, specs.Fmt.decimal}
 use Rattle.std.specs.Option.{option_map_or}
-use Rattle.std.proofs.lemmas.Bool.Decides.{nat_tests}
-use Rattle.std.proofs.lemmas.Fmt.{decimal_by_steps, decimal_nonempty, length-decimal-le}
-use Rattle.mg_model.specs.Print.{hex_digit, hex_digits, hex_text}
-use Rattle.mg_model.specs.Abbreviations.{below_word}
-use Rattle.mg_model.specs.Words.{and_then, digit_of, hex_part, is_some_word, number_of, value_from, value_of_digits}
+use Rattle.mg_model.specs.{Abbreviations.below_word, Print.{hex_digit, hex_digits, hex_text}, Words.and_then}
+use Rattle.mg_model.specs.Words.{digit_of, hex_part, is_some_word, number_of, value_from, value_of_digits}
 
 -- decimal digits
 abbrev pub Digits : List ℕ → Type 0

@@ -1,6 +1,6 @@
 -- The pieces between cuts that are not empty, taken one by one from the front.
-use Rattle.std.proofs.Common.{◌≡◌, ℕ, suc, ◌+◌, ◌<◌, Bool, true, false, not, List, [], ◌∷◌, filter, take, drop, refl, arith}
-use Rattle.std.specs.List.{onto_first, prefix_len, slice_split}
+use Rattle.std.proofs.Common.{◌≡◌, ℕ, suc, ◌+◌, ◌<◌, Bool, true, false, not, List, [], ◌∷◌, filter, take, drop, refl}
+use Rattle.std.{proofs.Common.arith, specs.List.{onto_first, prefix_len, slice_split}}
 use Rattle.mg_model.specs.Words.{is_some_word}
 
 abbrev pieces : (ℕ → Bool) → List ℕ → List (List ℕ)

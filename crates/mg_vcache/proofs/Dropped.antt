@@ -1,13 +1,11 @@
 -- Seats that were dropped group by group, and the marks after that.
-use Rattle.std.specs.Prelude.{◌≡◌, ◌≢◌, ◌≤◌, ◌<◌, ◌+◌, ◌*◌, ◌/◌, ◌==◌, ℕ, Bool, true, false, List, [], ◌∷◌, ◌||◌, if◌then◌else◌, length, replicate, is_some, slice_index_or, slice_set, take, ◌++◌, nat_lt, Option, Some, None}
-use Rattle.std.proofs.Common.{refl, sym, ap, subst, ◌∙◌, arith}
-use Rattle.std.proofs.lemmas.Bool.{cond-true, cond-false, eqb-true, eqb-false, eq-eqb, ne_eqb, ltb-true, ltb-false}
-use Rattle.std.proofs.lemmas.List.{ext_get_or, get_or-map, get_or-set_other, get_or-set_same, get_or_past, get_or-replicate, length-map, length-replicate, length-set, take_at}
-use Rattle.mg_model.specs.declared.seats.Seat.{Seat}
-use Rattle.mg_model.specs.Backed.{by_each, by_given, by_via}
-use Rattle.mg_vcache.specs.EndedSeats.{by_object}
-use Rattle.mg_vcache.specs.Seats.{unless_ended, without}
-use Rattle.mg_vcache.specs.Marks.{AreMarked, IsMarked, StayMarked, is_in_row, is_set, mark_at}
+use Rattle.{mg_model.specs.{Backed.{by_each, by_given, by_via}, declared.seats.Seat.Seat}, mg_vcache.specs.{EndedSeats.by_object, Marks.AreMarked}}
+use Rattle.{mg_vcache.specs.{Marks.{IsMarked, StayMarked, is_in_row, is_set, mark_at}, Seats.{unless_ended, without}}, std.proofs.Common.{refl, sym}}
+use Rattle.std.proofs.{Common.{ap, subst, ◌∙◌, arith}, lemmas.Bool.{cond-true, cond-false, eqb-true, eqb-false, eq-eqb, ne_eqb, ltb-true, ltb-false}}
+use Rattle.std.proofs.lemmas.List.{ext_get_or, get_or-map, get_or-set_other, get_or-set_same, get_or_past, get_or-replicate, length-map}
+use Rattle.std.{proofs.lemmas.List.{length-replicate, length-set, take_at}, specs.Prelude.{◌≡◌, ◌≢◌, ◌≤◌, ◌<◌, ◌+◌, ◌*◌, ◌/◌, ◌==◌, ℕ, Bool, true}}
+use Rattle.std.specs.Prelude.{false, List, [], ◌∷◌, ◌||◌, if◌then◌else◌, length, replicate, is_some, slice_index_or, slice_set, take, ◌++◌, nat_lt}
+use Rattle.std.specs.Prelude.{Option, Some, None}
 
 -- these seats at the places from one on up to another are dropped, and what is said of those that are left
 pub record GroupDropped (from to row : ℕ) (ended : Seat → Bool) (old new : List (Option Seat)) (left : Bool) : Type 0 where

@@ -1,8 +1,6 @@
 -- What a call leaves of the seats of the validation cache.
 use Rattle.std.specs.Prelude.{◌≡◌, Bool, List, Option}
-use Rattle.mg_model.specs.declared.replies.Reply.{Reply}
-use Rattle.mg_model.specs.declared.replies.Reply.TheVariants.{No}
-use Rattle.mg_model.specs.declared.seats.Seat.{Seat}
+use Rattle.mg_model.specs.declared.{replies.Reply.{Reply, TheVariants.No}, seats.Seat.Seat}
 use Rattle.mg_vcache.specs.Seats.{without}
 
 -- these are dropped, and none if the call is refused

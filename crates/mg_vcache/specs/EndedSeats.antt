@@ -1,7 +1,6 @@
 -- The sets of seats that the cache can drop.
 use Rattle.std.specs.Prelude.{ℕ, ◌==◌, Bool}
-use Rattle.mg_model.specs.declared.seats.Seat.{Seat}
-use Rattle.mg_model.specs.Backed.{by_given, by_thread}
+use Rattle.mg_model.specs.{Backed.{by_given, by_thread}, declared.seats.Seat.Seat}
 use Rattle.mg_vcache.specs.declared.dropping.Ended.{Ended}
 use Rattle.mg_vcache.specs.declared.dropping.Ended.TheVariants as ended
 

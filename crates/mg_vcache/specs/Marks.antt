@@ -1,9 +1,9 @@
 -- The marks that say which seats may be those of a list, an object or a thread: 192 rows of 16 marks, a mark for each 16 seats. A
 -- list has one of the first 64 rows, an object one of the next 64, and a thread one of the others. A mark that is not set says that
 -- no such seat is kept there.
-use Rattle.std.specs.Prelude.{ℕ, ◌≡◌, ◌+◌, ◌*◌, ◌/◌, ◌%◌, ◌==◌, ◌||◌, Bool, true, false, List, slice_index_or, Option, Some, None}
-use Rattle.mg_model.specs.declared.seats.Seat.{Seat}
-use Rattle.mg_model.specs.Limits.{page_size}
+use Rattle.std.specs.Prelude.{ℕ, ◌≡◌, ◌+◌, ◌*◌, ◌/◌, ◌%◌, ◌==◌, ◌||◌, Bool, true, false, List, slice_index_or, Option}
+use Rattle.std.specs.Prelude.{Some, None}
+use Rattle.mg_model.specs.{Limits.page_size, declared.seats.Seat.Seat}
 
 abbrev pub list_row : ℕ → ℕ
 list_row base = base / page_size % 64

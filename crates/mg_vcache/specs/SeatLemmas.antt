@@ -1,23 +1,14 @@
 -- Lemmas on seats: what drops, fills and steps leave of what holds of each of them.
-use Rattle.std.specs.Prelude.{◌≡◌, ◌≤◌, ℕ, zero, suc, ◌==◌, ◌&&◌, nat_lt, Bool, true, false, List, if◌then◌else◌, length, replicate, slice_index_or, slice_set, Option, Some, None, IfSome}
-use Rattle.std.specs.Option.{option_map_or}
-use Rattle.std.proofs.Common.{refl, sym, ap, subst, ◌∙◌}
-use Rattle.std.proofs.lemmas.Bool.{and_parts, eqb-true, ltb-false, ltb-true}
-use Rattle.std.proofs.lemmas.List.{get_or_past}
-use Rattle.std.proofs.lemmas.List.Elements.{All-map, All-replicate, All-set, All-weaker}
-use Rattle.mg_model.specs.declared.replies.Reply.{Reply}
-use Rattle.mg_model.specs.declared.replies.Reply.TheVariants.{No}
-use Rattle.mg_model.specs.declared.rights.Right.{Right}
+use Rattle.std.proofs.{Common.{refl, sym, ap, subst, ◌∙◌}, lemmas.Bool.{and_parts, eqb-true, ltb-false, ltb-true}}
+use Rattle.std.proofs.lemmas.List.{get_or_past, Elements.{All-map, All-replicate, All-set, All-weaker}}
+use Rattle.std.specs.{Option.option_map_or, Prelude.{◌≡◌, ◌≤◌, ℕ, zero, suc, ◌==◌, ◌&&◌, nat_lt, Bool, true, false}}
+use Rattle.std.specs.Prelude.{List, if◌then◌else◌, length, replicate, slice_index_or, slice_set, Option, Some, None}
+use Rattle.std.specs.Prelude.{IfSome}
+use Rattle.mg_model.specs.{Backed.{IsBacked, KeepsBacked, by_none}, Keys.{Key, is_key, seat_of}, Refused.IsRefusal}
+use Rattle.mg_model.specs.{Rights.right_number, State.State, Warmth.is_ok, declared.replies.Reply.Reply}
+use Rattle.mg_model.specs.declared.{replies.Reply.TheVariants.No, rights.Right.Right, seats.Seat.Seat}
+use Rattle.mg_vcache.specs.{Drops.Drops, Seats.{AllBacked, EachKept, is_kept, key_in, unless_ended, without}}
 use Rattle.mg_model.specs.declared.rights.Right.TheVariants as right
-use Rattle.mg_model.specs.declared.seats.Seat.{Seat}
-use Rattle.mg_model.specs.Backed.{IsBacked, KeepsBacked, by_none}
-use Rattle.mg_model.specs.Keys.{Key, is_key, seat_of}
-use Rattle.mg_model.specs.Rights.{right_number}
-use Rattle.mg_model.specs.Refused.{IsRefusal}
-use Rattle.mg_model.specs.State.{State}
-use Rattle.mg_model.specs.Warmth.{is_ok}
-use Rattle.mg_vcache.specs.Drops.{Drops}
-use Rattle.mg_vcache.specs.Seats.{AllBacked, EachKept, is_kept, key_in, unless_ended, without}
 
 -- what a drop leaves of one seat
 left_one : (ended : Seat → Bool) (P Q : Seat → Type 0) → ((seat : Seat) → ended seat ≡ false → P seat → Q seat) → (kept : Option Seat) → IfSome kept P → IfSome (unless_ended ended kept) Q

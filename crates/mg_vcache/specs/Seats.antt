@@ -1,10 +1,7 @@
 -- The seats of the validation cache: which keys are kept, what is left when some end, and what each of them rests on.
-use Rattle.std.specs.Prelude.{Bool, false, List, All, map, if◌then◌else◌, slice_index_or, Option, Some, None, IfSome}
-use Rattle.std.specs.Option.{option_map_or}
-use Rattle.mg_model.specs.declared.seats.Seat.{Seat}
-use Rattle.mg_model.specs.Backed.{IsBacked}
-use Rattle.mg_model.specs.Keys.{Key, is_key, seat_of}
-use Rattle.mg_model.specs.State.{State}
+use Rattle.std.specs.{Option.option_map_or, Prelude.{Bool, false, List, All, map, if◌then◌else◌, slice_index_or}}
+use Rattle.std.specs.Prelude.{Option, Some, None, IfSome}
+use Rattle.mg_model.specs.{Backed.IsBacked, Keys.{Key, is_key, seat_of}, State.State, declared.seats.Seat.Seat}
 
 -- the key of the right that a seat keeps
 abbrev pub key_in : Seat → Key

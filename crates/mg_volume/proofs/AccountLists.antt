@@ -1,17 +1,10 @@
 -- Accounts as a list, and their rows by place.
-use Rattle.std.proofs.lemmas.Bool.Decides.{nat_tests}
-use Rattle.std.specs.Prelude.{◌≡◌, ◌≢◌, ◌+◌, ◌-◌, ◌*◌, ◌/◌, ◌≤◌, ◌==◌, ◌||◌, ◌∷◌, ◌++◌, nat_lt, ℕ, zero, suc, Bool, false, List, [], length, slice_get, slice_set, Option, Some, None}
-use Rattle.std.specs.Option.{option_map_or}
-use Rattle.std.proofs.Common.{refl, sym, ap, ◌∙◌, arith}
-use Rattle.std.proofs.lemmas.Bool.{both_ways, cases_lt, eq-eqb, lt-ltb, or_parts}
-use Rattle.std.proofs.lemmas.Option.{slice_get_past}
-use Rattle.mg_bank.specs.AccountLemmas.{length-taken}
-use Rattle.mg_rules.specs.RowsRead.{placed_from}
-use Rattle.mg_model.specs.declared.accounts.AccRow.{AccRow}
-use Rattle.mg_model.specs.Abbreviations.{with_account}
-use Rattle.mg_model.specs.Bank.{account_of, credited, debited}
-use Rattle.mg_volume.specs.RowLists.{ArePlaced, row_at}
-use Rattle.mg_volume.specs.StagesAccounts.{DifferWithin}
+use Rattle.{mg_bank.specs.AccountLemmas.length-taken, mg_model.specs.{Abbreviations.with_account, Bank.{account_of, credited, debited}}}
+use Rattle.{mg_model.specs.declared.accounts.AccRow.AccRow, mg_rules.specs.RowsRead.placed_from, mg_volume.specs.RowLists.{ArePlaced, row_at}}
+use Rattle.{mg_volume.specs.StagesAccounts.DifferWithin, std.proofs.{Common.{refl, sym, ap, ◌∙◌, arith}, lemmas.Bool.{both_ways, cases_lt, eq-eqb}}}
+use Rattle.std.{proofs.lemmas.{Bool.{lt-ltb, or_parts, Decides.nat_tests}, Option.slice_get_past}, specs.{Option.option_map_or, Prelude.{◌≡◌, ◌≢◌}}}
+use Rattle.std.specs.Prelude.{◌+◌, ◌-◌, ◌*◌, ◌/◌, ◌≤◌, ◌==◌, ◌||◌, ◌∷◌, ◌++◌, nat_lt, ℕ, zero, suc, Bool, false, List, [], length, slice_get}
+use Rattle.std.specs.Prelude.{slice_set, Option, Some, None}
 
 -- accounts with their places are there
 account_at : (i j : ℕ) (rows : List AccRow) → row_at (i + j) (placed_from i rows) ≡ slice_get rows j

@@ -1,30 +1,14 @@
 -- Blocks of accounts are staged, and the state has their rows.
-use Rattle.std.proofs.lemmas.Bool.Decides.{nat_tests}
+use Rattle.{mg_disk.specs.Disk.Image, mg_model.specs.{Abbreviations.account_row_bytes, Layout.{first_account_block, first_thread_block}}}
+use Rattle.mg_model.specs.{Limits.account_limit, Replay.block_of, Spelling.{Read, account_read}, Volume.live_rows, declared.accounts.AccRow.AccRow}
+use Rattle.{mg_pages.specs.{Meaning.StagesBlock, declared.pages.Pages.Pages}, mg_rows.specs.Blocks.account_in, mg_rules.specs.RowsRead.placed_from}
+use Rattle.mg_volume.proofs.{AccountLists.{account_here, accounts_rise}, Staged.{counters_stay, objects_behind, objects_stay, threads_stay}}
+use Rattle.mg_volume.{proofs.{Staged.{block_there, but_one}, Stages.{same_changes, shape_then, stages_then}}, specs.Changes.Changes}
+use Rattle.mg_volume.specs.{Held.VolumeHeld, Meaning.{IsSpelledBy, Spelled, now_of, threads_in}, RowLists.{tell, told}, Sound.all_spelled}
+use Rattle.{mg_volume.specs.StagesAccounts.{DifferWithin, HasAccounts, StagesAccounts}, std.proofs.Common.{refl, sym, ap, ◌∙◌, ⊎_elim, inl, inr}}
+use Rattle.std.proofs.{Common.arith, lemmas.Bool.{both_ways, cases_Bool, eqb-false, eqb-true, le-ltb, or_cases, or_parts, Decides.nat_tests}}
 use Rattle.std.specs.Prelude.{◌≡◌, ◌+◌, ◌*◌, ◌/◌, ◌%◌, ◌≤◌, ◌<◌, ◌==◌, ◌||◌, nat_lt, ℕ, Bool, true, false, List, length, slice_get, Some}
-use Rattle.std.proofs.Common.{refl, sym, ap, ◌∙◌, ⊎_elim, inl, inr, arith}
-use Rattle.std.proofs.lemmas.Bool.{both_ways, cases_Bool, eqb-false, eqb-true, le-ltb, or_cases, or_parts}
-use Rattle.mg_rules.specs.RowsRead.{placed_from}
-use Rattle.mg_disk.specs.Disk.{Image}
-use Rattle.mg_model.specs.declared.accounts.AccRow.{AccRow}
-use Rattle.mg_model.specs.Abbreviations.{account_row_bytes}
-use Rattle.mg_model.specs.Layout.{first_account_block, first_thread_block}
-use Rattle.mg_model.specs.Limits.{account_limit}
-use Rattle.mg_model.specs.Replay.{block_of}
-use Rattle.mg_model.specs.Spelling.{Read, account_read}
-use Rattle.mg_model.specs.Volume.{live_rows}
-use Rattle.mg_pages.specs.declared.pages.Pages.{Pages}
 use Rattle.mg_pages.specs.Meaning as pages
-use Rattle.mg_rows.specs.Blocks.{account_in}
-use Rattle.mg_volume.proofs.AccountLists.{account_here, accounts_rise}
-use Rattle.mg_volume.proofs.Staged.{counters_stay, objects_behind, objects_stay, threads_stay, block_there, but_one}
-use Rattle.mg_volume.proofs.Stages.{same_changes, shape_then, stages_then}
-use Rattle.mg_pages.specs.Meaning.{StagesBlock}
-use Rattle.mg_volume.specs.Changes.{Changes}
-use Rattle.mg_volume.specs.Held.{VolumeHeld}
-use Rattle.mg_volume.specs.Meaning.{IsSpelledBy, Spelled, now_of, threads_in}
-use Rattle.mg_volume.specs.RowLists.{tell, told}
-use Rattle.mg_volume.specs.Sound.{all_spelled}
-use Rattle.mg_volume.specs.StagesAccounts.{DifferWithin, HasAccounts, StagesAccounts}
 
 -- Rows in blocks are the accounts of a list if each block that a test names has the rows of the list, and the other blocks had
 -- them before.

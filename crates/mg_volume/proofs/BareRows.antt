@@ -1,11 +1,7 @@
 -- Tests and sums over rows with their places are those over the rows.
-use Rattle.mg_volume.proofs.ObjectRemoved.{filter_mapped}
-use Rattle.std.specs.Prelude.{◌≡◌, ◌+◌, ◌||◌, ◌==◌, ℕ, Bool, List, [], ◌∷◌, filter, sum_by}
-use Rattle.std.specs.List.{list_any}
-use Rattle.std.proofs.Common.{refl, sym, ap, ◌∙◌}
-use Rattle.std.proofs.lemmas.List.Sums.{sum_by-cons}
-use Rattle.mg_model.specs.State.{ObjectRow}
-use Rattle.mg_volume.specs.Meaning.{bare_rows}
+use Rattle.{mg_model.specs.State.ObjectRow, mg_volume.{proofs.ObjectRemoved.filter_mapped, specs.Meaning.bare_rows}, std.proofs.Common.{refl, sym}}
+use Rattle.std.{proofs.{Common.{ap, ◌∙◌}, lemmas.List.Sums.sum_by-cons}, specs.{List.list_any, Prelude.{◌≡◌, ◌+◌, ◌||◌, ◌==◌, ℕ, Bool, List, []}}}
+use Rattle.std.specs.Prelude.{◌∷◌, filter, sum_by}
 
 pub any_bare : (q : ObjectRow → Bool) (os : List (ℕ × ObjectRow)) → list_any (λ (o : ℕ × ObjectRow). q o.1) os ≡ list_any q (bare_rows os)
 any_bare q [] = refl

@@ -1,10 +1,7 @@
 -- The object with a base has another row, or is a new one.
-use Rattle.std.specs.Prelude.{◌≡◌, ◌||◌, Bool, true, false, List, [], ◌∷◌, find, if◌then◌else◌, is_some, map, Option, Some, None, IfSome}
-use Rattle.std.specs.List.{list_any}
-use Rattle.std.proofs.Common.{refl, sym, ap, ◌∙◌}
-use Rattle.mg_model.specs.Objects.{with_object, with_row}
-use Rattle.mg_model.specs.State.{Object, ObjectRow, State}
-use Rattle.mg_volume.specs.Staging.{blank, has_base, objects_with}
+use Rattle.{mg_model.specs.{Objects.{with_object, with_row}, State.{Object, ObjectRow, State}}, mg_volume.specs.Staging.{blank, has_base}}
+use Rattle.{mg_volume.specs.Staging.objects_with, std.{proofs.Common.{refl, sym, ap, ◌∙◌}, specs.{List.list_any, Prelude.{◌≡◌, ◌||◌, Bool, true}}}}
+use Rattle.std.specs.Prelude.{false, List, [], ◌∷◌, find, if◌then◌else◌, is_some, map, Option, Some, None, IfSome}
 
 pub some_found : {X : Type 0} (test : X → Bool) (xs : List X) → is_some (find test xs) ≡ list_any test xs
 some_found test [] = refl

@@ -1,21 +1,13 @@
 -- Threads by their numbers: the rows of a table, each in its place, and the list of those that are there.
-use Rattle.std.proofs.lemmas.Bool.Decides.{nat_tests}
-use Rattle.std.specs.Prelude.{◌≡◌, ◌+◌, ◌-◌, ◌≤◌, ◌<◌, ◌==◌, ℕ, zero, suc, All, AllPairs, List, [], ◌∷◌, ◌++◌, find, length, option_map, replicate, slice_set, take, Option, Some, None}
-use Rattle.std.specs.Option.{ForSome}
-use Rattle.std.proofs.Common.{refl, sym, ap, get_or, subst, ◌∙◌, arith, length-set}
-use Rattle.std.proofs.lemmas.List.{get_or-take, get_or_default, length-replicate, length-take, take_more, length-map}
-use Rattle.std.proofs.lemmas.List.Elements.{All-cons, All-head, All-nil, All-replicate, All-set, All-tail}
+use Rattle.mg_model.specs.{Abbreviations.with_live, KeptListLemmas.{AllPairs-head, AllPairs-tail}, Limits.thread_limit, Ranges.IsThreadRow}
+use Rattle.{mg_model.specs.State.ThreadRow, mg_objects.specs.Held.live_from, mg_volume.proofs.ObjectLists.{distinct_map, placed_distinct}}
+use Rattle.mg_volume.{proofs.ThreadLists.numbered_set, specs.{Numbered.{AreByNumber, numbered, rows_with}, RowLists.{ArePlaced, DistinctBy}}}
+use Rattle.{mg_volume.specs.RowLists.{placed_wider, row_at, row_before, row_set}, std.proofs.Common.{refl, sym, ap, get_or, subst, ◌∙◌, arith}}
+use Rattle.std.proofs.{Common.length-set, lemmas.{Bool.Decides.nat_tests, List.{get_or-take, get_or_default, length-replicate, length-take}}}
+use Rattle.std.proofs.lemmas.List.{take_more, length-map, Elements.{All-cons, All-head, All-nil, All-replicate, All-set, All-tail}}
+use Rattle.std.specs.{Option.ForSome, Prelude.{◌≡◌, ◌+◌, ◌-◌, ◌≤◌, ◌<◌, ◌==◌, ℕ, zero, suc, All, AllPairs, List, [], ◌∷◌, ◌++◌, find, length}}
+use Rattle.std.specs.Prelude.{option_map, replicate, slice_set, take, Option, Some, None}
 use Rattle.mg_rules.specs.RowsRead as check
-use Rattle.mg_model.specs.KeptListLemmas.{AllPairs-head, AllPairs-tail}
-use Rattle.mg_model.specs.Limits.{thread_limit}
-use Rattle.mg_model.specs.Ranges.{IsThreadRow}
-use Rattle.mg_model.specs.State.{ThreadRow}
-use Rattle.mg_model.specs.Abbreviations.{with_live}
-use Rattle.mg_objects.specs.Held.{live_from}
-use Rattle.mg_volume.proofs.ObjectLists.{distinct_map, placed_distinct}
-use Rattle.mg_volume.proofs.ThreadLists.{numbered_set}
-use Rattle.mg_volume.specs.Numbered.{AreByNumber, numbered, rows_with}
-use Rattle.mg_volume.specs.RowLists.{ArePlaced, DistinctBy, placed_wider, row_at, row_before, row_set}
 
 -- the rows that are there, in the order of their places
 pub live-placed : {R : Type 0} (i : ℕ) (rows : List (Option R)) → ArePlaced i (i + length rows) (live_from i rows)

@@ -1,18 +1,8 @@
 -- A change of the row with a base writes one row, if only one row has the base.
-use Rattle.std.proofs.Common.{arith}
+use Rattle.{mg_disk.specs.Disk.Image, mg_model.specs.{KeptListLemmas.All-unmap, Objects.with_row, State.{Object, ObjectRow}}}
+use Rattle.mg_volume.{proofs.{FoundOwn.rows_distinct, ObjectLists.change-none}, specs.{Held.VolumeHeld, Meaning.{IsKept, now_of, objects_in}}}
+use Rattle.{mg_volume.specs.{RowLists.DistinctBy, StateLemmas.now_rows}, std.proofs.{Common.{arith, refl, sym, ap, subst}, lemmas.Bool.eqb-true}}
 use Rattle.std.specs.Prelude.{◌≡◌, ◌≢◌, ◌==◌, Bool, ℕ, true, false, All, List, [], ◌∷◌, find, if◌then◌else◌, map, IfSome, Some}
-use Rattle.std.proofs.Common.{refl, sym, ap, subst}
-use Rattle.std.proofs.lemmas.Bool.{eqb-true}
-use Rattle.mg_disk.specs.Disk.{Image}
-use Rattle.mg_model.specs.KeptListLemmas.{All-unmap}
-use Rattle.mg_model.specs.Objects.{with_row}
-use Rattle.mg_model.specs.State.{Object, ObjectRow}
-use Rattle.mg_volume.proofs.FoundOwn.{rows_distinct}
-use Rattle.mg_volume.proofs.ObjectLists.{change-none}
-use Rattle.mg_volume.specs.Held.{VolumeHeld}
-use Rattle.mg_volume.specs.StateLemmas.{now_rows}
-use Rattle.mg_volume.specs.Meaning.{IsKept, now_of, objects_in}
-use Rattle.mg_volume.specs.RowLists.{DistinctBy}
 
 abbrev bare : List Object → List ObjectRow
 bare objects = map (λ (o : Object). o.row) objects

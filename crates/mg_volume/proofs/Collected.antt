@@ -1,19 +1,10 @@
 -- The rent is collected.
-use Rattle.mg_volume.specs.Sound.{used-rows}
+use Rattle.{mg_bank.specs.Bank.pages_at, mg_disk.specs.Disk.Image, mg_model.specs.Bank.{all_charged, all_paid, credited, rate_now, rate_of}}
+use Rattle.mg_model.specs.{Bank.{rent_accounts, rent_paid, used}, KeptListLemmas.sum_by-filter-le, State.{Object, ObjectRow}}
+use Rattle.{mg_model.specs.declared.accounts.AccRow.AccRow, mg_rent.specs.{Charging.ArePagesOf, PaidLemmas.{paid-through, row_pages}}}
+use Rattle.{mg_space.specs.Space.{ArePaid, AreRowsOf}, mg_volume.specs.{Held.VolumeHeld, Meaning.{accounts_in, now_of, objects_in, settings_in}}}
+use Rattle.{mg_volume.specs.{Sound.used-rows, StateLemmas.{now_accounts, now_rows, now_settings}}, std.proofs.Common.{sym, ap, ◌∙◌, arith}}
 use Rattle.std.specs.Prelude.{◌≡◌, ◌≤◌, ℕ, List, sum_by}
-use Rattle.std.proofs.Common.{sym, ap, ◌∙◌, arith}
-use Rattle.mg_bank.specs.Bank.{pages_at}
-use Rattle.mg_disk.specs.Disk.{Image}
-use Rattle.mg_model.specs.declared.accounts.AccRow.{AccRow}
-use Rattle.mg_model.specs.Bank.{all_charged, all_paid, credited, rate_now, rate_of, rent_accounts, rent_paid, used}
-use Rattle.mg_model.specs.KeptListLemmas.{sum_by-filter-le}
-use Rattle.mg_model.specs.State.{Object, ObjectRow}
-use Rattle.mg_rent.specs.Charging.{ArePagesOf}
-use Rattle.mg_rent.specs.PaidLemmas.{paid-through, row_pages}
-use Rattle.mg_space.specs.Space.{ArePaid, AreRowsOf}
-use Rattle.mg_volume.specs.Held.{VolumeHeld}
-use Rattle.mg_volume.specs.StateLemmas.{now_accounts, now_rows, now_settings}
-use Rattle.mg_volume.specs.Meaning.{accounts_in, now_of, objects_in, settings_in}
 
 pub rate_is : (v : VolumeHeld) (image : Image) (n : ℕ) → n ≡ sum_by (λ (row : ObjectRow). row.pages) (objects_in v) → rate_of (settings_in v).tariff n ≡ rate_now (now_of v image)
 rate_is v image n is =

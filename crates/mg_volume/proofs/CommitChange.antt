@@ -1,31 +1,16 @@
 -- What a commit of the pages does to the volume.
-use Rattle.std.specs.Prelude.{◌≡◌, ◌⊎◌, ◌≤◌, ℕ, true, List, [], ◌∷◌, length, take, MatchResult, OnErr, OnOk, Option, Some, Result, Ok, Err}
-use Rattle.std.specs.Option.{ForSome}
-use Rattle.std.proofs.Common.{refl, sym, ap, subst, ◌∙◌, ⊎_elim, inl, inr, arith}
-use Rattle.std.proofs.lemmas.List.{length-take}
-use Rattle.mg_disk.specs.BecomesLemmas.{becomes-of}
-use Rattle.mg_disk.specs.Disk.{Image, SeenBut}
-use Rattle.mg_disk.specs.Stops.{Becomes}
-use Rattle.mg_disk.specs.declared.disk.Disk.{Ghosts}
-use Rattle.mg_journal.specs.Contents.{InJournal, SameContents}
-use Rattle.mg_model.specs.Layout.{total_blocks}
-use Rattle.mg_model.specs.Objects.{page_of}
-use Rattle.mg_model.specs.Replay.{replay}
-use Rattle.mg_model.specs.State.{ObjectRow}
-use Rattle.mg_model.specs.Abbreviations.{whole_table}
-use Rattle.mg_model.specs.Volume.{Is, object_spelled, volume}
-use Rattle.mg_pages.specs.ComingLemmas.{length_coming, low_coming}
-use Rattle.mg_pages.specs.Committing.{HasContents}
-use Rattle.mg_pages.specs.declared.pages.Pages.{Pages}
+use Rattle.mg_disk.specs.{BecomesLemmas.becomes-of, Disk.{Image, SeenBut}, Stops.Becomes, declared.disk.Disk.Ghosts}
+use Rattle.{mg_journal.specs.Contents.{InJournal, SameContents}, mg_model.specs.{Abbreviations.whole_table, Layout.total_blocks, Objects.page_of}}
+use Rattle.{mg_model.specs.{Replay.replay, State.ObjectRow, Volume.{Is, object_spelled, volume}}, mg_pages.specs.ComingLemmas.length_coming}
+use Rattle.mg_pages.specs.{ComingLemmas.low_coming, Committing.HasContents, declared.pages.Pages.Pages}
+use Rattle.mg_volume.{proofs.StandingPages.{spelled_again, with_pages}, specs.Contents.{AgreeBehind, IsSet, contents_set, pages_words_behind}}
+use Rattle.mg_volume.specs.{Contents.{same_behind, set_as, volume_contents, volume_of_contents}, Held.VolumeHeld, Meaning.{IsKept, IsSpelledBy}}
+use Rattle.mg_volume.specs.{Meaning.{Spelled, StandsOn, is_sound, now_of, threads_in, total_of}, Opening.IsSaved, Sound.{all_spelled, coming_volume}}
+use Rattle.{mg_volume.specs.StateLemmas.set_of, std.proofs.{Common.{refl, sym, ap, subst, ◌∙◌, ⊎_elim, inl, inr, arith}, lemmas.List.length-take}}
+use Rattle.std.specs.{Option.ForSome, Prelude.{◌≡◌, ◌⊎◌, ◌≤◌, ℕ, true, List, [], ◌∷◌, length, take, MatchResult, OnErr, OnOk, Option, Some, Result}}
+use Rattle.std.specs.Prelude.{Ok, Err}
 use Rattle.mg_pages.specs.SpelledLemmas as laws
 use Rattle.mg_pages.specs.Meaning as pages
-use Rattle.mg_volume.proofs.StandingPages.{spelled_again, with_pages}
-use Rattle.mg_volume.specs.Contents.{AgreeBehind, IsSet, contents_set, pages_words_behind, same_behind, set_as, volume_contents, volume_of_contents}
-use Rattle.mg_volume.specs.Held.{VolumeHeld}
-use Rattle.mg_volume.specs.StateLemmas.{set_of}
-use Rattle.mg_volume.specs.Meaning.{IsKept, IsSpelledBy, Spelled, StandsOn, is_sound, now_of, threads_in, total_of}
-use Rattle.mg_volume.specs.Opening.{IsSaved}
-use Rattle.mg_volume.specs.Sound.{all_spelled, coming_volume}
 
 total_is : (v : VolumeHeld) (image : Image) → Spelled v image → pages.total_of v.pages ≡ total_blocks v.settings.frames
 total_is v image s = laws.size_of v.pages image s.fitting ∙ ap total_blocks s.frames

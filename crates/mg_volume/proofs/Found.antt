@@ -1,10 +1,7 @@
 -- A thread is found among the rows that are held.
-use Rattle.std.proofs.lemmas.List.Elements.{All-head, All-tail}
-use Rattle.std.specs.Prelude.{◌≡◌, ◌==◌, ℕ, Bool, List, [], ◌∷◌, find, if◌then◌else◌, map, option_map, Option, Some, None, All, true, false}
-use Rattle.std.proofs.Common.{refl, sym, ap, ◌∙◌, arith, subst}
-use Rattle.mg_model.specs.State.{ObjectRow, Thread, ThreadRow}
-use Rattle.mg_volume.specs.Held.{VolumeHeld}
-use Rattle.mg_volume.specs.Meaning.{objects_in, threads_in}
+use Rattle.{mg_model.specs.State.{ObjectRow, Thread, ThreadRow}, mg_volume.specs.{Held.VolumeHeld, Meaning.{objects_in, threads_in}}}
+use Rattle.std.{proofs.{Common.{refl, sym, ap, ◌∙◌, arith, subst}, lemmas.List.Elements.{All-head, All-tail}}, specs.Prelude.{◌≡◌, ◌==◌, ℕ, Bool}}
+use Rattle.std.specs.Prelude.{List, [], ◌∷◌, find, if◌then◌else◌, map, option_map, Option, Some, None, All, true, false}
 
 abbrev pub as_thread : ℕ × ThreadRow → Thread
 as_thread t = record { number = t.0; row = t.1 }

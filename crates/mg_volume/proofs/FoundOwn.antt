@@ -1,14 +1,7 @@
 -- A row that is found is what its base finds.
-use Rattle.std.proofs.lemmas.Bool.Decides.{nat_tests}
-use Rattle.mg_volume.proofs.Found.{found_keeps}
-use Rattle.std.specs.Prelude.{◌≡◌, ◌≢◌, ◌==◌, Bool, List, [], ◌∷◌, find, Option, Some, None, IfSome}
-use Rattle.std.proofs.Common.{sym, arith}
-use Rattle.mg_model.specs.State.{ObjectRow}
-use Rattle.mg_volume.proofs.ObjectChanged.{distinct_bare}
-use Rattle.mg_volume.proofs.ObjectStaged.{bases_distinct}
-use Rattle.mg_volume.specs.Held.{VolumeHeld}
-use Rattle.mg_volume.specs.Meaning.{IsKept, objects_in}
-use Rattle.mg_volume.specs.RowLists.{DistinctBy}
+use Rattle.{mg_model.specs.State.ObjectRow, mg_volume.proofs.{Found.found_keeps, ObjectChanged.distinct_bare, ObjectStaged.bases_distinct}}
+use Rattle.{mg_volume.specs.{Held.VolumeHeld, Meaning.{IsKept, objects_in}, RowLists.DistinctBy}, std.proofs.Common.{sym, arith}}
+use Rattle.std.{proofs.lemmas.Bool.Decides.nat_tests, specs.Prelude.{◌≡◌, ◌≢◌, ◌==◌, Bool, List, [], ◌∷◌, find, Option, Some, None, IfSome}}
 
 own : (test : ObjectRow → Bool) (rows : List ObjectRow) (row : ObjectRow) → DistinctBy (λ (y : ObjectRow). y.base) rows → find test rows ≡ Some row → find (λ (other : ObjectRow). other.base == row.base) rows ≡ Some row
 own test [] row distinct h = cc

@@ -1,15 +1,9 @@
 -- A frame is free for each page of an object that is not bound: there are as many frames as the objects have pages at most.
-use Rattle.std.proofs.lemmas.Bool.Decides.{nat_tests}
-use Rattle.std.specs.Prelude.{◌≡◌, ◌⊎◌, ◌+◌, ◌≤◌, ◌==◌, ◌&&◌, ◌||◌, nat_le, nat_lt, ℕ, zero, suc, Bool, true, false, not, List, [], ◌∷◌, filter, length, map, sum_by}
-use Rattle.std.specs.List.{list_all, list_any}
-use Rattle.std.proofs.Common.{refl, sym, ap, ◌∙◌, ⊎_elim, inl, inr, arith}
-use Rattle.std.proofs.lemmas.Bool.{and_from, and_parts, both_ways, cases_Bool, eqb-true, not-true, not_from_false}
-use Rattle.std.proofs.lemmas.List.Sums.{sum_by-cons}
-use Rattle.mg_model.specs.Objects.{page_of}
-use Rattle.mg_model.specs.State.{ObjectRow}
-use Rattle.mg_model.specs.Tests.{all_distinct}
-use Rattle.mg_model.specs.Volume.{bound_pages}
-use Rattle.mg_volume.specs.Meaning.{is_page_in}
+use Rattle.{mg_model.specs.{Objects.page_of, State.ObjectRow, Tests.all_distinct, Volume.bound_pages}, mg_volume.specs.Meaning.is_page_in}
+use Rattle.std.proofs.{Common.{refl, sym, ap, ◌∙◌, ⊎_elim, inl, inr, arith}, lemmas.Bool.{and_from, and_parts, both_ways, cases_Bool, eqb-true}}
+use Rattle.std.{proofs.lemmas.{Bool.{not-true, not_from_false, Decides.nat_tests}, List.Sums.sum_by-cons}, specs.List.{list_all, list_any}}
+use Rattle.std.specs.Prelude.{◌≡◌, ◌⊎◌, ◌+◌, ◌≤◌, ◌==◌, ◌&&◌, ◌||◌, nat_le, nat_lt, ℕ, zero, suc, Bool, true, false, not, List, [], ◌∷◌, filter}
+use Rattle.std.specs.Prelude.{length, map, sum_by}
 
 any-filter : (p : ℕ → Bool) (x : ℕ) (xs : List ℕ) → list_any (λ y. x == y) xs ≡ false → list_any (λ y. x == y) (filter p xs) ≡ false
 any-filter p x [] out = refl

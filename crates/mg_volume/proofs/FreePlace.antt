@@ -1,12 +1,7 @@
 -- The lowest place that no object has.
+use Rattle.{mg_model.specs.{Limits.object_limit, State.ObjectRow}, mg_objects.specs.Held.IsLowestFree, mg_volume.specs.Staging.free_from}
+use Rattle.{mg_volume.specs.Staging.free_place, std.{proofs.{Common.{sym, ap, ◌∙◌, ⊎_elim, arith}, lemmas.Bool.cases_eq}, specs.List.list_any}}
 use Rattle.std.specs.Prelude.{◌≡◌, ◌+◌, ◌≤◌, ◌<◌, ◌==◌, ℕ, zero, suc, Bool, true, false, List, if◌then◌else◌}
-use Rattle.std.specs.List.{list_any}
-use Rattle.std.proofs.Common.{sym, ap, ◌∙◌, ⊎_elim, arith}
-use Rattle.std.proofs.lemmas.Bool.{cases_eq}
-use Rattle.mg_model.specs.Limits.{object_limit}
-use Rattle.mg_model.specs.State.{ObjectRow}
-use Rattle.mg_objects.specs.Held.{IsLowestFree}
-use Rattle.mg_volume.specs.Staging.{free_from, free_place}
 
 abbrev pub is_taken : List (ℕ × ObjectRow) → ℕ → Bool
 is_taken objects place = list_any (λ (o : ℕ × ObjectRow). o.0 == place) objects

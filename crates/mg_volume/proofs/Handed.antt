@@ -1,13 +1,7 @@
 -- What is said at an exit that hands a fault on.
-use Rattle.std.specs.Prelude.{◌≡◌, true, false, Result, Ok, Err}
-use Rattle.std.proofs.Common.{◌∙◌, ap}
-use Rattle.std.proofs.lemmas.Bool.{false≢true, true≢false}
-use Rattle.mg_check.specs.declared.examining.OpenFault.{OpenFault}
-use Rattle.mg_check.specs.declared.examining.OpenFault.TheVariants.{Disk, Memory}
-use Rattle.mg_disk.specs.Stops.{CountGoes, DiskCallsBy}
-use Rattle.mg_disk.specs.declared.disk.Disk.{Ghosts}
-use Rattle.mg_faults.specs.Faults.{count_then, then_rose}
-use Rattle.mg_volume.specs.Opening.{JudgesNothing}
+use Rattle.{mg_check.specs.declared.examining.OpenFault.{OpenFault, TheVariants.{Disk, Memory}}, mg_disk.specs.Stops.{CountGoes, DiskCallsBy}}
+use Rattle.{mg_disk.specs.declared.disk.Disk.Ghosts, mg_faults.specs.Faults.{count_then, then_rose}, mg_volume.specs.Opening.JudgesNothing}
+use Rattle.std.{proofs.{Common.{◌∙◌, ap}, lemmas.Bool.{false≢true, true≢false}}, specs.Prelude.{◌≡◌, true, false, Result, Ok, Err}}
 
 pub no : {A : Type 0} → false ≡ true → A
 no e = absurd (false≢true e)

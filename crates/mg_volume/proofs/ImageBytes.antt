@@ -1,20 +1,11 @@
 -- What an image of bytes spells: words of 64 bits, also once its journal is replayed.
-use Rattle.std.specs.Prelude.{◌≡◌, ◌+◌, ◌<◌, ◌==◌, ℕ, Bool, zero, suc, true, false, All, List, [], ◌∷◌, drop, if◌then◌else◌, length, position, replicate, slice_index, slice_set, Option, Some, None}
-use Rattle.std.specs.Int.{from_le_bytes, w64}
-use Rattle.std.specs.Option.{option_map_or}
-use Rattle.std.proofs.Common.{sym, subst, ⊎_elim, arith}
-use Rattle.std.proofs.lemmas.Bool.{cases_lt}
-use Rattle.std.proofs.lemmas.List.{get_or_past}
+use Rattle.{mg_disk.specs.{BlockBytes.IsBytes, Disk.{AreBytes, Image}}, mg_journal.specs.JournalLemmas.{open_writes, replayed-is}}
+use Rattle.mg_model.specs.{Abbreviations.{pages_words, writes_from, writes_since}, Bytes.{block_words, bytes_at, number_at, numbers_at}}
+use Rattle.mg_model.specs.{Layout.{first_frame, segment_count}, Ranges.IsWord, Replay.{block_of, body_count, is_open, replay, writes_of, written}}
+use Rattle.{mg_model.specs.Volume.page_words, std.proofs.{Common.{sym, subst, ⊎_elim, arith}, lemmas.{Bool.cases_lt, List.get_or_past}}}
 use Rattle.std.proofs.lemmas.List.Elements.{All-append, All-cons, All-drop, All-head, All-nil, All-replicate, All-set, All-tail, All-take}
-use Rattle.mg_disk.specs.BlockBytes.{IsBytes}
-use Rattle.mg_disk.specs.Disk.{AreBytes, Image}
-use Rattle.mg_journal.specs.JournalLemmas.{open_writes, replayed-is}
-use Rattle.mg_model.specs.Bytes.{block_words, bytes_at, number_at, numbers_at}
-use Rattle.mg_model.specs.Layout.{first_frame, segment_count}
-use Rattle.mg_model.specs.Ranges.{IsWord}
-use Rattle.mg_model.specs.Abbreviations.{pages_words, writes_from, writes_since}
-use Rattle.mg_model.specs.Replay.{block_of, body_count, is_open, replay, writes_of, written}
-use Rattle.mg_model.specs.Volume.{page_words}
+use Rattle.std.specs.{Int.{from_le_bytes, w64}, Option.option_map_or, Prelude.{◌≡◌, ◌+◌, ◌<◌, ◌==◌, ℕ, Bool, zero, suc, true, false, All, List, []}}
+use Rattle.std.specs.Prelude.{◌∷◌, drop, if◌then◌else◌, length, position, replicate, slice_index, slice_set, Option, Some, None}
 
 -- a byte, or 0 past the end
 byte-at : (bytes : List ℕ) (k : ℕ) → IsBytes bytes → slice_index bytes k < 256

@@ -1,7 +1,6 @@
 -- An object by its index.
-use Rattle.std.specs.Prelude.{◌≡◌, ◌<◌, ℕ, suc, Bool, true, false, List, [], ◌∷◌, find, if◌then◌else◌, length, Some}
-use Rattle.std.proofs.Common.{sym, ap, get_or, ◌∙◌, ⊎_elim, arith}
-use Rattle.std.proofs.lemmas.Bool.{cases_Bool}
+use Rattle.std.{proofs.{Common.{sym, ap, get_or, ◌∙◌, ⊎_elim, arith}, lemmas.Bool.cases_Bool}, specs.Prelude.{◌≡◌, ◌<◌, ℕ, suc, Bool, true, false}}
+use Rattle.std.specs.Prelude.{List, [], ◌∷◌, find, if◌then◌else◌, length, Some}
 
 -- what a search gives is at an index, and passes
 pub found_index : {X : Type 0} (p : X → Bool) (xs : List X) (x : X) → find p xs ≡ Some x → (i : ℕ) × (i < length xs) × ((d : X) → get_or xs i d ≡ x) × (p x ≡ true)

@@ -1,40 +1,20 @@
 -- Another row of an object that is there.
-use Rattle.std.specs.Prelude.{◌≡◌, ◌≢◌, ◌+◌, ◌/◌, ◌<◌, ◌==◌, ◌⊎◌, ◌&&◌, ◌||◌, nat_lt, nat_le, ℕ, Bool, true, false, All, List, [], ◌∷◌, find, if◌then◌else◌, map, option_map, sum_by, IsSomeAnd, Option, Some, None}
-use Rattle.std.specs.List.{list_any}
-use Rattle.std.specs.Option.{option_map_or}
-use Rattle.std.proofs.Common.{refl, sym, ap, subst, ◌∙◌, ⊎_elim, inl, inr, arith}
-use Rattle.std.proofs.lemmas.Bool.{both_ways, cases_eq, cond_both, eq-eqb, eqb-true}
-use Rattle.std.proofs.lemmas.Bool.Decides.{nat_tests}
-use Rattle.std.proofs.lemmas.List.{length-map}
-use Rattle.std.proofs.lemmas.List.Elements.{All-cons, All-head, All-map, All-nil, All-tail, All-weaker}
-use Rattle.std.proofs.lemmas.List.Sums.{sum_by-cons}
-use Rattle.mg_disk.specs.Disk.{Image}
-use Rattle.mg_model.specs.Layout.{first_object_block}
-use Rattle.mg_model.specs.Limits.{object_limit}
-use Rattle.mg_model.specs.Objects as model
-use Rattle.mg_model.specs.Objects.{page_of}
-use Rattle.mg_model.specs.Ranges.{IsObjectRow}
-use Rattle.mg_model.specs.State.{ObjectRow}
-use Rattle.mg_model.specs.Abbreviations.{pages_words}
-use Rattle.mg_model.specs.Volume.{bound_pages, object_spelled}
-use Rattle.mg_objects.specs.Held.{with_row}
-use Rattle.mg_pages.specs.declared.pages.Pages.{Pages}
-use Rattle.mg_pages.specs.Meaning as pages
-use Rattle.mg_volume.proofs.BareRows.{any_bare}
-use Rattle.mg_volume.proofs.Found.{found_keeps}
-use Rattle.mg_volume.proofs.ObjectLists.{by_base_row, change-none, changed_order, placed_distinct, put_at}
-use Rattle.mg_volume.proofs.ObjectStaged.{bases_distinct, distinct_of, objects_staged, placed_of, with_objects}
-use Rattle.mg_volume.proofs.PagesChange.{held_same}
-use Rattle.mg_volume.proofs.Staged.{staged_objects}
-use Rattle.mg_volume.proofs.Stages.{changes_is}
-use Rattle.mg_volume.proofs.StillStaged.{base_found, objects_still, place_found, with_base}
-use Rattle.mg_volume.specs.Changes.{Changes}
-use Rattle.mg_volume.specs.Held.{VolumeHeld}
+use Rattle.{mg_disk.specs.Disk.Image, mg_model.specs.{Abbreviations.pages_words, Layout.first_object_block, Limits.object_limit, Objects.page_of}}
+use Rattle.{mg_model.specs.{Ranges.IsObjectRow, State.ObjectRow, Volume.{bound_pages, object_spelled}}, mg_objects.specs.Held.with_row}
+use Rattle.{mg_pages.specs.declared.pages.Pages.Pages, mg_volume.proofs.{BareRows.any_bare, Found.found_keeps, ObjectLists.by_base_row}}
+use Rattle.mg_volume.proofs.{ObjectLists.{change-none, changed_order, placed_distinct, put_at}, ObjectStaged.{bases_distinct, distinct_of}}
+use Rattle.mg_volume.proofs.{ObjectStaged.{objects_staged, placed_of, with_objects}, PagesChange.held_same, Staged.staged_objects, Stages.changes_is}
+use Rattle.mg_volume.{proofs.StillStaged.{base_found, objects_still, place_found, with_base}, specs.{Changes.Changes, Held.VolumeHeld}}
 use Rattle.mg_volume.specs.Meaning.{IsKept, IsSpelledBy, Spelled, bare_rows, has_page, is_page_in, now_of, objects_in, rows_apart, threads_in}
-use Rattle.mg_volume.specs.RowLists.{DistinctBy, row_at, row_set, set_other, set_placed}
-use Rattle.mg_volume.specs.Sound.{all-same, all_spelled}
-use Rattle.mg_volume.specs.StagesRows.{StagesRows}
-use Rattle.mg_volume.specs.Staging.{MayChange, free_place, has_base, is_object_staged, place_for, with_other_row}
+use Rattle.mg_volume.specs.{RowLists.{DistinctBy, row_at, row_set, set_other, set_placed}, Sound.{all-same, all_spelled}, StagesRows.StagesRows}
+use Rattle.{mg_volume.specs.Staging.{MayChange, free_place, has_base, is_object_staged, place_for, with_other_row}, std.proofs.Common.{refl, sym, ap}}
+use Rattle.std.proofs.{Common.{subst, ◌∙◌, ⊎_elim, inl, inr, arith}, lemmas.Bool.{both_ways, cases_eq, cond_both, eq-eqb, eqb-true}}
+use Rattle.std.proofs.lemmas.{Bool.Decides.nat_tests, List.{length-map, Elements.{All-cons, All-head, All-map, All-nil, All-tail, All-weaker}}}
+use Rattle.std.{proofs.lemmas.List.Sums.sum_by-cons, specs.{List.list_any, Option.option_map_or, Prelude.{◌≡◌, ◌≢◌, ◌+◌, ◌/◌, ◌<◌, ◌==◌, ◌⊎◌, ◌&&◌}}}
+use Rattle.std.specs.Prelude.{◌||◌, nat_lt, nat_le, ℕ, Bool, true, false, All, List, [], ◌∷◌, find, if◌then◌else◌, map, option_map, sum_by, IsSomeAnd}
+use Rattle.std.specs.Prelude.{Option, Some, None}
+use Rattle.mg_model.specs.Objects as model
+use Rattle.mg_pages.specs.Meaning as pages
 
 pub distinct_bare : (os : List (ℕ × ObjectRow)) → DistinctBy (λ (y : ℕ × ObjectRow). y.1.base) os → DistinctBy (λ (y : ObjectRow). y.base) (bare_rows os)
 distinct_bare [] distinct = tt

@@ -1,38 +1,21 @@
 -- A new object, in the first row that is free.
-use Rattle.std.specs.Prelude.{◌≡◌, ◌≢◌, ◌+◌, ◌*◌, ◌/◌, ◌≤◌, ◌<◌, ◌==◌, ◌||◌, ◌⊎◌, nat_le, ℕ, zero, suc, true, false, not, All, List, [], ◌∷◌, ◌++◌, if◌then◌else◌, length, replicate, Some, None}
-use Rattle.std.specs.List.{list_any, position_or_len}
-use Rattle.std.proofs.Common.{refl, sym, ap, subst, ◌∙◌, ⊎_elim, inl, inr, arith}
-use Rattle.std.proofs.lemmas.Bool.{and_from, and_parts, both_ways, cases_Bool, le-leb, le-ltb, leb-true, lt-ltb, or_cases, or_parts}
-use Rattle.std.proofs.lemmas.List.{length-map, replicate-append-replicate}
-use Rattle.std.proofs.lemmas.List.Elements.{All-cons, All-head, All-nil, All-tail}
-use Rattle.mg_disk.specs.Disk.{Image}
-use Rattle.mg_model.specs.Layout.{first_object_block}
-use Rattle.mg_model.specs.Limits.{object_limit}
-use Rattle.mg_model.specs.Objects.{page_behind, page_of, with_object}
-use Rattle.mg_model.specs.Ranges.{IsObjectRow}
-use Rattle.mg_model.specs.State.{ObjectRow}
-use Rattle.mg_model.specs.Abbreviations.{pages_words}
-use Rattle.mg_model.specs.Volume.{page_words}
-use Rattle.mg_pages.specs.declared.pages.Pages.{Pages}
-use Rattle.mg_pages.specs.Meaning as pages
-use Rattle.mg_volume.proofs.BareRows.{sum_bare}
-use Rattle.mg_volume.proofs.FreePlace.{is_taken, lowest_is}
-use Rattle.mg_volume.proofs.ObjectLists.{by_base_row, into-all, placed_distinct}
+use Rattle.{mg_disk.specs.Disk.Image, mg_model.specs.{Abbreviations.pages_words, Layout.first_object_block, Limits.object_limit, Objects.page_behind}}
+use Rattle.mg_model.specs.{Objects.{page_of, with_object}, Ranges.IsObjectRow, State.ObjectRow, Volume.page_words}
+use Rattle.{mg_objects.specs.Held.{IsLowestFree, MeetsNone, into_place}, mg_pages.specs.declared.pages.Pages.Pages}
+use Rattle.mg_volume.proofs.{BareRows.sum_bare, FreePlace.{is_taken, lowest_is}, ObjectLists.{by_base_row, into-all, placed_distinct}}
 use Rattle.mg_volume.proofs.ObjectOrder.{from_by_base, into_any, into_found, into_length, into_others, into_rows, into_sum, none_at, set_order}
-use Rattle.mg_volume.proofs.ObjectStaged.{objects_staged, placed_of, with_objects}
-use Rattle.mg_volume.proofs.PagesChange.{all-bound, each-bound, held_same}
-use Rattle.mg_volume.proofs.RowsApart.{apart_with, base_apart, kept_rows, no_base, page_apart}
-use Rattle.mg_volume.proofs.StillStaged.{objects_still, place_found, place_new, place_same}
-use Rattle.mg_volume.specs.Held.{VolumeHeld}
-use Rattle.mg_objects.specs.Held.{IsLowestFree, MeetsNone, into_place}
-use Rattle.mg_volume.specs.Meaning.{IsKept, IsSpelledBy, Spelled, bare_rows, has_page, is_page_in, now_of, objects_in, rows_apart, settings_in, threads_in}
-use Rattle.mg_volume.specs.Staging.{MayJoin, ObjectsStillStaged, blank, free_place, has_base, is_apart_from, is_object_staged, with_new_row}
-use Rattle.mg_volume.specs.RowLists.{row_at, row_set, set_other, set_placed}
-use Rattle.mg_volume.specs.Sound.{all_spelled, object-placed}
-use Rattle.mg_volume.proofs.Staged.{staged_objects}
-use Rattle.mg_volume.proofs.Stages.{changes_is}
-use Rattle.mg_volume.specs.Changes.{Changes}
-use Rattle.mg_volume.specs.StagesRows.{StagesRows}
+use Rattle.mg_volume.proofs.{ObjectStaged.{objects_staged, placed_of, with_objects}, PagesChange.{all-bound, each-bound, held_same}}
+use Rattle.mg_volume.proofs.{RowsApart.{apart_with, base_apart, kept_rows, no_base, page_apart}, Staged.staged_objects, Stages.changes_is}
+use Rattle.mg_volume.{proofs.StillStaged.{objects_still, place_found, place_new, place_same}, specs.{Changes.Changes, Held.VolumeHeld}}
+use Rattle.mg_volume.specs.Meaning.{IsKept, IsSpelledBy, Spelled, bare_rows, has_page, is_page_in, now_of, objects_in, rows_apart, settings_in}
+use Rattle.mg_volume.specs.{Meaning.threads_in, RowLists.{row_at, row_set, set_other, set_placed}, Sound.{all_spelled, object-placed}}
+use Rattle.mg_volume.specs.{StagesRows.StagesRows, Staging.{MayJoin, ObjectsStillStaged, blank, free_place, has_base, is_apart_from}}
+use Rattle.{mg_volume.specs.Staging.{is_object_staged, with_new_row}, std.proofs.Common.{refl, sym, ap, subst, ◌∙◌, ⊎_elim, inl, inr, arith}}
+use Rattle.std.proofs.lemmas.Bool.{and_from, and_parts, both_ways, cases_Bool, le-leb, le-ltb, leb-true, lt-ltb, or_cases, or_parts}
+use Rattle.std.{proofs.lemmas.List.{length-map, replicate-append-replicate, Elements.{All-cons, All-head, All-nil, All-tail}}, specs.List.list_any}
+use Rattle.std.specs.{List.position_or_len, Prelude.{◌≡◌, ◌≢◌, ◌+◌, ◌*◌, ◌/◌, ◌≤◌, ◌<◌, ◌==◌, ◌||◌, ◌⊎◌, nat_le, ℕ, zero, suc, true, false, not, All}}
+use Rattle.std.specs.Prelude.{List, [], ◌∷◌, ◌++◌, if◌then◌else◌, length, replicate, Some, None}
+use Rattle.mg_pages.specs.Meaning as pages
 
 -- a page that no frame holds reads as zeros
 none-behind : (page : ℕ) (table : List ℕ) → list_any (λ entry. entry == page) table ≡ false → position_or_len (λ entry. entry == page) table ≡ length table

@@ -1,12 +1,8 @@
 -- Objects as they are held, in the order of their bases, and their rows in the order of their places.
-use Rattle.std.proofs.lemmas.Bool.Decides.{nat_tests}
+use Rattle.{mg_model.specs.State.ObjectRow, mg_objects.specs.Held.{by_base, into_place}, mg_volume.specs.RowLists.{ArePlaced, DistinctBy, row_at}}
+use Rattle.{mg_volume.specs.RowLists.{row_before, row_set}, std.proofs.{Common.{refl, sym, ap, ◌∙◌, ⊎_elim, arith}, lemmas.Bool.{cases_eq, cases_lt}}}
+use Rattle.std.proofs.lemmas.{Bool.{le-ltb, lt-ltb, Decides.nat_tests}, List.Elements.{All-cons, All-head, All-map, All-nil, All-tail, All-weaker}}
 use Rattle.std.specs.Prelude.{◌≡◌, ◌≢◌, ◌+◌, ◌<◌, ◌==◌, ℕ, All, List, [], ◌∷◌, if◌then◌else◌, map, Some, None, ◌≤◌}
-use Rattle.std.proofs.Common.{refl, sym, ap, ◌∙◌, ⊎_elim, arith}
-use Rattle.std.proofs.lemmas.Bool.{cases_eq, cases_lt, le-ltb, lt-ltb}
-use Rattle.std.proofs.lemmas.List.Elements.{All-cons, All-head, All-map, All-nil, All-tail, All-weaker}
-use Rattle.mg_model.specs.State.{ObjectRow}
-use Rattle.mg_objects.specs.Held.{by_base, into_place}
-use Rattle.mg_volume.specs.RowLists.{ArePlaced, DistinctBy, row_at, row_before, row_set}
 
 -- a change of one that is not there
 pub change-none : {X : Type 0} (key : X → ℕ) (h : X → X) (k : ℕ) (xs : List X) → All (λ y. key y ≢ k) xs → map (λ y. if key y == k then h y else y) xs ≡ xs

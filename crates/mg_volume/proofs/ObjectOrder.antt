@@ -1,19 +1,9 @@
 -- One object more, in the order of the bases and in that of the places.
-use Rattle.mg_volume.proofs.ObjectLists.{place-cases}
-use Rattle.std.proofs.lemmas.Bool.Decides.{nat_tests}
-use Rattle.std.specs.Prelude.{◌≡◌, ◌≢◌, ◌+◌, ℕ, Bool, true, false, All, List, [], ◌∷◌, length, sum_by, Some, None}
-use Rattle.std.specs.List.{list_any}
-use Rattle.std.proofs.Common.{refl, arith}
-use Rattle.std.proofs.lemmas.Bool.{or_right}
-use Rattle.std.proofs.lemmas.List.Elements.{All-cons, All-head, All-nil, All-tail}
-use Rattle.std.proofs.lemmas.List.Sums.{sum_by-cons}
-use Rattle.mg_model.specs.State.{ObjectRow}
-use Rattle.mg_volume.proofs.FreePlace.{is_taken}
-use Rattle.mg_volume.proofs.StillStaged.{with_base}
-use Rattle.mg_objects.specs.Held.{by_base, into_place}
-use Rattle.mg_volume.specs.Meaning.{bare_rows}
-use Rattle.mg_volume.specs.Staging.{with_new_row}
-use Rattle.mg_volume.specs.RowLists.{row_at, row_set}
+use Rattle.{mg_model.specs.State.ObjectRow, mg_objects.specs.Held.{by_base, into_place}, mg_volume.proofs.FreePlace.is_taken}
+use Rattle.mg_volume.{proofs.{ObjectLists.place-cases, StillStaged.with_base}, specs.{Meaning.bare_rows, RowLists.{row_at, row_set}}}
+use Rattle.{mg_volume.specs.Staging.with_new_row, std.proofs.{Common.{refl, arith}, lemmas.Bool.{or_right, Decides.nat_tests}}}
+use Rattle.std.{proofs.lemmas.List.{Elements.{All-cons, All-head, All-nil, All-tail}, Sums.sum_by-cons}, specs.{List.list_any, Prelude.{◌≡◌, ◌≢◌}}}
+use Rattle.std.specs.Prelude.{◌+◌, ℕ, Bool, true, false, All, List, [], ◌∷◌, length, sum_by, Some, None}
 
 -- what is true of each was true of each before
 from-into : (P : ℕ × ObjectRow → Type 0) (new : ℕ × ObjectRow) (os : List (ℕ × ObjectRow)) → All P (into_place new os) → (P new) × All P os

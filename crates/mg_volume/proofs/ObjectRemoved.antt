@@ -1,18 +1,10 @@
 -- A list of objects without the one at an index, which is the list without its base.
-use Rattle.std.proofs.lemmas.Bool.Decides.{nat_tests}
-use Rattle.std.specs.Prelude.{◌≡◌, ◌≢◌, ◌⊎◌, ◌/◌, ◌≤◌, ◌<◌, ◌==◌, nat_le, ℕ, zero, suc, Bool, true, not, All, AllPairs, List, [], ◌∷◌, filter, find, length, map, remove}
-use Rattle.std.specs.List.{list_any}
-use Rattle.std.proofs.Common.{refl, sym, ap, subst, get_or, ◌∙◌, ⊎_elim, inl, inr, arith}
-use Rattle.std.proofs.lemmas.Bool.{and_from, and_parts, cases_eq, cases_lt, le-leb, leb-true}
-use Rattle.std.proofs.lemmas.List.{get_or_default}
-use Rattle.std.proofs.lemmas.List.Elements.{All-cons, All-get_or, All-head, All-nil, All-tail, All-weaker}
-use Rattle.std.proofs.lemmas.List.Kept.{AllPairs-cons}
-use Rattle.mg_model.specs.KeptListLemmas.{AllPairs-head, AllPairs-nil, AllPairs-tail}
-use Rattle.mg_model.specs.Objects.{page_behind, page_of}
-use Rattle.mg_model.specs.Ranges.{IsObjectRow}
-use Rattle.mg_model.specs.State.{ObjectRow}
-use Rattle.mg_volume.specs.RowLists.{DistinctBy}
-use Rattle.mg_volume.specs.Meaning.{rows_apart}
+use Rattle.mg_model.specs.{KeptListLemmas.{AllPairs-head, AllPairs-nil, AllPairs-tail}, Objects.{page_behind, page_of}, Ranges.IsObjectRow}
+use Rattle.{mg_model.specs.State.ObjectRow, mg_volume.specs.{Meaning.rows_apart, RowLists.DistinctBy}, std.proofs.Common.{refl, sym, ap, subst}}
+use Rattle.std.proofs.{Common.{get_or, ◌∙◌, ⊎_elim, inl, inr, arith}, lemmas.Bool.{and_from, and_parts, cases_eq, cases_lt, le-leb, leb-true}}
+use Rattle.std.proofs.lemmas.{Bool.Decides.nat_tests, List.{get_or_default, Elements.{All-cons, All-get_or, All-head, All-nil, All-tail, All-weaker}}}
+use Rattle.std.{proofs.lemmas.List.Kept.AllPairs-cons, specs.{List.list_any, Prelude.{◌≡◌, ◌≢◌, ◌⊎◌, ◌/◌, ◌≤◌, ◌<◌, ◌==◌, nat_le, ℕ, zero, suc}}}
+use Rattle.std.specs.Prelude.{Bool, true, not, All, AllPairs, List, [], ◌∷◌, filter, find, length, map, remove}
 
 -- none goes if none has the key
 pub filter-all : {X : Type 0} (key : X → ℕ) (k : ℕ) (xs : List X) → All (λ y. key y ≢ k) xs → filter (λ y. not (key y == k)) xs ≡ xs

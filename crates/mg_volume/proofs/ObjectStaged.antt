@@ -1,26 +1,12 @@
 -- An object's row is staged, and the state has it.
-use Rattle.mg_volume.proofs.Staged.{accounts_stay, block_there, but_block, but_one, counters_stay, threads_stay}
-use Rattle.mg_volume.proofs.ObjectRemoved.{apart_pairs, bases_differ}
-use Rattle.std.specs.Prelude.{◌≡◌, ◌≢◌, ◌+◌, ◌*◌, ◌/◌, ◌%◌, ◌<◌, ℕ, List, Some}
-use Rattle.std.proofs.Common.{sym, ap, subst, ◌∙◌, ⊎_elim, arith, inl}
-use Rattle.std.proofs.lemmas.Bool.{cases_eq}
-use Rattle.mg_disk.specs.Disk.{Image}
-use Rattle.mg_model.specs.Abbreviations.{object_row_bytes}
-use Rattle.mg_model.specs.Layout.{first_object_block}
-use Rattle.mg_model.specs.Limits.{object_limit}
-use Rattle.mg_model.specs.Replay.{block_of}
-use Rattle.mg_model.specs.Spelling.{Read, object_read}
-use Rattle.mg_model.specs.State.{ObjectRow}
-use Rattle.mg_model.specs.Volume.{live_rows}
-use Rattle.mg_pages.specs.declared.pages.Pages.{Pages}
+use Rattle.{mg_disk.specs.Disk.Image, mg_model.specs.{Abbreviations.object_row_bytes, Layout.first_object_block, Limits.object_limit}}
+use Rattle.{mg_model.specs.{Replay.block_of, Spelling.{Read, object_read}, State.ObjectRow, Volume.live_rows}, mg_objects.specs.Held.by_base}
+use Rattle.{mg_pages.specs.declared.pages.Pages.Pages, mg_rows.specs.Blocks.object_in, mg_volume.proofs.ObjectLists.{by_base_distinct, by_base_row}}
+use Rattle.mg_volume.proofs.{ObjectLists.placed_distinct, ObjectRemoved.{apart_pairs, bases_differ}, Staged.{accounts_stay, block_there, but_block}}
+use Rattle.mg_volume.{proofs.Staged.{but_one, counters_stay, threads_stay}, specs.{Held.VolumeHeld, Meaning.{IsKept, Spelled, objects_in}}}
+use Rattle.{mg_volume.specs.{RowLists.{DistinctBy, ArePlaced, row_at, tell, told}, StagesRows.StagesRows}, std.proofs.Common.{sym, ap, subst, ◌∙◌}}
+use Rattle.std.{proofs.{Common.{⊎_elim, arith, inl}, lemmas.Bool.cases_eq}, specs.Prelude.{◌≡◌, ◌≢◌, ◌+◌, ◌*◌, ◌/◌, ◌%◌, ◌<◌, ℕ, List, Some}}
 use Rattle.mg_pages.specs.Meaning as pages
-use Rattle.mg_rows.specs.Blocks.{object_in}
-use Rattle.mg_volume.proofs.ObjectLists.{by_base_distinct, by_base_row, placed_distinct}
-use Rattle.mg_volume.specs.Held.{VolumeHeld}
-use Rattle.mg_objects.specs.Held.{by_base}
-use Rattle.mg_volume.specs.Meaning.{IsKept, Spelled, objects_in}
-use Rattle.mg_volume.specs.RowLists.{DistinctBy, ArePlaced, row_at, tell, told}
-use Rattle.mg_volume.specs.StagesRows.{StagesRows}
 
 abbrev pub with_objects : VolumeHeld → List (ℕ × ObjectRow) → Pages → VolumeHeld
 with_objects v objects p = record v { objects = objects; pages = p }

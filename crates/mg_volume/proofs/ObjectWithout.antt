@@ -1,39 +1,20 @@
 -- A volume without one of its objects, whose pages are unbound.
-use Rattle.std.proofs.lemmas.Bool.Decides.{nat_tests}
-use Rattle.std.specs.Prelude.{◌≡◌, ◌≢◌, ◌⊎◌, ◌+◌, ◌/◌, ◌≤◌, ◌<◌, ◌==◌, nat_le, nat_lt, ℕ, Bool, true, false, not, All, List, [], ◌∷◌, filter, find, length, map, remove, Some, None}
-use Rattle.std.specs.List.{list_any}
-use Rattle.std.proofs.Common.{refl, sym, ap, subst, get_or, ◌∙◌, ⊎_elim, inl, inr, arith}
+use Rattle.{mg_disk.specs.Disk.Image, mg_model.specs.{KeptListLemmas.{All-both, length-filter-le, sum_by-filter-le}, Layout.first_object_block}}
+use Rattle.mg_model.specs.{Limits.object_limit, Objects.{page_behind, page_of, without_object}, Ranges.IsObjectRow, State.{Object, ObjectRow}}
+use Rattle.{mg_model.specs.Volume.{object_spelled, page_words}, mg_objects.specs.Held.by_base, mg_pages.specs.declared.pages.Pages.Pages}
+use Rattle.mg_volume.proofs.{Indexed.found_index, ObjectRemoved.{IsOrApart, LiesBefore, any_kept, apart_pairs, bases_differ, filter_mapped}}
+use Rattle.mg_volume.proofs.{ObjectRemoved.{find_kept, others_apart, pairs_apart, remove_is}, ObjectStaged.{distinct_of, objects_staged, placed_of}}
+use Rattle.mg_volume.proofs.{ObjectStaged.with_objects, PagesChange.{all-bound, each-bound}, RemovedOrder.{filter_order, row_set_none}}
+use Rattle.mg_volume.proofs.{Staged.staged_objects, Stages.{changes_is, shape_then, stages_then}, StandingPages.spelled_same, StillStaged.base_found}
+use Rattle.mg_volume.{proofs.StillStaged.{objects_still, place_found, with_base}, specs.{Changes.Changes, Held.VolumeHeld, Meaning.IsKept}}
+use Rattle.mg_volume.specs.{Meaning.{IsSpelledBy, Spelled, has_page, is_page_in, now_of, objects_in, threads_in}, PageWordLemmas.pages-same}
+use Rattle.mg_volume.specs.{RowLists.{row_set, set_other, set_placed}, Sound.all_spelled, StagesRows.StagesRows, Staging.{has_base, place_for}}
+use Rattle.{mg_volume.specs.Staging.without_row, std.proofs.Common.{refl, sym, ap, subst, get_or, ◌∙◌, ⊎_elim, inl, inr, arith}}
 use Rattle.std.proofs.lemmas.Bool.{and_parts, both_ways, cases_Bool, eqb-false, eqb-true, leb-true, ltb-true, ne_eqb, not-true, not_from_false}
-use Rattle.std.proofs.lemmas.List.Elements.{All-filter, All-get_or, All-head, All-tail, All-weaker, filter_passes}
-use Rattle.std.proofs.lemmas.List.Kept.{AllPairs-filter}
-use Rattle.mg_disk.specs.Disk.{Image}
-use Rattle.mg_model.specs.KeptListLemmas.{All-both, length-filter-le, sum_by-filter-le}
-use Rattle.mg_model.specs.Layout.{first_object_block}
-use Rattle.mg_model.specs.Limits.{object_limit}
-use Rattle.mg_model.specs.Objects.{page_behind, page_of, without_object}
-use Rattle.mg_model.specs.Ranges.{IsObjectRow}
-use Rattle.mg_model.specs.State.{Object, ObjectRow}
-use Rattle.mg_model.specs.Volume.{object_spelled, page_words}
-use Rattle.mg_pages.specs.declared.pages.Pages.{Pages}
+use Rattle.std.proofs.lemmas.{Bool.Decides.nat_tests, List.Elements.{All-filter, All-get_or, All-head, All-tail, All-weaker, filter_passes}}
+use Rattle.std.{proofs.lemmas.List.Kept.AllPairs-filter, specs.{List.list_any, Prelude.{◌≡◌, ◌≢◌, ◌⊎◌, ◌+◌, ◌/◌, ◌≤◌, ◌<◌, ◌==◌, nat_le, nat_lt, ℕ}}}
+use Rattle.std.specs.Prelude.{Bool, true, false, not, All, List, [], ◌∷◌, filter, find, length, map, remove, Some, None}
 use Rattle.mg_pages.specs.Meaning as pages
-use Rattle.mg_volume.proofs.Indexed.{found_index}
-use Rattle.mg_volume.proofs.ObjectRemoved.{IsOrApart, LiesBefore, any_kept, apart_pairs, bases_differ, filter_mapped, find_kept, others_apart, pairs_apart, remove_is}
-use Rattle.mg_volume.proofs.ObjectStaged.{distinct_of, objects_staged, placed_of, with_objects}
-use Rattle.mg_volume.proofs.PagesChange.{all-bound, each-bound}
-use Rattle.mg_volume.proofs.RemovedOrder.{filter_order, row_set_none}
-use Rattle.mg_volume.proofs.StandingPages.{spelled_same}
-use Rattle.mg_volume.specs.Held.{VolumeHeld}
-use Rattle.mg_objects.specs.Held.{by_base}
-use Rattle.mg_volume.specs.Meaning.{IsKept, IsSpelledBy, Spelled, has_page, is_page_in, now_of, objects_in, threads_in}
-use Rattle.mg_volume.proofs.StillStaged.{base_found, objects_still, place_found, with_base}
-use Rattle.mg_volume.specs.Staging.{has_base, place_for, without_row}
-use Rattle.mg_volume.specs.PageWordLemmas.{pages-same}
-use Rattle.mg_volume.specs.RowLists.{row_set, set_other, set_placed}
-use Rattle.mg_volume.specs.Sound.{all_spelled}
-use Rattle.mg_volume.proofs.Staged.{staged_objects}
-use Rattle.mg_volume.proofs.Stages.{changes_is, shape_then, stages_then}
-use Rattle.mg_volume.specs.Changes.{Changes}
-use Rattle.mg_volume.specs.StagesRows.{StagesRows}
 
 -- the objects but the one with a base
 abbrev pub without : ℕ → List (ℕ × ObjectRow) → List (ℕ × ObjectRow)

@@ -1,48 +1,25 @@
 -- A volume is opened from the rows that were read of it.
-use Rattle.std.proofs.lemmas.List.{length-map}
-use Rattle.std.proofs.lemmas.Bool.Decides.{nat_tests}
-use Rattle.std.specs.Prelude.{◌≡◌, ◌≤◌, ◌<◌, ◌+◌, ℕ, ◌&&◌, true, List, [], ◌∷◌, length, map, sum_by, drop, Option, Some, None}
-use Rattle.std.specs.List.{list_all, list_any}
-use Rattle.std.specs.Option.{ForSome, option_map_or}
-use Rattle.std.proofs.Common.{refl, sym, ap, subst, ◌∙◌, inl, inr, ⊎_elim, arith}
-use Rattle.std.proofs.lemmas.Bool.{and_from}
-use Rattle.mg_rules.specs.RowsRead.{AreKept, IsReadAs, live_from, objects_of, rows_in, state_in}
-use Rattle.mg_rules.specs.declared.volume_rows.VolumeRows.{VolumeRows}
-use Rattle.mg_disk.specs.BecomesLemmas.{becomes-of, becomes-to}
-use Rattle.mg_disk.specs.Disk.{Image}
-use Rattle.mg_disk.specs.Runs.{leaves_wider}
-use Rattle.mg_disk.specs.Stops.{Becomes, Leaves, LeftOr}
-use Rattle.mg_disk.specs.declared.disk.Disk.{Ghosts}
-use Rattle.mg_journal.specs.Contents.{SameContents}
+use Rattle.mg_disk.specs.{BecomesLemmas.{becomes-of, becomes-to}, Disk.Image, Runs.leaves_wider, Stops.{Becomes, Leaves, LeftOr}}
+use Rattle.{mg_disk.specs.declared.disk.Disk.Ghosts, mg_journal.specs.{Contents.SameContents, Held.Store}}
+use Rattle.mg_model.specs.{Abbreviations.{account_row_bytes, is_page_of, object_row_bytes, table_of, thread_row_bytes, whole_table}, Bytes.are_zeros}
+use Rattle.mg_model.specs.{Layout.{globals_block, total_blocks}, Limits.{account_limit, thread_limit, object_limit}, Ranges.IsObjectRow}
+use Rattle.mg_model.specs.{Replay.{block_of, replay}, Spelling.{account_read, globals_read, object_read, thread_read}, State.{Object, ObjectRow}}
+use Rattle.mg_model.specs.{State.{State, ThreadRow}, Tests.all_distinct, Volume.{Rows, accounts_fit, bound_pages, live_rows, objects_fit}}
+use Rattle.mg_model.specs.{Volume.{replayed_volume, state_fits, threads_fit, volume}, declared.accounts.AccRow.AccRow}
+use Rattle.{mg_objects.specs.Held.{AreApart, by_base}, mg_pages.specs.declared.pages.Pages.Pages, mg_rules.specs.RowsRead.{AreKept, IsReadAs}}
+use Rattle.mg_rules.specs.{RowsRead.{live_from, objects_of, rows_in, state_in}, declared.volume_rows.VolumeRows.VolumeRows}
+use Rattle.mg_volume.proofs.{BareRows.sum_bare, ObjectLists.by_base_all, ObjectOrder.into_length, ObjectRemoved.apart_pairs, Reread.IsThere}
+use Rattle.mg_volume.{proofs.Reread.{row_parts, there}, specs.{Contents.volume_of_replay, Held.VolumeHeld, Meaning.{IsKept, IsSpelledBy, Spelled}}}
+use Rattle.mg_volume.specs.Meaning.{StandsOn, has_page, is_live, is_sound, now_of, objects_in, rows_apart, staged_of, threads_in, total_of}
+use Rattle.mg_volume.specs.{Numbered.numbered, Opening.Opens, Sound.{accounts-placed, all-same, all_spelled, coming_kept, in-object, objects-fit}}
+use Rattle.{mg_volume.specs.Sound.{objects-placed, rows-spelled, rows_fit, threads-numbered}, std.proofs.Common.{refl, sym, ap, subst, ◌∙◌, inl, inr}}
+use Rattle.std.{proofs.{Common.{⊎_elim, arith}, lemmas.{Bool.{and_from, Decides.nat_tests}, List.length-map}}, specs.List.{list_all, list_any}}
+use Rattle.std.specs.{Option.{ForSome, option_map_or}, Prelude.{◌≡◌, ◌≤◌, ◌<◌, ◌+◌, ℕ, ◌&&◌, true, List, [], ◌∷◌, length, map, sum_by, drop, Option}}
+use Rattle.std.specs.Prelude.{Some, None}
 use Rattle.mg_journal.specs.Standing as journal
-use Rattle.mg_journal.specs.Held.{Store}
-use Rattle.mg_model.specs.declared.accounts.AccRow.{AccRow}
-use Rattle.mg_model.specs.Abbreviations.{account_row_bytes, is_page_of, object_row_bytes, table_of, thread_row_bytes, whole_table}
-use Rattle.mg_model.specs.Bytes.{are_zeros}
-use Rattle.mg_model.specs.Layout.{globals_block, total_blocks}
-use Rattle.mg_model.specs.Limits.{account_limit, thread_limit, object_limit}
-use Rattle.mg_model.specs.Ranges.{IsObjectRow}
-use Rattle.mg_model.specs.Replay.{block_of, replay}
-use Rattle.mg_model.specs.Spelling.{account_read, globals_read, object_read, thread_read}
-use Rattle.mg_model.specs.State.{Object, ObjectRow, State, ThreadRow}
-use Rattle.mg_model.specs.Tests.{all_distinct}
-use Rattle.mg_model.specs.Volume.{Rows, accounts_fit, bound_pages, live_rows, objects_fit, replayed_volume, state_fits, threads_fit, volume}
 use Rattle.mg_objects.specs.Held as held
-use Rattle.mg_objects.specs.Held.{AreApart, by_base}
-use Rattle.mg_pages.specs.declared.pages.Pages.{Pages}
 use Rattle.mg_pages.specs.SpelledLemmas as laws
 use Rattle.mg_pages.specs.Meaning as pages
-use Rattle.mg_volume.proofs.BareRows.{sum_bare}
-use Rattle.mg_volume.proofs.ObjectLists.{by_base_all}
-use Rattle.mg_volume.proofs.ObjectOrder.{into_length}
-use Rattle.mg_volume.proofs.ObjectRemoved.{apart_pairs}
-use Rattle.mg_volume.proofs.Reread.{IsThere, row_parts, there}
-use Rattle.mg_volume.specs.Contents.{volume_of_replay}
-use Rattle.mg_volume.specs.Held.{VolumeHeld}
-use Rattle.mg_volume.specs.Meaning.{IsKept, IsSpelledBy, Spelled, StandsOn, has_page, is_live, is_sound, now_of, objects_in, rows_apart, staged_of, threads_in, total_of}
-use Rattle.mg_volume.specs.Numbered.{numbered}
-use Rattle.mg_volume.specs.Opening.{Opens}
-use Rattle.mg_volume.specs.Sound.{accounts-placed, all-same, all_spelled, coming_kept, in-object, objects-fit, objects-placed, rows-spelled, rows_fit, threads-numbered}
 
 -- the table of objects has the same rows in the words of both crates
 live-same : {R : Type 0} (i : ℕ) (rows : List (Option R)) → held.live_from i rows ≡ live_from i rows

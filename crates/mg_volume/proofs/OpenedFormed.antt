@@ -1,36 +1,18 @@
 -- A volume with nothing staged is well formed, if it is sound and its disk gives bytes.
-use Rattle.mg_volume.proofs.ObjectRemoved.{LiesBefore, apart_pairs}
-use Rattle.std.specs.Prelude.{◌≡◌, ◌≢◌, ◌+◌, ◌*◌, ◌^◌, ◌≤◌, ◌<◌, ◌==◌, ◌&&◌, nat_le, ℕ, zero, suc, true, false, All, AllPairs, List, [], ◌∷◌, find, length, map, sum_by, Some, None}
-use Rattle.std.specs.List.{list_all}
-use Rattle.std.specs.Option.{option_map_or}
-use Rattle.std.proofs.Common.{refl, subst, arith}
-use Rattle.std.proofs.lemmas.Bool.{and_parts, both_ways, eqb-true, leb-true}
-use Rattle.std.proofs.lemmas.List.{length-map}
-use Rattle.std.proofs.lemmas.List.Elements.{All-nil, All-weaker}
-use Rattle.std.proofs.lemmas.List.Kept.{AllPairs-cons}
-use Rattle.mg_disk.specs.Disk.{AreBytes, Image}
-use Rattle.mg_model.specs.declared.accounts.AccRow.{AccRow}
-use Rattle.mg_model.specs.Abbreviations.{pages_words, thread_row_bytes}
-use Rattle.mg_model.specs.Bank.{used}
-use Rattle.mg_model.specs.KeptListLemmas.{All-both, All-change, All-unmap, AllPairs-change, AllPairs-head, AllPairs-nil, AllPairs-tail}
-use Rattle.mg_model.specs.Limits.{thread_limit}
-use Rattle.mg_model.specs.Objects.{page_of}
-use Rattle.mg_model.specs.Ranges.{IsCounters, IsObjectRow, IsThreadRow, IsWord}
-use Rattle.mg_model.specs.Spelling.{thread_read}
-use Rattle.mg_model.specs.State.{Object, ObjectRow, Thread, ThreadRow}
-use Rattle.mg_model.specs.Tests.{all_distinct}
-use Rattle.mg_model.specs.RowTestLemmas.{distinct-tells, list_all-tells}
-use Rattle.mg_model.specs.Volume.{accounts_fit, are_apart, begins_with_first, object_spelled, objects_fit, threads_fit}
-use Rattle.mg_model.specs.WellFormed.{AreAccounts, AreObjects, AreThreads, IsAccount, IsBefore, IsFirst, IsObject, IsSettings, IsThread, IsWellFormed}
+use Rattle.{mg_disk.specs.Disk.{AreBytes, Image}, mg_model.specs.{Abbreviations.{pages_words, thread_row_bytes}, Bank.used, KeptListLemmas.All-both}}
+use Rattle.mg_model.specs.{KeptListLemmas.{All-change, All-unmap, AllPairs-change, AllPairs-head, AllPairs-nil, AllPairs-tail}, Limits.thread_limit}
+use Rattle.mg_model.specs.{Objects.page_of, Ranges.{IsCounters, IsObjectRow, IsThreadRow, IsWord}, RowTestLemmas.{distinct-tells, list_all-tells}}
+use Rattle.mg_model.specs.{Spelling.thread_read, State.{Object, ObjectRow, Thread, ThreadRow}, Tests.all_distinct, Volume.{accounts_fit, are_apart}}
+use Rattle.mg_model.specs.{Volume.{begins_with_first, object_spelled, objects_fit, threads_fit}, WellFormed.{AreAccounts, AreObjects, AreThreads}}
+use Rattle.mg_model.specs.{WellFormed.{IsAccount, IsBefore, IsFirst, IsObject, IsSettings, IsThread, IsWellFormed}, declared.accounts.AccRow.AccRow}
+use Rattle.mg_volume.proofs.{Found.as_thread, ImageBytes.{pages-words, replay-bytes}, ObjectRemoved.{LiesBefore, apart_pairs}}
+use Rattle.mg_volume.specs.{Held.VolumeHeld, Meaning.{IsKept, IsSpelledBy, Spelled, is_sound, now_of, staged_of, threads_in, objects_in, rows_apart}}
+use Rattle.{mg_volume.specs.{Numbered.numbered, RowLists.{ArePlaced, told}, Sound.all_spelled}, std.proofs.Common.{refl, subst, arith}}
+use Rattle.std.proofs.lemmas.{Bool.{and_parts, both_ways, eqb-true, leb-true}, List.{length-map, Elements.{All-nil, All-weaker}, Kept.AllPairs-cons}}
+use Rattle.std.specs.{List.list_all, Option.option_map_or, Prelude.{◌≡◌, ◌≢◌, ◌+◌, ◌*◌, ◌^◌, ◌≤◌, ◌<◌, ◌==◌, ◌&&◌, nat_le, ℕ, zero, suc, true, false}}
+use Rattle.std.specs.Prelude.{All, AllPairs, List, [], ◌∷◌, find, length, map, sum_by, Some, None}
 use Rattle.mg_pages.specs.SpelledLemmas as laws
 use Rattle.mg_pages.specs.Meaning as pages
-use Rattle.mg_volume.proofs.Found.{as_thread}
-use Rattle.mg_volume.proofs.ImageBytes.{pages-words, replay-bytes}
-use Rattle.mg_volume.specs.Held.{VolumeHeld}
-use Rattle.mg_volume.specs.Numbered.{numbered}
-use Rattle.mg_volume.specs.Meaning.{IsKept, IsSpelledBy, Spelled, is_sound, now_of, staged_of, threads_in, objects_in, rows_apart}
-use Rattle.mg_volume.specs.RowLists.{ArePlaced, told}
-use Rattle.mg_volume.specs.Sound.{all_spelled}
 
 length-pages : (r : Image) (frames : ℕ) (table : List ℕ) (page n : ℕ) → length (pages_words r frames table page n) ≡ 512 * n
 length-pages r frames table page zero = refl

@@ -1,28 +1,14 @@
 -- What a call of the pages does to the volume.
-use Rattle.mg_model.specs.Limits.{thread_limit}
-use Rattle.std.proofs.lemmas.Bool.Decides.{nat_tests}
-use Rattle.std.specs.Prelude.{◌≡◌, ◌≢◌, ◌⊎◌, ◌+◌, ◌*◌, ◌%◌, ◌^◌, ◌<◌, ◌==◌, ℕ, Bool, true, false, All, List, [], ◌∷◌, map, slice_index, slice_set, MatchResult, OnErr, OnOk, Result, Ok, Err, length, ◌≤◌}
-use Rattle.std.specs.List.{list_all, list_any}
-use Rattle.std.specs.Option.{ForSome}
-use Rattle.std.proofs.Common.{refl, sym, ap, ◌∙◌, inr, arith}
-use Rattle.std.proofs.lemmas.Bool.{both_ways, or_right}
-use Rattle.std.proofs.lemmas.List.Elements.{All-head, All-tail}
-use Rattle.mg_disk.specs.Disk.{Image, block_at}
-use Rattle.mg_disk.specs.declared.disk.Disk.{Ghosts}
-use Rattle.mg_model.specs.Counts.{CountsAlike}
-use Rattle.mg_model.specs.Layout.{table_block}
-use Rattle.mg_model.specs.Objects.{with_word, word_at}
-use Rattle.mg_model.specs.Ranges.{IsObjectRow}
-use Rattle.mg_model.specs.State.{ObjectRow, Counters, ThreadRow}
-use Rattle.mg_model.specs.Volume.{bound_pages, page_words}
-use Rattle.mg_pages.specs.declared.pages.Pages.{Pages}
+use Rattle.{mg_disk.specs.{Disk.{Image, block_at}, declared.disk.Disk.Ghosts}, mg_model.specs.{Counts.CountsAlike, Layout.table_block}}
+use Rattle.mg_model.specs.{Limits.thread_limit, Objects.{with_word, word_at}, Ranges.IsObjectRow, State.{ObjectRow, Counters, ThreadRow}}
+use Rattle.{mg_model.specs.Volume.{bound_pages, page_words}, mg_pages.specs.declared.pages.Pages.Pages, mg_volume.proofs.FreeFrame.free_frame}
+use Rattle.mg_volume.{proofs.StandingPages.with_pages, specs.{Held.VolumeHeld, Meaning.{IsKept, Keeps, has_page, is_live, is_page_in, is_sound}}}
+use Rattle.mg_volume.specs.{Meaning.{now_of, objects_in, staged_in, staged_of, threads_in, total_of}, PageWordLemmas.{objects-set, word-spelled}}
+use Rattle.{mg_volume.specs.Sound.{is_sound_held, sound_is}, std.proofs.{Common.{refl, sym, ap, ◌∙◌, inr, arith}, lemmas.Bool.{both_ways, or_right}}}
+use Rattle.std.{proofs.lemmas.{Bool.Decides.nat_tests, List.Elements.{All-head, All-tail}}, specs.{List.{list_all, list_any}, Option.ForSome}}
+use Rattle.std.specs.Prelude.{◌≡◌, ◌≢◌, ◌⊎◌, ◌+◌, ◌*◌, ◌%◌, ◌^◌, ◌<◌, ◌==◌, ℕ, Bool, true, false, All, List, [], ◌∷◌, map, slice_index, slice_set}
+use Rattle.std.specs.Prelude.{MatchResult, OnErr, OnOk, Result, Ok, Err, length, ◌≤◌}
 use Rattle.mg_pages.specs.Meaning as pages
-use Rattle.mg_volume.proofs.FreeFrame.{free_frame}
-use Rattle.mg_volume.proofs.StandingPages.{with_pages}
-use Rattle.mg_volume.specs.Held.{VolumeHeld}
-use Rattle.mg_volume.specs.Meaning.{IsKept, Keeps, has_page, is_live, is_page_in, is_sound, now_of, objects_in, staged_in, staged_of, threads_in, total_of}
-use Rattle.mg_volume.specs.PageWordLemmas.{objects-set, word-spelled}
-use Rattle.mg_volume.specs.Sound.{is_sound_held, sound_is}
 
 -- what is not pages stays
 pub same_objects : (v : VolumeHeld) (p : Pages) → objects_in (with_pages v p) ≡ objects_in v

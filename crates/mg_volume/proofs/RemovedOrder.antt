@@ -1,13 +1,8 @@
 -- Rows without one at a place, and the same in the order of the bases.
-use Rattle.std.proofs.lemmas.Bool.Decides.{nat_tests}
+use Rattle.{mg_model.specs.State.ObjectRow, mg_objects.specs.Held.{by_base, into_place}, mg_volume.proofs.ObjectLists.{into-all, placed-none}}
+use Rattle.{mg_volume.{proofs.{ObjectLists.place-cases, ObjectRemoved.filter-all}, specs.RowLists.{ArePlaced, row_set}}, std.proofs.Common.refl}
+use Rattle.std.proofs.{Common.arith, lemmas.{Bool.Decides.nat_tests, List.Elements.{All-cons, All-filter, All-head, All-nil, All-weaker}}}
 use Rattle.std.specs.Prelude.{◌≡◌, ◌+◌, ◌≤◌, ◌<◌, ◌==◌, ℕ, Bool, true, false, not, All, List, [], ◌∷◌, filter, None}
-use Rattle.std.proofs.Common.{refl, arith}
-use Rattle.std.proofs.lemmas.List.Elements.{All-cons, All-filter, All-head, All-nil, All-weaker}
-use Rattle.mg_model.specs.State.{ObjectRow}
-use Rattle.mg_volume.proofs.ObjectLists.{into-all, placed-none, place-cases}
-use Rattle.mg_volume.proofs.ObjectRemoved.{filter-all}
-use Rattle.mg_objects.specs.Held.{by_base, into_place}
-use Rattle.mg_volume.specs.RowLists.{ArePlaced, row_set}
 
 -- no row at a place: all but the row that was there
 pub row_set_none : {R : Type 0} (low high p : ℕ) (rows : List (ℕ × R)) → ArePlaced low high rows → row_set p None rows ≡ filter (λ (y : ℕ × R). not (y.0 == p)) rows

@@ -1,24 +1,14 @@
 -- The rows that were read of a volume are those that its disk has once the journal is open.
-use Rattle.std.proofs.Common.{arith}
-use Rattle.std.specs.Prelude.{◌≡◌, ℕ, nat_le, Bool, true, false, List, drop, if◌then◌else◌, length, take, Option, Some, None}
-use Rattle.std.specs.Option.{option_map_or}
-use Rattle.std.proofs.Common.{refl, sym, ap, subst, ◌∙◌, ⊎_elim}
-use Rattle.std.proofs.lemmas.Bool.{cases_Bool, leb-true}
-use Rattle.mg_rules.specs.RowsRead.{IsReadAs, rows_in, state_in}
-use Rattle.mg_rules.specs.declared.volume_rows.VolumeRows.{VolumeRows}
-use Rattle.mg_disk.specs.Disk.{Image, SeenBut}
-use Rattle.mg_journal.specs.Contents.{InJournal, SameContents}
-use Rattle.mg_model.specs.declared.accounts.AccRow.{AccRow}
-use Rattle.mg_model.specs.Abbreviations.{account_row_bytes, object_row_bytes, thread_row_bytes, whole_table}
-use Rattle.mg_model.specs.Bytes.{are_zeros}
-use Rattle.mg_model.specs.Layout.{first_frame, globals_block, total_blocks}
-use Rattle.mg_model.specs.Limits.{account_limit, thread_limit, object_limit}
-use Rattle.mg_model.specs.Replay.{block_of, replay}
-use Rattle.mg_model.specs.Spelling.{account_read, globals_read, object_read, thread_read}
-use Rattle.mg_model.specs.State.{Counters, ObjectRow, ThreadRow}
-use Rattle.mg_model.specs.Volume.{Damaged, Is, Rows, live_rows, replayed_volume, rows_of, volume, volume_behind}
-use Rattle.mg_model.specs.VolumeLemmas.{rows_from, rows_with, volume-opened}
-use Rattle.mg_volume.specs.Contents.{IsSet, contents_set, opened, replay_set, rows_behind, same_behind, volume_contents}
+use Rattle.{mg_disk.specs.Disk.{Image, SeenBut}, mg_journal.specs.Contents.{InJournal, SameContents}, mg_model.specs.Abbreviations.account_row_bytes}
+use Rattle.mg_model.specs.{Abbreviations.{object_row_bytes, thread_row_bytes, whole_table}, Bytes.are_zeros, Layout.{first_frame, globals_block}}
+use Rattle.mg_model.specs.{Layout.total_blocks, Limits.{account_limit, thread_limit, object_limit}, Replay.{block_of, replay}, Spelling.account_read}
+use Rattle.mg_model.specs.{Spelling.{globals_read, object_read, thread_read}, State.{Counters, ObjectRow, ThreadRow}, Volume.{Damaged, Is, Rows}}
+use Rattle.mg_model.specs.{Volume.{live_rows, replayed_volume, rows_of, volume, volume_behind}, VolumeLemmas.{rows_from, rows_with, volume-opened}}
+use Rattle.{mg_model.specs.declared.accounts.AccRow.AccRow, mg_rules.specs.RowsRead.{IsReadAs, rows_in, state_in}}
+use Rattle.{mg_rules.specs.declared.volume_rows.VolumeRows.VolumeRows, mg_volume.specs.Contents.{IsSet, contents_set, opened, replay_set}}
+use Rattle.{mg_volume.specs.Contents.{rows_behind, same_behind, volume_contents}, std.proofs.Common.{arith, refl, sym, ap, subst, ◌∙◌, ⊎_elim}}
+use Rattle.std.{proofs.lemmas.Bool.{cases_Bool, leb-true}, specs.{Option.option_map_or, Prelude.{◌≡◌, ℕ, nat_le, Bool, true, false, List, drop}}}
+use Rattle.std.specs.Prelude.{if◌then◌else◌, length, take, Option, Some, None}
 
 -- the rows, part by part
 pub record Parts (frames : ℕ) (counters : Option Counters) (accounts : Option (List (ℕ × AccRow))) (threads : Option (List (ℕ × ThreadRow))) (objects : Option (List (ℕ × ObjectRow))) (whole : List ℕ) (rows : Rows) : Type 0 where

@@ -1,18 +1,9 @@
 -- One word more of a thread's block that is staged.
-use Rattle.std.proofs.Common.{arith}
-use Rattle.mg_volume.proofs.Stages.{shape_then, stages_then}
+use Rattle.{mg_disk.specs.Disk.{Image, block_at}, mg_model.specs.{Abbreviations.word_bytes, Spelling.thread_bytes, State.ThreadRow}}
+use Rattle.{mg_pages.specs.declared.pages.Pages.Pages, mg_rows.specs.ThreadParts.with_word, mg_volume.proofs.Stages.{shape_then, stages_then}}
+use Rattle.{mg_volume.specs.Standing.Respells, std.{proofs.{Common.{arith, ap, subst, sym, ◌∙◌}, lemmas.List.set-set}, specs.List.splice}}
 use Rattle.std.specs.Prelude.{◌≡◌, ◌+◌, ℕ, Bool, List, IfSome, MatchBool, MatchOption, Option, Some, None, is_some}
-use Rattle.mg_disk.specs.Disk.{Image, block_at}
-use Rattle.std.specs.List.{splice}
-use Rattle.std.proofs.Common.{ap, subst, sym, ◌∙◌}
-use Rattle.std.proofs.lemmas.List.{set-set}
-use Rattle.mg_model.specs.Abbreviations.{word_bytes}
-use Rattle.mg_model.specs.Spelling.{thread_bytes}
-use Rattle.mg_model.specs.State.{ThreadRow}
-use Rattle.mg_pages.specs.declared.pages.Pages.{Pages}
 use Rattle.mg_pages.specs.Meaning as pages
-use Rattle.mg_rows.specs.ThreadParts.{with_word}
-use Rattle.mg_volume.specs.Standing.{Respells}
 
 pub restages_then : (block : ℕ) (x y : List ℕ) (p q r : Pages) → pages.Restages block x p q → pages.Restages block y q r → pages.Restages block y p r
 restages_then block x y p q r first second = grind (arith, set-set, shape_then, stages_then)

@@ -1,22 +1,10 @@
 -- Words that are written into a block that is staged, one after another.
+use Rattle.{mg_disk.specs.Disk.{Image, block_at}, mg_model.specs.{Abbreviations.word_bytes, Layout.globals_block, Ranges.IsCounters, Replay.block_of}}
+use Rattle.{mg_model.specs.{Spelling.{globals_bytes, globals_read}, State.Counters}, mg_pages.specs.declared.pages.Pages.Pages}
+use Rattle.{mg_rows.specs.{Laws.IsSpelledInOneWay, ThreadParts.with_word}, mg_volume.{proofs.Respelled.restages_then, specs.Held.VolumeHeld}}
+use Rattle.{mg_volume.specs.{Meaning.Spelled, Standing.RespellsCounters}, std.{proofs.Common.{refl, sym, ap, subst, ◌∙◌}, specs.List.splice}}
 use Rattle.std.specs.Prelude.{◌≡◌, ◌+◌, ℕ, List, true, is_some, IfSome, MatchOption, Option, Some, None}
-use Rattle.std.specs.List.{splice}
-use Rattle.std.proofs.Common.{refl, sym, ap, subst, ◌∙◌}
-use Rattle.mg_disk.specs.Disk.{Image, block_at}
-use Rattle.mg_model.specs.Abbreviations.{word_bytes}
-use Rattle.mg_model.specs.Layout.{globals_block}
-use Rattle.mg_model.specs.Ranges.{IsCounters}
-use Rattle.mg_model.specs.Replay.{block_of}
-use Rattle.mg_model.specs.Spelling.{globals_bytes, globals_read}
-use Rattle.mg_model.specs.State.{Counters}
-use Rattle.mg_pages.specs.declared.pages.Pages.{Pages}
 use Rattle.mg_pages.specs.Meaning as pages
-use Rattle.mg_rows.specs.Laws.{IsSpelledInOneWay}
-use Rattle.mg_rows.specs.ThreadParts.{with_word}
-use Rattle.mg_volume.proofs.Respelled.{restages_then}
-use Rattle.mg_volume.specs.Held.{VolumeHeld}
-use Rattle.mg_volume.specs.Meaning.{Spelled}
-use Rattle.mg_volume.specs.Standing.{RespellsCounters}
 
 -- what was in the block is staged there with a change
 pub record Rewrites (block : ℕ) (change : List ℕ → List ℕ) (old new : Pages) : Type 0 where

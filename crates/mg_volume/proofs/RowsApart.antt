@@ -1,16 +1,10 @@
 -- Objects that lie apart, in the order of their bases.
-use Rattle.std.proofs.lemmas.Bool.Decides.{nat_tests}
-use Rattle.std.specs.Prelude.{◌≡◌, ◌≢◌, ◌≤◌, ◌<◌, ◌/◌, ◌⊎◌, ◌==◌, ◌||◌, nat_le, nat_lt, ℕ, true, false, All, List, [], ◌∷◌, find, if◌then◌else◌, IsSomeAnd, Some}
-use Rattle.std.specs.List.{list_any}
-use Rattle.std.proofs.Common.{refl, ap, subst, ⊎_elim, inl, inr, arith}
-use Rattle.std.proofs.lemmas.Bool.{and_from, and_parts, cases_Bool, le-leb, leb-true, or_cases, or_left, or_right, cond_both}
-use Rattle.std.proofs.lemmas.List.Elements.{All-cons, All-head, All-map, All-nil, All-tail, All-weaker}
-use Rattle.mg_model.specs.Objects.{page_behind, page_of}
-use Rattle.mg_model.specs.Ranges.{IsObjectRow}
-use Rattle.mg_model.specs.State.{ObjectRow}
-use Rattle.mg_volume.specs.Held.{VolumeHeld}
-use Rattle.mg_volume.specs.Meaning.{IsKept, is_page_in, objects_in, rows_apart}
-use Rattle.mg_volume.specs.Staging.{MayChange, has_base, is_apart_from, with_new_row}
+use Rattle.{mg_model.specs.{Objects.{page_behind, page_of}, Ranges.IsObjectRow, State.ObjectRow}, mg_volume.specs.{Held.VolumeHeld, Meaning.IsKept}}
+use Rattle.mg_volume.specs.{Meaning.{is_page_in, objects_in, rows_apart}, Staging.{MayChange, has_base, is_apart_from, with_new_row}}
+use Rattle.std.proofs.{Common.{refl, ap, subst, ⊎_elim, inl, inr, arith}, lemmas.Bool.{and_from, and_parts, cases_Bool, le-leb, leb-true, or_cases}}
+use Rattle.std.proofs.lemmas.{Bool.{or_left, or_right, cond_both, Decides.nat_tests}, List.Elements.{All-cons, All-head, All-map, All-nil, All-tail}}
+use Rattle.std.{proofs.lemmas.List.Elements.All-weaker, specs.{List.list_any, Prelude.{◌≡◌, ◌≢◌, ◌≤◌, ◌<◌, ◌/◌, ◌⊎◌, ◌==◌, ◌||◌, nat_le, nat_lt, ℕ}}}
+use Rattle.std.specs.Prelude.{true, false, All, List, [], ◌∷◌, find, if◌then◌else◌, IsSomeAnd, Some}
 
 -- the rows that a volume holds keep their ranges
 pub kept_rows : (v : VolumeHeld) → IsKept v → All IsObjectRow (objects_in v)

@@ -1,8 +1,6 @@
 -- A list that is taken over item by item.
-use Rattle.std.proofs.lemmas.Grind.{common_steps}
-use Rattle.std.proofs.lemmas.List.{append-nil, drop_all, take_all}
 use Rattle.std.proofs.Common.{ℕ, zero, suc, ◌+◌, ◌<◌, ◌≤◌, ◌≡◌, ◌∙◌, ◌++◌, List, [], ◌∷◌, ap, drop, get_or, length, refl, take, arith}
-use Rattle.std.specs.Prelude.{slice_set}
+use Rattle.std.{proofs.lemmas.{Grind.common_steps, List.{append-nil, drop_all, take_all}}, specs.Prelude.slice_set}
 
 -- one more of the new items, if the others are as they were
 pub set-seam : (new old : List ℕ) (k d : ℕ) → k < length new → k < length old → slice_set (take k new ++ drop k old) k (get_or new k d) ≡ take (k + 1) new ++ drop (k + 1) old

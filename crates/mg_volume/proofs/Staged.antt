@@ -1,31 +1,16 @@
 -- A block before the frame table is staged, and one part of the state with it.
-use Rattle.std.specs.Prelude.{◌≡◌, ◌≢◌, ◌+◌, ◌≤◌, ◌<◌, ◌==◌, ◌⊎◌, ℕ, List, [], ◌∷◌, position, replicate, slice_set, Option, Some, None}
-use Rattle.std.specs.Option.{option_map_or}
-use Rattle.std.proofs.Common.{refl, ap, ◌∙◌, ⊎_elim, inl, inr, arith}
-use Rattle.std.proofs.lemmas.List.{get_or-set_other, get_or-set_same}
-use Rattle.mg_disk.specs.Disk.{Image}
+use Rattle.{mg_disk.specs.Disk.Image, mg_model.specs.{Abbreviations.{account_row_bytes, object_row_bytes, thread_row_bytes}, Bytes.block_words}}
 use Rattle.mg_model.specs.Layout.{first_account_block, first_frame, first_object_block, first_thread_block, globals_block, table_block}
-use Rattle.mg_model.specs.Bytes.{block_words}
-use Rattle.mg_model.specs.Objects.{page_of}
-use Rattle.mg_model.specs.Replay.{block_of}
-use Rattle.mg_model.specs.Volume.{live_rows, object_spelled, page_words}
-use Rattle.mg_model.specs.Spelling.{account_read, globals_read, object_read, thread_read}
-use Rattle.mg_model.specs.State.{Counters, ObjectRow}
-use Rattle.mg_pages.specs.ComingLemmas.{length_coming}
-use Rattle.mg_pages.specs.declared.pages.Pages.{Pages}
+use Rattle.mg_model.specs.{Limits.{account_limit, object_limit, thread_limit}, Objects.page_of, Replay.block_of, Spelling.account_read}
+use Rattle.mg_model.specs.{Spelling.{globals_read, object_read, thread_read}, State.{Counters, ObjectRow}, Volume.{live_rows, object_spelled}}
+use Rattle.{mg_model.specs.Volume.page_words, mg_pages.specs.{ComingLemmas.length_coming, Meaning.StagesBlock, declared.pages.Pages.Pages}}
+use Rattle.{mg_rules.specs.RowsRead.placed_from, mg_volume.{proofs.Stages.same_changes, specs.{Changes.Changes, Contents.{AgreeIn, accounts_within}}}}
+use Rattle.mg_volume.specs.{Contents.{objects_within, threads_within}, Held.VolumeHeld, Meaning.{IsSpelledBy, Spelled, now_of, threads_in}}
+use Rattle.{mg_volume.specs.{PageWordLemmas.pages-same, Sound.all_spelled}, std.proofs.Common.{refl, ap, ◌∙◌, ⊎_elim, inl, inr, arith}}
+use Rattle.std.{proofs.lemmas.List.{get_or-set_other, get_or-set_same}, specs.{Option.option_map_or, Prelude.{◌≡◌, ◌≢◌, ◌+◌, ◌≤◌, ◌<◌, ◌==◌, ◌⊎◌, ℕ}}}
+use Rattle.std.specs.Prelude.{List, [], ◌∷◌, position, replicate, slice_set, Option, Some, None}
 use Rattle.mg_pages.specs.SpelledLemmas as laws
 use Rattle.mg_pages.specs.Meaning as pages
-use Rattle.mg_rules.specs.RowsRead.{placed_from}
-use Rattle.mg_model.specs.Abbreviations.{account_row_bytes, object_row_bytes, thread_row_bytes}
-use Rattle.mg_model.specs.Limits.{account_limit, object_limit, thread_limit}
-use Rattle.mg_volume.proofs.Stages.{same_changes}
-use Rattle.mg_pages.specs.Meaning.{StagesBlock}
-use Rattle.mg_volume.specs.Changes.{Changes}
-use Rattle.mg_volume.specs.Contents.{AgreeIn, accounts_within, objects_within, threads_within}
-use Rattle.mg_volume.specs.Held.{VolumeHeld}
-use Rattle.mg_volume.specs.Meaning.{IsSpelledBy, Spelled, now_of, threads_in}
-use Rattle.mg_volume.specs.PageWordLemmas.{pages-same}
-use Rattle.mg_volume.specs.Sound.{all_spelled}
 
 -- a block was staged: it is there, and the others are as they were
 module _ (p q : Pages) (image : Image) (block : ℕ) (bytes : List ℕ) (staged : StagesBlock block bytes p q) where

@@ -1,17 +1,9 @@
 -- What staging a block leaves as it was.
-use Rattle.std.specs.Prelude.{◌≡◌, ◌+◌, ◌≤◌, ℕ, List}
-use Rattle.std.proofs.Common.{ap, ◌∙◌, arith}
-use Rattle.mg_disk.specs.Disk.{Image}
-use Rattle.mg_model.specs.State.{ObjectRow, State}
+use Rattle.{mg_disk.specs.Disk.Image, mg_model.specs.State.{ObjectRow, State}, mg_pages.specs.{Meaning.StagesBlock, declared.pages.Pages.Pages}}
+use Rattle.mg_volume.{proofs.StillStaged.{objects_wait, still_staged}, specs.{Calls.Stages, Changes.Changes, Held.VolumeHeld, Meaning.IsSpelledBy}}
+use Rattle.mg_volume.specs.Meaning.{SameShape, bare_rows, is_live, now_of, objects_in, settings_in, staged_of, total_of, words_in}
+use Rattle.{mg_volume.specs.Staging.ObjectsStillStaged, std.{proofs.Common.{ap, ◌∙◌, arith}, specs.Prelude.{◌≡◌, ◌+◌, ◌≤◌, ℕ, List}}}
 use Rattle.mg_pages.specs.Meaning as pages
-use Rattle.mg_volume.proofs.StillStaged.{objects_wait, still_staged}
-use Rattle.mg_volume.specs.Calls.{Stages}
-use Rattle.mg_pages.specs.declared.pages.Pages.{Pages}
-use Rattle.mg_pages.specs.Meaning.{StagesBlock}
-use Rattle.mg_volume.specs.Changes.{Changes}
-use Rattle.mg_volume.specs.Staging.{ObjectsStillStaged}
-use Rattle.mg_volume.specs.Held.{VolumeHeld}
-use Rattle.mg_volume.specs.Meaning.{IsSpelledBy, SameShape, bare_rows, is_live, now_of, objects_in, settings_in, staged_of, total_of, words_in}
 
 pub same_shape : (v w : VolumeHeld) → w.settings ≡ v.settings → pages.SameShape v.pages w.pages → pages.words_in w.pages ≡ pages.words_in v.pages → SameShape v w
 unfolding settings_in is_live total_of words_in

@@ -1,19 +1,10 @@
 -- A volume whose pages changed stands on the disk as before.
+use Rattle.{mg_disk.specs.{Disk.{Image, block_at}, declared.disk.Disk.Ghosts}, mg_model.specs.Layout.{globals_block, table_block}}
+use Rattle.{mg_model.specs.{Spelling.globals_read, State.State, Volume.{Is, volume}}, mg_pages.specs.declared.pages.Pages.Pages}
+use Rattle.mg_volume.specs.{Contents.{AgreeBehind, IsSet, accounts-same, objects-same, threads-same}, Held.VolumeHeld, Meaning.{IsSpelledBy, Spelled}}
+use Rattle.{mg_volume.specs.{Meaning.{StandsOn, total_of}, StateLemmas.set_of}, std.{proofs.Common.{ap, ◌∙◌, arith}, specs.Option.ForSome}}
 use Rattle.std.specs.Prelude.{◌≡◌, ◌<◌, ℕ}
-use Rattle.std.specs.Option.{ForSome}
-use Rattle.std.proofs.Common.{ap, ◌∙◌, arith}
-use Rattle.mg_disk.specs.Disk.{Image, block_at}
-use Rattle.mg_disk.specs.declared.disk.Disk.{Ghosts}
-use Rattle.mg_model.specs.Layout.{globals_block, table_block}
-use Rattle.mg_model.specs.Spelling.{globals_read}
-use Rattle.mg_model.specs.State.{State}
-use Rattle.mg_model.specs.Volume.{Is, volume}
-use Rattle.mg_pages.specs.declared.pages.Pages.{Pages}
 use Rattle.mg_pages.specs.Meaning as pages
-use Rattle.mg_volume.specs.Contents.{AgreeBehind, IsSet, accounts-same, objects-same, threads-same}
-use Rattle.mg_volume.specs.Held.{VolumeHeld}
-use Rattle.mg_volume.specs.StateLemmas.{set_of}
-use Rattle.mg_volume.specs.Meaning.{IsSpelledBy, Spelled, StandsOn, total_of}
 
 abbrev pub with_pages : VolumeHeld → Pages → VolumeHeld
 with_pages v p = record v { pages = p }

@@ -1,14 +1,10 @@
 -- What was staged still is.
-use Rattle.std.specs.Prelude.{◌≡◌, ◌==◌, ◌||◌, ◌+◌, ◌-◌, ◌/◌, ℕ, true, false, List, [], ◌∷◌, find, if◌then◌else◌, map, Option, Some, None}
-use Rattle.std.specs.Option.{option_map_or}
-use Rattle.std.proofs.Common.{refl, sym, ap, ◌∙◌, ⊎_elim, arith}
-use Rattle.std.proofs.lemmas.Bool.{both_ways, cases_Bool}
-use Rattle.mg_model.specs.Layout.{first_object_block, first_thread_block, globals_block}
-use Rattle.mg_model.specs.State.{ObjectRow}
+use Rattle.{mg_model.specs.{Layout.{first_object_block, first_thread_block, globals_block}, State.ObjectRow}, mg_volume.specs.Held.VolumeHeld}
+use Rattle.mg_volume.specs.{Meaning.objects_in, Staging.{ObjectsStillStaged, StillStaged, are_counters_staged, free_place, has_base}}
+use Rattle.{mg_volume.specs.Staging.{is_object_staged, is_thread_staged, place_for}, std.proofs.Common.{refl, sym, ap, ◌∙◌, ⊎_elim, arith}}
+use Rattle.std.{proofs.lemmas.Bool.{both_ways, cases_Bool}, specs.{Option.option_map_or, Prelude.{◌≡◌, ◌==◌, ◌||◌, ◌+◌, ◌-◌, ◌/◌, ℕ, true, false}}}
+use Rattle.std.specs.Prelude.{List, [], ◌∷◌, find, if◌then◌else◌, map, Option, Some, None}
 use Rattle.mg_pages.specs.Meaning as pages
-use Rattle.mg_volume.specs.Held.{VolumeHeld}
-use Rattle.mg_volume.specs.Meaning.{objects_in}
-use Rattle.mg_volume.specs.Staging.{ObjectsStillStaged, StillStaged, are_counters_staged, free_place, has_base, is_object_staged, is_thread_staged, place_for}
 
 abbrev pub with_base : ℕ → List (ℕ × ObjectRow) → Option (ℕ × ObjectRow)
 with_base base objects = find (λ (o : ℕ × ObjectRow). o.1.base == base) objects

@@ -1,10 +1,7 @@
 -- The block that a call stages, in words of the volume.
-use Rattle.std.specs.Prelude.{◌≡◌, ◌⊎◌, ◌+◌, ◌-◌, ◌<◌, ℕ, true}
-use Rattle.mg_model.specs.Layout.{first_thread_block, globals_block}
+use Rattle.{mg_model.specs.Layout.{first_thread_block, globals_block}, mg_volume.specs.{Held.VolumeHeld, Meaning.staged_of}}
+use Rattle.{mg_volume.specs.Staging.{are_counters_staged, is_thread_staged}, std.specs.Prelude.{◌≡◌, ◌⊎◌, ◌+◌, ◌-◌, ◌<◌, ℕ, true}}
 use Rattle.mg_pages.specs.Meaning as pages
-use Rattle.mg_volume.specs.Held.{VolumeHeld}
-use Rattle.mg_volume.specs.Meaning.{staged_of}
-use Rattle.mg_volume.specs.Staging.{are_counters_staged, is_thread_staged}
 
 -- the block of the counters
 pub counters_room : (v : VolumeHeld) → (are_counters_staged v ≡ true) ⊎ (staged_of v < 160) → (pages.is_staged v.pages globals_block ≡ true) ⊎ (pages.staged_of v.pages < 160)

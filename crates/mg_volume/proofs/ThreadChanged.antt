@@ -1,18 +1,9 @@
 -- Another row of a thread that lives, by a change of the row that it has.
-use Rattle.std.specs.Prelude.{◌≡◌, ◌≢◌, ◌==◌, ℕ, Bool, true, false, All, List, [], ◌∷◌, find, if◌then◌else◌, map, IfSome, MatchOption, Option, Some, None}
-use Rattle.std.specs.List.{list_any}
-use Rattle.std.proofs.Common.{refl, arith}
-use Rattle.std.proofs.lemmas.Bool.{eqb-true}
-use Rattle.mg_disk.specs.Disk.{Image}
-use Rattle.mg_model.specs.Domains.{with_thread}
-use Rattle.mg_model.specs.State.{Thread, ThreadRow}
-use Rattle.mg_volume.proofs.Found.{as_thread}
-use Rattle.mg_volume.proofs.ObjectLists.{change-none, distinct_map}
-use Rattle.mg_volume.specs.Held.{VolumeHeld}
-use Rattle.mg_volume.specs.StateLemmas.{now_threads}
-use Rattle.mg_volume.specs.Meaning.{now_of, threads_in}
-use Rattle.mg_volume.specs.RowLists.{DistinctBy}
-use Rattle.mg_volume.specs.Staging.{threads_with}
+use Rattle.{mg_disk.specs.Disk.Image, mg_model.specs.{Domains.with_thread, State.{Thread, ThreadRow}}, mg_volume.proofs.Found.as_thread}
+use Rattle.mg_volume.{proofs.ObjectLists.{change-none, distinct_map}, specs.{Held.VolumeHeld, Meaning.{now_of, threads_in}, RowLists.DistinctBy}}
+use Rattle.{mg_volume.specs.{Staging.threads_with, StateLemmas.now_threads}, std.proofs.{Common.{refl, arith}, lemmas.Bool.eqb-true}}
+use Rattle.std.specs.{List.list_any, Prelude.{◌≡◌, ◌≢◌, ◌==◌, ℕ, Bool, true, false, All, List, [], ◌∷◌, find, if◌then◌else◌, map, IfSome}}
+use Rattle.std.specs.Prelude.{MatchOption, Option, Some, None}
 
 -- no two threads of a volume have one number
 pub numbers_apart : (v : VolumeHeld) → DistinctBy (λ (t : ℕ × ThreadRow). t.0) v.threads → DistinctBy (λ (thread : Thread). thread.number) (threads_in v)

@@ -1,17 +1,9 @@
 -- Threads with their numbers, as a list.
-use Rattle.mg_volume.proofs.ObjectRemoved.{filter_mapped}
-use Rattle.std.proofs.lemmas.Bool.Decides.{nat_tests}
-use Rattle.std.specs.Prelude.{◌≡◌, ◌+◌, ◌<◌, ◌==◌, ◌||◌, ℕ, false, not, List, [], ◌∷◌, filter, if◌then◌else◌, map, Option, Some, None}
-use Rattle.std.specs.List.{list_any}
-use Rattle.std.proofs.Common.{refl, sym, ap, ⊎_elim, arith}
-use Rattle.std.proofs.lemmas.Bool.{cases_eq, cases_lt}
-use Rattle.mg_model.specs.State.{Thread, ThreadRow}
-use Rattle.mg_model.specs.Threads.{with_new_thread}
-use Rattle.mg_model.specs.Abbreviations.{with_live}
-use Rattle.mg_volume.proofs.Found.{as_thread}
-use Rattle.mg_volume.specs.RowLists.{ArePlaced, placed_wider, row_set}
-use Rattle.mg_volume.specs.Staging.{threads_with}
-use Rattle.mg_volume.specs.Numbered.{has_number, into_number, numbered, rows_with}
+use Rattle.{mg_model.specs.{Abbreviations.with_live, State.{Thread, ThreadRow}, Threads.with_new_thread}, mg_volume.proofs.Found.as_thread}
+use Rattle.mg_volume.{proofs.ObjectRemoved.filter_mapped, specs.{Numbered.{has_number, into_number, numbered, rows_with}, RowLists.ArePlaced}}
+use Rattle.{mg_volume.specs.{RowLists.{placed_wider, row_set}, Staging.threads_with}, std.proofs.Common.{refl, sym, ap, ⊎_elim, arith}}
+use Rattle.std.{proofs.lemmas.Bool.{cases_eq, cases_lt, Decides.nat_tests}, specs.{List.list_any, Prelude.{◌≡◌, ◌+◌, ◌<◌, ◌==◌, ◌||◌, ℕ, false, not}}}
+use Rattle.std.specs.Prelude.{List, [], ◌∷◌, filter, if◌then◌else◌, map, Option, Some, None}
 
 -- as threads of the machine
 pub any-mapped : (t : ℕ) (rows : List (ℕ × ThreadRow)) → has_number t rows ≡ list_any (λ (thread : Thread). thread.number == t) (map as_thread rows)

@@ -1,24 +1,11 @@
 -- A thread moves elsewhere, and the words of its block that was staged.
-use Rattle.std.specs.Prelude.{◌≡◌, ◌+◌, ◌-◌, ◌≤◌, ◌==◌, ℕ, List, find, option_map, IfSome, Option, Some, None}
-use Rattle.std.proofs.Common.{refl, sym, ap, ◌∙◌, arith}
-use Rattle.std.proofs.lemmas.Option.{same_Some}
-use Rattle.mg_disk.specs.Disk.{Image, block_at}
-use Rattle.mg_model.specs.Abbreviations.{thread_row_bytes}
-use Rattle.mg_model.specs.Layout.{first_thread_block}
-use Rattle.mg_model.specs.Limits.{thread_limit}
-use Rattle.mg_model.specs.Ranges.{IsThreadRow}
-use Rattle.mg_model.specs.Replay.{block_of}
-use Rattle.mg_model.specs.Spelling.{Read, thread_bytes, thread_read}
-use Rattle.mg_model.specs.State.{Thread, ThreadRow}
-use Rattle.mg_pages.specs.declared.pages.Pages.{Pages}
+use Rattle.{mg_disk.specs.Disk.{Image, block_at}, mg_model.specs.{Abbreviations.thread_row_bytes, Layout.first_thread_block, Limits.thread_limit}}
+use Rattle.mg_model.specs.{Ranges.IsThreadRow, Replay.block_of, Spelling.{Read, thread_bytes, thread_read}, State.{Thread, ThreadRow}}
+use Rattle.{mg_pages.specs.declared.pages.Pages.Pages, mg_rows.specs.Laws.{IsSpelledInOneWay, live}, mg_volume.proofs.ByNumber.find-number}
+use Rattle.{mg_volume.specs.{Held.VolumeHeld, Meaning.Spelled, Numbered.numbered, RowLists.{row_at, told}, Standing.Respells}, std.proofs.Common.refl}
+use Rattle.std.{proofs.{Common.{sym, ap, ◌∙◌, arith}, lemmas.Option.same_Some}, specs.Prelude.{◌≡◌, ◌+◌, ◌-◌, ◌≤◌, ◌==◌, ℕ, List, find, option_map}}
+use Rattle.std.specs.Prelude.{IfSome, Option, Some, None}
 use Rattle.mg_pages.specs.Meaning as pages
-use Rattle.mg_rows.specs.Laws.{IsSpelledInOneWay, live}
-use Rattle.mg_volume.proofs.ByNumber.{find-number}
-use Rattle.mg_volume.specs.Held.{VolumeHeld}
-use Rattle.mg_volume.specs.Meaning.{Spelled}
-use Rattle.mg_volume.specs.Numbered.{numbered}
-use Rattle.mg_volume.specs.RowLists.{row_at, told}
-use Rattle.mg_volume.specs.Standing.{Respells}
 
 -- a row that is found has a thread
 pub unmapped : (o : Option Thread) → option_map (λ (thread : Thread). thread.row) o ≡ None → o ≡ None

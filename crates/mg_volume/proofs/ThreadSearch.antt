@@ -1,21 +1,11 @@
 -- What a search among threads finds, by what is said of each place.
-use Rattle.std.proofs.lemmas.Bool.Decides.{nat_tests}
-use Rattle.std.specs.Prelude.{◌≡◌, ◌+◌, ◌≤◌, ◌<◌, ◌&&◌, ◌==◌, nat_lt, ℕ, zero, suc, Bool, true, false, not, List, [], ◌∷◌, drop, find, if◌then◌else◌, length, map, option_map, replicate, slice_index, slice_set, Option, Some, None}
-use Rattle.std.specs.List.{position, position_or_len}
-use Rattle.std.specs.Option.{ForSome}
-use Rattle.std.proofs.Common.{refl, sym, ap, ◌∙◌, arith}
-use Rattle.std.proofs.lemmas.Bool.{eq-eqb, false_from_ne_true, le-ltb, lt-ltb, ne_eqb}
-use Rattle.std.proofs.lemmas.List.{map-set, length-map}
-use Rattle.std.proofs.lemmas.List.Sums.{position_or_len_is}
-use Rattle.memchr.specs.Find.{IsFirstByte}
-use Rattle.mg_model.specs.Ranges.{IsThreadRow}
-use Rattle.mg_model.specs.State.{ThreadRow}
-use Rattle.mg_model.specs.Threads.{free_number_from}
-use Rattle.mg_model.specs.Turn.{is_ready}
-use Rattle.mg_objects.specs.Held.{live_from}
-use Rattle.mg_volume.proofs.ByNumber.{live-placed, none_held, put_held}
-use Rattle.mg_volume.specs.Numbered.{AreListed, IsFreeNumber, has_number, is_taken, numbered, threads_of, turn_mark}
-use Rattle.mg_volume.specs.RowLists.{ArePlaced}
+use Rattle.{memchr.specs.Find.IsFirstByte, mg_model.specs.{Ranges.IsThreadRow, State.ThreadRow, Threads.free_number_from, Turn.is_ready}}
+use Rattle.{mg_objects.specs.Held.live_from, mg_volume.{proofs.ByNumber.{live-placed, none_held, put_held}, specs.Numbered.{AreListed, IsFreeNumber}}}
+use Rattle.{mg_volume.specs.{Numbered.{has_number, is_taken, numbered, threads_of, turn_mark}, RowLists.ArePlaced}, std.proofs.Common.{refl, sym, ap}}
+use Rattle.std.proofs.{Common.{◌∙◌, arith}, lemmas.{Bool.{eq-eqb, false_from_ne_true, le-ltb, lt-ltb, ne_eqb, Decides.nat_tests}, List.map-set}}
+use Rattle.std.{proofs.lemmas.List.{length-map, Sums.position_or_len_is}, specs.{List.{position, position_or_len}, Option.ForSome, Prelude.◌≡◌}}
+use Rattle.std.specs.Prelude.{◌+◌, ◌≤◌, ◌<◌, ◌&&◌, ◌==◌, nat_lt, ℕ, zero, suc, Bool, true, false, not, List, [], ◌∷◌, drop, find, if◌then◌else◌}
+use Rattle.std.specs.Prelude.{length, map, option_map, replicate, slice_index, slice_set, Option, Some, None}
 
 -- no number below the first
 free-front : (n low high : ℕ) (xs : List (ℕ × ThreadRow)) → ArePlaced low high xs → n ≤ low → free_number_from n (threads_of (numbered xs)) ≡ n

@@ -1,26 +1,12 @@
 -- A thread is staged, and the state has its row.
-use Rattle.mg_pages.specs.Meaning.{StagesBlock}
-use Rattle.mg_volume.specs.Changes.{Changes}
-use Rattle.mg_volume.proofs.Stages.{same_changes}
-use Rattle.mg_volume.proofs.Staged.{accounts_stay, block_there, but_block, but_one, counters_stay, objects_stay, staged_objects}
-use Rattle.std.specs.Prelude.{◌≡◌, ◌+◌, ◌-◌, ◌≤◌, ℕ, List, map, Option, Some}
-use Rattle.std.proofs.Common.{sym, ap, ◌∙◌, arith, inl, inr, refl}
-use Rattle.mg_disk.specs.Disk.{Image}
-use Rattle.mg_model.specs.Abbreviations.{thread_row_bytes}
-use Rattle.mg_model.specs.Layout.{first_thread_block}
-use Rattle.mg_model.specs.Limits.{thread_limit}
-use Rattle.mg_model.specs.Replay.{block_of}
-use Rattle.mg_model.specs.Spelling.{thread_read}
-use Rattle.mg_model.specs.State.{ThreadRow}
-use Rattle.mg_pages.specs.declared.pages.Pages.{Pages}
+use Rattle.{mg_disk.specs.Disk.Image, mg_model.specs.{Abbreviations.thread_row_bytes, Layout.first_thread_block, Limits.thread_limit}}
+use Rattle.{mg_model.specs.{Replay.block_of, Spelling.thread_read, State.ThreadRow}, mg_pages.specs.{Meaning.StagesBlock, declared.pages.Pages.Pages}}
+use Rattle.mg_volume.proofs.{Found.as_thread, Staged.{accounts_stay, block_there, but_block, but_one, counters_stay, objects_stay, staged_objects}}
+use Rattle.mg_volume.{proofs.{Stages.same_changes, ThreadLists.{numbered_set, threads_mapped}}, specs.{Changes.Changes, Held.VolumeHeld}}
+use Rattle.mg_volume.specs.{Meaning.{IsSpelledBy, Spelled, now_of, threads_in}, Numbered.{numbered, rows_with}, RowLists.{row_set, told, told_set}}
+use Rattle.{mg_volume.specs.Staging.threads_with, std.{proofs.Common.{sym, ap, ◌∙◌, arith, inl, inr, refl}, specs.Prelude.{◌≡◌, ◌+◌, ◌-◌, ◌≤◌, ℕ}}}
+use Rattle.std.specs.Prelude.{List, map, Option, Some}
 use Rattle.mg_pages.specs.Meaning as pages
-use Rattle.mg_volume.proofs.Found.{as_thread}
-use Rattle.mg_volume.specs.RowLists.{row_set, told, told_set}
-use Rattle.mg_volume.proofs.ThreadLists.{numbered_set, threads_mapped}
-use Rattle.mg_volume.specs.Held.{VolumeHeld}
-use Rattle.mg_volume.specs.Meaning.{IsSpelledBy, Spelled, now_of, threads_in}
-use Rattle.mg_volume.specs.Staging.{threads_with}
-use Rattle.mg_volume.specs.Numbered.{numbered, rows_with}
 
 abbrev pub with_threads : VolumeHeld → List (ℕ × ThreadRow) → Pages → VolumeHeld
 with_threads v rows p = record v { threads = rows; pages = p }

@@ -1,20 +1,9 @@
 -- A search among the threads that are held is one among those of the state.
-use Rattle.std.specs.Prelude.{◌≡◌, ◌≤◌, ◌<◌, ◌&&◌, nat_lt, ℕ, false, find, length, map, MatchOption, Option, Some, None, option_map}
-use Rattle.std.specs.Option.{option_or}
-use Rattle.std.proofs.Common.{refl, sym, ap, ◌∙◌, arith}
-use Rattle.std.proofs.lemmas.List.{length-map}
-use Rattle.mg_disk.specs.Disk.{Image}
-use Rattle.mg_model.specs.Abbreviations.{free_number}
-use Rattle.mg_model.specs.State.{Thread, ThreadRow}
-use Rattle.mg_model.specs.Turn.{is_ready, picked, ready_above}
-use Rattle.mg_volume.proofs.Found.{as_thread, find-mapped}
-use Rattle.mg_volume.proofs.ThreadLists.{any-mapped}
-use Rattle.mg_volume.proofs.ThreadSearch.{takes_turn}
-use Rattle.mg_volume.specs.Held.{VolumeHeld}
-use Rattle.mg_volume.specs.StateLemmas.{now_counters, now_threads}
-use Rattle.mg_volume.specs.Meaning.{counters_in, now_of, threads_in}
-use Rattle.mg_volume.specs.Numbered.{IsFreeNumber}
-use Rattle.mg_volume.specs.Staging.{lives}
+use Rattle.{mg_disk.specs.Disk.Image, mg_model.specs.{Abbreviations.free_number, State.{Thread, ThreadRow}, Turn.{is_ready, picked, ready_above}}}
+use Rattle.mg_volume.{proofs.{Found.{as_thread, find-mapped}, ThreadLists.any-mapped, ThreadSearch.takes_turn}, specs.Held.VolumeHeld}
+use Rattle.mg_volume.specs.{Meaning.{counters_in, now_of, threads_in}, Numbered.IsFreeNumber, Staging.lives, StateLemmas.{now_counters, now_threads}}
+use Rattle.std.{proofs.{Common.{refl, sym, ap, ◌∙◌, arith}, lemmas.List.length-map}, specs.{Option.option_or, Prelude.{◌≡◌, ◌≤◌, ◌<◌, ◌&&◌, nat_lt}}}
+use Rattle.std.specs.Prelude.{ℕ, false, find, length, map, MatchOption, Option, Some, None, option_map}
 
 pub free_held : (v : VolumeHeld) (found : Option ℕ) → IsFreeNumber v.threads found
     → MatchOption found (256 ≤ length (threads_in v)) (λ n. (length (threads_in v) < 256) × (n ≡ free_number (threads_in v)) × (lives v n ≡ false))

@@ -1,21 +1,11 @@
 -- Words for what a call does to a volume, and for what it replies.
-use Rattle.std.specs.Prelude.{◌≡◌, ◌+◌, ◌≤◌, ℕ, true, Option}
-use Rattle.std.specs.Option.{ForSome}
-use Rattle.mg_disk.specs.Disk.{Image}
-use Rattle.mg_disk.specs.Stops.{CountGoes, WritesNothing}
-use Rattle.mg_disk.specs.declared.disk.Disk.{Ghosts}
-use Rattle.mg_model.specs.declared.replies.Reply.{Reply}
-use Rattle.mg_model.specs.declared.rights.Right.{Right}
-use Rattle.mg_model.specs.Access.{allowed}
-use Rattle.mg_model.specs.Counts.{CountsAlike}
-use Rattle.mg_model.specs.FewSlots.{HasFewSlots}
-use Rattle.mg_model.specs.ObjectCalls.{row_at}
-use Rattle.mg_model.specs.Refused.{Answer, IsRefusal}
-use Rattle.mg_model.specs.State.{ObjectRow, State}
-use Rattle.mg_model.specs.WellFormed.{IsWellFormed}
-use Rattle.mg_volume.specs.Held.{VolumeHeld}
-use Rattle.mg_volume.specs.Meaning.{IsSpelledBy, Keeps, SameRows, SameShape, StandsOn, is_live, is_sound, now_of, objects_in, staged_of, words_in}
-use Rattle.mg_volume.specs.Staging.{ObjectsStillStaged, StillStaged}
+use Rattle.std.specs.{Option.ForSome, Prelude.{◌≡◌, ◌+◌, ◌≤◌, ℕ, true, Option}}
+use Rattle.mg_disk.specs.{Disk.Image, Stops.{CountGoes, WritesNothing}, declared.disk.Disk.Ghosts}
+use Rattle.mg_model.specs.{Access.allowed, Counts.CountsAlike, FewSlots.HasFewSlots, ObjectCalls.row_at, Refused.Answer}
+use Rattle.mg_model.specs.{Refused.IsRefusal, State.{ObjectRow, State}, WellFormed.IsWellFormed}
+use Rattle.{mg_model.specs.declared.{replies.Reply.Reply, rights.Right.Right}, mg_volume.specs.Held.VolumeHeld}
+use Rattle.mg_volume.specs.Meaning.{IsSpelledBy, Keeps, SameRows, SameShape, StandsOn, is_live, is_sound, now_of}
+use Rattle.mg_volume.specs.{Meaning.{objects_in, staged_of, words_in}, Staging.{ObjectsStillStaged, StillStaged}}
 
 -- At most `most` blocks more are staged, and none fewer, without the disk: the volume is spelled where it was, and what waited
 -- waits still.

@@ -1,13 +1,8 @@
 -- What a call that stages leaves of a volume.
 use Rattle.std.specs.Prelude.{◌≡◌, ℕ, List}
-use Rattle.mg_disk.specs.Disk.{Image}
-use Rattle.mg_model.specs.declared.accounts.AccRow.{AccRow}
-use Rattle.mg_model.specs.Bank.{rent_accounts, rent_paid}
-use Rattle.mg_model.specs.State.{ObjectRow, State}
-use Rattle.mg_volume.specs.Calls.{Stages}
-use Rattle.mg_volume.specs.Held.{VolumeHeld}
-use Rattle.mg_volume.specs.Meaning.{now_of, objects_in}
-use Rattle.mg_volume.specs.Staging.{ObjectsStillStaged}
+use Rattle.{mg_disk.specs.Disk.Image, mg_model.specs.{Bank.{rent_accounts, rent_paid}, State.{ObjectRow, State}}}
+use Rattle.{mg_model.specs.declared.accounts.AccRow.AccRow, mg_volume.specs.{Calls.Stages, Held.VolumeHeld}}
+use Rattle.mg_volume.specs.{Meaning.{now_of, objects_in}, Staging.ObjectsStillStaged}
 
 -- at most `most` blocks more are staged; the state and the objects' rows are what these changes make of them
 pub record Changes (most : ℕ) (change : State → State) (of_rows : List ObjectRow → List ObjectRow) (old new : VolumeHeld) : Type 0 where

@@ -1,24 +1,20 @@
 -- What the volume of an image rests on once its journal is replayed: the blocks after the journal, and the first two.
-use Rattle.std.specs.Prelude.{◌≡◌, ℕ, zero, suc, ◌+◌, ◌/◌, ◌%◌, ◌<◌, ◌≤◌, ◌==◌, ◌&&◌, nat_le, Bool, true, List, [], ◌∷◌, ◌++◌, if◌then◌else◌, length, replicate, slice_index, Option, Some, None, position}
-use Rattle.std.specs.Option.{option_map_or}
-use Rattle.std.proofs.Common.{refl, sym, ap, subst, ◌∙◌, arith}
-use Rattle.std.proofs.lemmas.Bool.{and_parts, eqb-true, le-leb, leb-true}
-use Rattle.std.proofs.lemmas.Bool.Decides.{nat_tests}
-use Rattle.mg_disk.specs.Disk.{Image, SameBut, SeenBut}
-use Rattle.mg_journal.specs.Contents.{InJournal, SameContents}
-use Rattle.mg_model.specs.Abbreviations.{account_row_bytes, fitting, object_row_bytes, pages_words, table_entries, thread_row_bytes, whole_table}
-use Rattle.mg_model.specs.Bytes.{block_words}
-use Rattle.mg_model.specs.Layout.{first_account_block, first_frame, first_object_block, first_thread_block, gate_block, gate_open, globals_block, super_block, table_block, table_blocks, total_blocks}
-use Rattle.mg_model.specs.Limits.{account_limit, thread_limit, object_limit}
-use Rattle.mg_model.specs.Objects.{page_of, with_object}
-use Rattle.mg_model.specs.Replay.{block_of, replay}
-use Rattle.mg_model.specs.Settings.{Settings}
-use Rattle.mg_model.specs.Spelling.{Spells, account_read, globals_read, object_read, super_read, thread_read}
-use Rattle.mg_model.specs.State.{ObjectRow}
-use Rattle.mg_model.specs.Volume.{Damaged, Rows, has_open_gate, live_rows, objects_spelled, page_words, replayed_volume, rows_of, state_spelled, volume, volume_behind, IsOpened, gate_byte}
+use Rattle.std.proofs.{Common.{refl, sym, ap, subst, ◌∙◌, arith}, lemmas.Bool.{and_parts, eqb-true, le-leb, leb-true}}
+use Rattle.std.{proofs.lemmas.Bool.Decides.nat_tests, specs.{Option.option_map_or, Prelude.{◌≡◌, ℕ, zero, suc, ◌+◌}}}
+use Rattle.std.specs.Prelude.{◌/◌, ◌%◌, ◌<◌, ◌≤◌, ◌==◌, ◌&&◌, nat_le, Bool, true, List, [], ◌∷◌, ◌++◌, if◌then◌else◌}
+use Rattle.std.specs.Prelude.{length, replicate, slice_index, Option, Some, None, position}
+use Rattle.{mg_disk.specs.Disk.{Image, SameBut, SeenBut}, mg_journal.specs.Contents.{InJournal, SameContents}}
+use Rattle.mg_model.specs.Abbreviations.{account_row_bytes, fitting, object_row_bytes, pages_words, table_entries}
+use Rattle.mg_model.specs.{Abbreviations.{thread_row_bytes, whole_table}, Bytes.block_words, Layout.first_account_block}
+use Rattle.mg_model.specs.Layout.{first_frame, first_object_block, first_thread_block, gate_block, gate_open}
+use Rattle.mg_model.specs.Layout.{globals_block, super_block, table_block, table_blocks, total_blocks}
+use Rattle.mg_model.specs.{Limits.{account_limit, thread_limit, object_limit}, Objects.{page_of, with_object}}
+use Rattle.mg_model.specs.{Replay.{block_of, replay}, Settings.Settings, Spelling.{Spells, account_read, globals_read}}
+use Rattle.mg_model.specs.{Spelling.{object_read, super_read, thread_read}, State.ObjectRow, Volume.{Damaged, Rows}}
+use Rattle.mg_model.specs.Volume.{has_open_gate, live_rows, objects_spelled, page_words, replayed_volume, rows_of}
+use Rattle.mg_model.specs.Volume.{state_spelled, volume, volume_behind, IsOpened, gate_byte}
 use Rattle.mg_model.specs.VolumeLemmas.{live_rows-same, rows_from, state_with, table_short, volume-opened}
-use Rattle.mg_pages.specs.ComingLemmas.{length_replay, replay_low}
-use Rattle.mg_pages.specs.Committing.{HasContents}
+use Rattle.mg_pages.specs.{ComingLemmas.{length_replay, replay_low}, Committing.HasContents}
 use Rattle.mg_rows.specs.Blocks.{account_in, object_in}
 
 -- two images with the same blocks after the journal and below n

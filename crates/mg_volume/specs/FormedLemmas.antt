@@ -1,19 +1,14 @@
 -- A well-formed state is sound, so it may be committed.
-use Rattle.std.specs.Prelude.{◌≡◌, ◌≢◌, ◌*◌, ◌^◌, ◌≤◌, ◌<◌, ◌==◌, ◌&&◌, nat_le, ℕ, Bool, true, false, not, All, AllPairs, List, [], ◌∷◌, find, if◌then◌else◌, length, map, sum_by, Some, None}
-use Rattle.std.specs.List.{list_all, list_any}
-use Rattle.std.specs.Option.{option_map_or}
-use Rattle.std.proofs.Common.{refl, sym, ap, ◌∙◌, ⊎_elim, arith}
-use Rattle.std.proofs.lemmas.Bool.{and_from, cases_eq, eq-eqb, le-leb, ne_eqb, not_from_false, or_from}
-use Rattle.std.proofs.lemmas.List.Elements.{All-head, All-tail}
-use Rattle.mg_model.specs.declared.accounts.AccRow.{AccRow}
-use Rattle.mg_model.specs.Bank.{used}
-use Rattle.mg_model.specs.KeptListLemmas.{AllPairs-head, AllPairs-tail}
-use Rattle.mg_model.specs.Objects.{page_behind, page_of}
-use Rattle.mg_model.specs.State.{Object, State, Thread, ThreadRow}
-use Rattle.mg_model.specs.Tests.{all_distinct}
-use Rattle.mg_model.specs.Volume.{accounts_fit, are_apart, begins_with_first, objects_fit, threads_fit}
-use Rattle.mg_model.specs.WellFormed.{AreAccounts, AreObjects, AreThreads, IsAccount, IsBefore, IsFirst, IsThread, IsWellFormed}
-use Rattle.mg_volume.specs.Meaning.{is_sound}
+use Rattle.std.proofs.{Common.{refl, sym, ap, ◌∙◌, ⊎_elim, arith}, lemmas.Bool.{and_from, cases_eq, eq-eqb, le-leb}}
+use Rattle.std.proofs.lemmas.{Bool.{ne_eqb, not_from_false, or_from}, List.Elements.{All-head, All-tail}}
+use Rattle.std.specs.{List.{list_all, list_any}, Option.option_map_or, Prelude.{◌≡◌, ◌≢◌, ◌*◌, ◌^◌, ◌≤◌, ◌<◌, ◌==◌}}
+use Rattle.std.specs.Prelude.{◌&&◌, nat_le, ℕ, Bool, true, false, not, All, AllPairs, List, [], ◌∷◌, find}
+use Rattle.std.specs.Prelude.{if◌then◌else◌, length, map, sum_by, Some, None}
+use Rattle.mg_model.specs.{Bank.used, KeptListLemmas.{AllPairs-head, AllPairs-tail}, Objects.{page_behind, page_of}}
+use Rattle.mg_model.specs.{State.{Object, State, Thread, ThreadRow}, Tests.all_distinct, Volume.accounts_fit}
+use Rattle.mg_model.specs.{Volume.{are_apart, begins_with_first, objects_fit, threads_fit}, WellFormed.AreAccounts}
+use Rattle.mg_model.specs.WellFormed.{AreObjects, AreThreads, IsAccount, IsBefore, IsFirst, IsThread, IsWellFormed}
+use Rattle.{mg_model.specs.declared.accounts.AccRow.AccRow, mg_volume.specs.Meaning.is_sound}
 
 all-pass : {X : Type 0} (test : X → Bool) (P : X → Type 0) → ((x : X) → P x → test x ≡ true) → (xs : List X) → All P xs → list_all test xs ≡ true
 all-pass test P tells [] all = refl

@@ -1,8 +1,6 @@
 -- What a volume holds in memory.
 use Rattle.std.specs.Prelude.{ℕ, List}
-use Rattle.mg_model.specs.declared.accounts.AccRow.{AccRow}
-use Rattle.mg_model.specs.Settings.{Settings}
-use Rattle.mg_model.specs.State.{Counters, ObjectRow, ThreadRow}
+use Rattle.mg_model.specs.{Settings.Settings, State.{Counters, ObjectRow, ThreadRow}, declared.accounts.AccRow.AccRow}
 use Rattle.mg_pages.specs.declared.pages.Pages.{Pages}
 
 -- the settings, the counters, the objects in the order of their bases, each with the place of its row, the accounts, the

@@ -1,27 +1,16 @@
 -- What a volume is, as functions of the value and an image. The layers above see these words by their names.
-use Rattle.std.specs.Prelude.{◌≡◌, ◌+◌, ◌≤◌, ◌<◌, ◌&&◌, nat_le, nat_lt, ℕ, Bool, true, List, [], ◌∷◌, Some, find, length, map, sum_by, All, IsTrue}
-use Rattle.std.specs.List.{list_all, list_any}
-use Rattle.std.specs.Option.{ForSome}
-use Rattle.mg_rules.specs.RowsRead.{placed_from}
-use Rattle.mg_disk.specs.Disk.{Image}
-use Rattle.mg_disk.specs.Stops.{NothingPending}
-use Rattle.mg_disk.specs.declared.disk.Disk.{Ghosts}
-use Rattle.mg_model.specs.declared.accounts.AccRow.{AccRow}
-use Rattle.mg_model.specs.Access.{covers}
-use Rattle.mg_model.specs.Abbreviations.{account_row_bytes, object_row_bytes, thread_row_bytes}
-use Rattle.mg_model.specs.Layout.{globals_block, super_block}
-use Rattle.mg_model.specs.Limits.{account_limit, thread_limit, object_limit}
-use Rattle.mg_model.specs.Objects.{page_behind, page_of}
-use Rattle.mg_model.specs.Replay.{block_of}
-use Rattle.mg_model.specs.Settings.{Settings}
-use Rattle.mg_model.specs.Ranges.{IsObjectRow}
+use Rattle.std.specs.{List.{list_all, list_any}, Option.ForSome, Prelude.{◌≡◌, ◌+◌, ◌≤◌, ◌<◌, ◌&&◌, nat_le, nat_lt, ℕ}}
+use Rattle.std.specs.Prelude.{Bool, true, List, [], ◌∷◌, Some, find, length, map, sum_by, All, IsTrue}
+use Rattle.mg_disk.specs.{Disk.Image, Stops.NothingPending, declared.disk.Disk.Ghosts}
+use Rattle.mg_model.specs.{Abbreviations.{account_row_bytes, object_row_bytes, thread_row_bytes}, Access.covers}
+use Rattle.mg_model.specs.{Layout.{globals_block, super_block}, Limits.{account_limit, thread_limit, object_limit}}
+use Rattle.mg_model.specs.{Objects.{page_behind, page_of}, Ranges.IsObjectRow, Replay.block_of, Settings.Settings}
 use Rattle.mg_model.specs.Spelling.{Spells, account_read, globals_read, object_read, super_read, thread_read}
-use Rattle.mg_model.specs.State.{Counters, ObjectRow, State, Thread, ThreadRow}
-use Rattle.mg_model.specs.Volume.{Is, accounts_fit, bound_pages, has_open_gate, live_rows, object_spelled, objects_fit, threads_fit, volume}
-use Rattle.mg_objects.specs.Held.{by_base}
+use Rattle.mg_model.specs.{State.{Counters, ObjectRow, State, Thread, ThreadRow}, Volume.{Is, accounts_fit}}
+use Rattle.mg_model.specs.Volume.{bound_pages, has_open_gate, live_rows, object_spelled, objects_fit, threads_fit}
+use Rattle.{mg_model.specs.{Volume.volume, declared.accounts.AccRow.AccRow}, mg_objects.specs.Held.by_base}
+use Rattle.{mg_rules.specs.RowsRead.placed_from, mg_space.specs.Space.ArePaid, mg_volume.specs.Held.VolumeHeld}
 use Rattle.mg_pages.specs.Meaning as pages
-use Rattle.mg_space.specs.Space.{ArePaid}
-use Rattle.mg_volume.specs.Held.{VolumeHeld}
 
 -- the parts of the state that do not lie in pages
 unfoldable pub settings_in : VolumeHeld → Settings

@@ -1,11 +1,8 @@
 -- The rows of threads with their numbers, as they are held, and how they change.
-use Rattle.std.specs.Prelude.{◌≡◌, ◌+◌, ◌≤◌, ◌<◌, ◌==◌, MatchOption, nat_lt, ℕ, Bool, false, not, All, List, [], ◌∷◌, filter, if◌then◌else◌, length, map, is_some, Option, Some, None}
-use Rattle.std.specs.List.{list_any}
-use Rattle.std.specs.Option.{ForSome, option_map_or}
-use Rattle.mg_model.specs.Abbreviations.{free_number}
-use Rattle.mg_model.specs.Ranges.{IsThreadRow}
-use Rattle.mg_model.specs.State.{Thread, ThreadRow}
-use Rattle.mg_model.specs.Turn.{is_ready}
+use Rattle.std.specs.{List.list_any, Option.{ForSome, option_map_or}, Prelude.{◌≡◌, ◌+◌, ◌≤◌, ◌<◌, ◌==◌, MatchOption}}
+use Rattle.std.specs.Prelude.{nat_lt, ℕ, Bool, false, not, All, List, [], ◌∷◌, filter, if◌then◌else◌, length, map}
+use Rattle.std.specs.Prelude.{is_some, Option, Some, None}
+use Rattle.mg_model.specs.{Abbreviations.free_number, Ranges.IsThreadRow, State.{Thread, ThreadRow}, Turn.is_ready}
 
 -- before the first larger number
 abbrev pub into_number : ℕ × ThreadRow → List (ℕ × ThreadRow) → List (ℕ × ThreadRow)

@@ -1,16 +1,9 @@
 -- What an opening and a commit give, and what an opening leaves alone.
-use Rattle.std.specs.Prelude.{◌≡◌, ◌≢◌, IsTrue, Err, Option, Result, Some, true}
-use Rattle.std.specs.Option.{ForSome}
-use Rattle.mg_check.specs.declared.examining.OpenFault.{OpenFault}
-use Rattle.mg_check.specs.declared.examining.OpenFault.TheVariants.{Damaged, Not, Old}
-use Rattle.mg_disk.specs.Disk.{Image}
-use Rattle.mg_disk.specs.Stops.{WritesNothing}
-use Rattle.mg_disk.specs.declared.disk.Disk.{Ghosts}
-use Rattle.mg_layout.specs.MayFormat.{IsNoState}
-use Rattle.mg_model.specs.State.{State}
-use Rattle.mg_model.specs.Volume.{Is, VolumeRead, volume}
-use Rattle.mg_volume.specs.Held.{VolumeHeld}
-use Rattle.mg_volume.specs.Meaning.{StandsOn, is_live, is_sound, now_of, staged_of}
+use Rattle.std.specs.{Option.ForSome, Prelude.{◌≡◌, ◌≢◌, IsTrue, Err, Option, Result, Some, true}}
+use Rattle.mg_check.specs.declared.examining.OpenFault.{OpenFault, TheVariants.{Damaged, Not, Old}}
+use Rattle.mg_disk.specs.{Disk.Image, Stops.WritesNothing, declared.disk.Disk.Ghosts}
+use Rattle.{mg_layout.specs.MayFormat.IsNoState, mg_model.specs.{State.State, Volume.{Is, VolumeRead, volume}}}
+use Rattle.mg_volume.specs.{Held.VolumeHeld, Meaning.{StandsOn, is_live, is_sound, now_of, staged_of}}
 
 -- reads give an image that spells this state, and it is the volume's
 pub record Holds (state : State) (v : VolumeHeld) (told : Option Image) : Type 0 where

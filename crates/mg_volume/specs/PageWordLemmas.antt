@@ -1,22 +1,14 @@
 -- The words of an object are those of its pages.
-use Rattle.std.specs.Prelude.{◌≡◌, ◌≢◌, ◌+◌, ◌-◌, ◌*◌, ◌/◌, ◌<◌, ◌≤◌, ◌&&◌, ◌||◌, nat_le, nat_lt, ℕ, zero, suc, true, false, List, [], ◌∷◌, ◌++◌, All, if◌then◌else◌, map, slice_index, slice_set, Some}
-use Rattle.std.specs.List.{list_any}
-use Rattle.std.specs.Option.{option_map_or}
-use Rattle.std.proofs.Common.{refl, sym, ap, ◌∙◌, ⊎_elim, arith}
-use Rattle.std.proofs.lemmas.Bool.{and_from, and_parts, both_ways, cases_Bool, cases_lt, le-leb, leb-true, lt-leb, lt-ltb, ltb-true, le-ltb}
+use Rattle.std.proofs.{Common.{refl, sym, ap, ◌∙◌, ⊎_elim, arith}, lemmas.Bool.{and_from, and_parts, both_ways}}
+use Rattle.std.proofs.lemmas.Bool.{cases_Bool, cases_lt, le-leb, leb-true, lt-leb, lt-ltb, ltb-true, le-ltb}
 use Rattle.std.proofs.lemmas.List.{get_or_append_left, get_or-append_right, set-append_left, set-append_right}
-use Rattle.std.proofs.lemmas.List.Elements.{All-head, All-tail}
-use Rattle.mg_disk.specs.Disk.{Image}
-use Rattle.mg_model.specs.Abbreviations.{pages_words, word_in}
-use Rattle.mg_model.specs.Access.{at, covers}
-use Rattle.mg_model.specs.Limits.{first_page}
-use Rattle.mg_model.specs.Objects.{page_behind, page_of, with_word, word_at}
-use Rattle.mg_model.specs.Ranges.{IsObjectRow}
-use Rattle.mg_model.specs.State.{ObjectRow}
-use Rattle.mg_model.specs.Volume.{object_spelled, page_words}
-use Rattle.mg_pages.specs.LengthLemmas.{length-page}
-use Rattle.mg_volume.specs.Meaning.{is_page_in}
-use Rattle.mg_volume.specs.Sound.{all_spelled}
+use Rattle.std.{proofs.lemmas.List.Elements.{All-head, All-tail}, specs.{List.list_any, Option.option_map_or}}
+use Rattle.std.specs.Prelude.{◌≡◌, ◌≢◌, ◌+◌, ◌-◌, ◌*◌, ◌/◌, ◌<◌, ◌≤◌, ◌&&◌, ◌||◌, nat_le, nat_lt, ℕ, zero, suc, true}
+use Rattle.std.specs.Prelude.{false, List, [], ◌∷◌, ◌++◌, All, if◌then◌else◌, map, slice_index, slice_set, Some}
+use Rattle.{mg_disk.specs.Disk.Image, mg_model.specs.{Abbreviations.{pages_words, word_in}, Access.{at, covers}}}
+use Rattle.mg_model.specs.{Limits.first_page, Objects.{page_behind, page_of, with_word, word_at}, Ranges.IsObjectRow}
+use Rattle.mg_model.specs.{State.ObjectRow, Volume.{object_spelled, page_words}}
+use Rattle.{mg_pages.specs.LengthLemmas.length-page, mg_volume.specs.{Meaning.is_page_in, Sound.all_spelled}}
 
 -- a word of one of the pages
 pub pages-at : (r : Image) (frames : ℕ) (table : List ℕ) (page n k i : ℕ) → k < n → i < 512 → slice_index (pages_words r frames table page n) (512 * k + i) ≡ slice_index (page_words r frames table (page + k)) i

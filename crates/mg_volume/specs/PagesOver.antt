@@ -1,17 +1,11 @@
 -- What was just made of the rows of a volume: its pages, and its lists.
 use Rattle.std.specs.Prelude.{◌≡◌, ◌≤◌, ℕ, List, Option, length, true}
-use Rattle.mg_bank.specs.Bank.{BankHeld}
-use Rattle.mg_disk.specs.Disk.{Image}
-use Rattle.mg_disk.specs.declared.disk.Disk.{Ghosts}
-use Rattle.mg_journal.specs.Held.{Store}
-use Rattle.mg_journal.specs.Standing as journal
-use Rattle.mg_model.specs.declared.accounts.AccRow.{AccRow}
-use Rattle.mg_model.specs.State.{ObjectRow, ThreadRow}
-use Rattle.mg_objects.specs.Held.{objects_in}
-use Rattle.mg_pages.specs.declared.pages.Pages.{Pages}
-use Rattle.mg_pages.specs.Meaning as pages
-use Rattle.mg_space.specs.Space.{ArePaid}
+use Rattle.{mg_bank.specs.Bank.BankHeld, mg_disk.specs.{Disk.Image, declared.disk.Disk.Ghosts}}
+use Rattle.{mg_journal.specs.Held.Store, mg_model.specs.{State.{ObjectRow, ThreadRow}, declared.accounts.AccRow.AccRow}}
+use Rattle.{mg_objects.specs.Held.objects_in, mg_pages.specs.declared.pages.Pages.Pages, mg_space.specs.Space.ArePaid}
 use Rattle.mg_volume.specs.Numbered.{numbered}
+use Rattle.mg_journal.specs.Standing as journal
+use Rattle.mg_pages.specs.Meaning as pages
 
 -- they have these entries of a frame table, nothing is staged, and their journal, of n blocks, stands on the disk as it is now
 pub record ArePagesOver {D : Type 0} (facts : Ghosts D) (store : Store) (entries : List ℕ) (n : ℕ) (p : Pages) (now : D) : Type 0 where

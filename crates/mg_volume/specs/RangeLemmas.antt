@@ -1,21 +1,13 @@
 -- The rows of objects that a volume holds keep their ranges, since a row is read only if it does.
-use Rattle.std.specs.Prelude.{◌≡◌, ℕ, zero, suc, ◌+◌, ◌&&◌, Bool, true, false, List, [], ◌∷◌, if◌then◌else◌, map, nat_lt, Option, Some, None}
-use Rattle.std.specs.List.{list_all}
-use Rattle.std.proofs.Common.{refl, ap, ◌∙◌, subst}
-use Rattle.std.proofs.lemmas.Bool.{and_from, and_parts}
-use Rattle.mg_disk.specs.Disk.{Image}
-use Rattle.mg_model.specs.Abbreviations.{object_row_bytes, with_live}
-use Rattle.mg_model.specs.Bytes.{are_zeros}
-use Rattle.mg_model.specs.Limits.{object_limit}
-use Rattle.mg_model.specs.Spelling.{Read, object_bytes, object_fields, object_read}
-use Rattle.mg_model.specs.State.{ObjectRow}
-use Rattle.mg_model.specs.Tests.{is_object_row}
-use Rattle.mg_model.specs.Volume.{live_rows}
-use Rattle.mg_model.specs.Words.{and_then, same_bytes}
+use Rattle.std.{proofs.{Common.{refl, ap, ◌∙◌, subst}, lemmas.Bool.{and_from, and_parts}}, specs.List.list_all}
+use Rattle.std.specs.Prelude.{◌≡◌, ℕ, zero, suc, ◌+◌, ◌&&◌, Bool, true, false, List, [], ◌∷◌, if◌then◌else◌, map}
+use Rattle.std.specs.Prelude.{nat_lt, Option, Some, None}
+use Rattle.{mg_disk.specs.Disk.Image, mg_model.specs.{Abbreviations.{object_row_bytes, with_live}, Bytes.are_zeros}}
+use Rattle.mg_model.specs.{Limits.object_limit, Spelling.{Read, object_bytes, object_fields, object_read}}
+use Rattle.mg_model.specs.{State.ObjectRow, Tests.is_object_row, Volume.live_rows, Words.{and_then, same_bytes}}
+use Rattle.{mg_objects.specs.Held.{by_base, into_place}, mg_volume.specs.{Held.VolumeHeld, Meaning.IsSpelledBy}}
+use Rattle.mg_volume.specs.Meaning.{objects_in}
 use Rattle.mg_pages.specs.Meaning as pages
-use Rattle.mg_volume.specs.Held.{VolumeHeld}
-use Rattle.mg_objects.specs.Held.{by_base, into_place}
-use Rattle.mg_volume.specs.Meaning.{IsSpelledBy, objects_in}
 
 and_then-some : {A B : Type 0} (o : Option A) (f : A → Option B) (b : B) → and_then o f ≡ Some b → (a : A) × (o ≡ Some a) × (f a ≡ Some b)
 and_then-some None f b h = cc

@@ -1,12 +1,8 @@
 -- Live rows with their places, as a list: what is at a place, and the list with another row there.
-use Rattle.std.proofs.lemmas.Bool.Decides.{nat_tests}
-use Rattle.std.specs.Prelude.{◌≡◌, ◌≢◌, ◌+◌, ◌≤◌, ◌<◌, ◌==◌, nat_lt, ℕ, zero, suc, All, List, [], ◌∷◌, if◌then◌else◌, Option, Some, None}
-use Rattle.std.proofs.Common.{refl, sym, ap, subst, ◌∙◌, ⊎_elim, arith}
-use Rattle.std.proofs.lemmas.Bool.{cases_eq, cases_lt, eq-eqb, le-ltb, lt-ltb, ne_eqb}
-use Rattle.mg_model.specs.Spelling.{Read}
-use Rattle.mg_model.specs.Abbreviations.{with_live}
-use Rattle.mg_model.specs.Volume.{live_rows}
-use Rattle.mg_model.specs.Words.{and_then}
+use Rattle.std.proofs.{Common.{refl, sym, ap, subst, ◌∙◌, ⊎_elim, arith}, lemmas.Bool.{cases_eq, cases_lt, eq-eqb}}
+use Rattle.std.{proofs.lemmas.Bool.{le-ltb, lt-ltb, ne_eqb, Decides.nat_tests}, specs.Prelude.{◌≡◌, ◌≢◌, ◌+◌, ◌≤◌, ◌<◌}}
+use Rattle.std.specs.Prelude.{◌==◌, nat_lt, ℕ, zero, suc, All, List, [], ◌∷◌, if◌then◌else◌, Option, Some, None}
+use Rattle.mg_model.specs.{Abbreviations.with_live, Spelling.Read, Volume.live_rows, Words.and_then}
 
 -- the row at a place
 abbrev pub row_at : {R : Type 0} → ℕ → List (ℕ × R) → Option R

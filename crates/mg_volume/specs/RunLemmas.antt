@@ -1,27 +1,14 @@
 -- Lemmas on what calls do to a volume: how runs of reads and stagings compose, and what is told after one.
+use Rattle.std.{proofs.{Common.{arith, refl, sym, ap, subst, ◌∙◌}, Math.Nat.mod-add-mod}, specs.Option.ForSome}
 use Rattle.std.specs.Prelude.{◌≡◌, ◌+◌, ◌%◌, ◌^◌, ◌≤◌, ◌==◌, ℕ, Bool, find, map, Option}
-use Rattle.std.specs.Option.{ForSome}
-use Rattle.std.proofs.Common.{arith, refl, sym, ap, subst, ◌∙◌}
-use Rattle.std.proofs.Math.Nat.{mod-add-mod}
-use Rattle.mg_disk.specs.Disk.{Image}
-use Rattle.mg_disk.specs.Runs.{nothing_none, nothing_then}
-use Rattle.mg_disk.specs.Stops.{CountGoes, WritesNothing}
-use Rattle.mg_disk.specs.declared.disk.Disk.{Ghosts}
-use Rattle.mg_faults.specs.Faults.{count_none, count_then}
-use Rattle.mg_model.specs.declared.replies.Refusal.{Refusal}
-use Rattle.mg_model.specs.declared.replies.Reply.{Reply}
-use Rattle.mg_model.specs.declared.replies.Reply.TheVariants.{No}
-use Rattle.mg_model.specs.Access.{thread_of}
-use Rattle.mg_model.specs.Counts.{CountsAlike}
-use Rattle.mg_model.specs.FewSlots.{HasFewSlots}
-use Rattle.mg_model.specs.Refused.{IsRefusal}
-use Rattle.mg_model.specs.State.{Counters, Object, ObjectRow, State, Thread}
-use Rattle.mg_model.specs.WellFormed.{IsWellFormed}
-use Rattle.mg_volume.specs.Calls.{CallStages, IsSoundOn, Reads, Serves, Stages}
-use Rattle.mg_volume.specs.Held.{VolumeHeld}
-use Rattle.mg_volume.specs.StateLemmas.{now_counters, now_rows, now_threads, staged_stands}
-use Rattle.mg_volume.specs.Meaning.{Keeps, SameShape, StandsOn, counters_in, now_of, objects_in, threads_in, words_in}
-use Rattle.mg_volume.specs.Staging.{StillStaged}
+use Rattle.mg_disk.specs.{Disk.Image, Runs.{nothing_none, nothing_then}, Stops.{CountGoes, WritesNothing}}
+use Rattle.{mg_disk.specs.declared.disk.Disk.Ghosts, mg_faults.specs.Faults.{count_none, count_then}}
+use Rattle.mg_model.specs.{Access.thread_of, Counts.CountsAlike, FewSlots.HasFewSlots, Refused.IsRefusal}
+use Rattle.mg_model.specs.{State.{Counters, Object, ObjectRow, State, Thread}, WellFormed.IsWellFormed}
+use Rattle.mg_model.specs.declared.replies.{Refusal.Refusal, Reply.{Reply, TheVariants.No}}
+use Rattle.mg_volume.specs.{Calls.{CallStages, IsSoundOn, Reads, Serves, Stages}, Held.VolumeHeld, Meaning.Keeps}
+use Rattle.mg_volume.specs.Meaning.{SameShape, StandsOn, counters_in, now_of, objects_in, threads_in, words_in}
+use Rattle.mg_volume.specs.{Staging.StillStaged, StateLemmas.{now_counters, now_rows, now_threads, staged_stands}}
 
 -- no word
 pub alike_none : (words steps : ℕ) → CountsAlike words words steps steps

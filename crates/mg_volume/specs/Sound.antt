@@ -1,27 +1,20 @@
 -- What is coming of an image is the state, if accounts, objects and threads keep the rules between them.
-use Rattle.std.specs.Prelude.{◌≡◌, ◌+◌, ◌==◌, ◌&&◌, ◌||◌, nat_le, ℕ, Bool, true, false, List, [], ◌∷◌, if◌then◌else◌, drop, length, map, sum_by, Some}
-use Rattle.std.specs.List.{list_all, list_any}
-use Rattle.std.specs.Option.{option_map_or}
-use Rattle.std.proofs.Common.{refl, sym, ap, subst, ◌∙◌, ⊎_elim, arith}
-use Rattle.std.proofs.lemmas.Bool.{and_from, and_parts, cases_Bool, eq-eqb}
-use Rattle.std.proofs.lemmas.List.Sums.{sum_by-cons}
-use Rattle.mg_disk.specs.Disk.{Image}
-use Rattle.mg_model.specs.declared.accounts.AccRow.{AccRow}
-use Rattle.mg_model.specs.Abbreviations.{accounts_spelled, fitting, is_page_of, table_of, threads_spelled, whole_table}
-use Rattle.mg_model.specs.Bank.{used}
-use Rattle.mg_model.specs.Bytes.{are_zeros}
-use Rattle.mg_model.specs.Objects.{page_behind, page_of, with_object}
-use Rattle.mg_model.specs.Settings.{Settings}
-use Rattle.mg_model.specs.State.{Counters, Object, ObjectRow, State, Thread, ThreadRow}
-use Rattle.mg_model.specs.Tests.{all_distinct}
-use Rattle.mg_model.specs.Volume.{Damaged, Is, Rows, accounts_fit, are_apart, bound_pages, has_no_gap, object_spelled, objects_fit, objects_spelled, replayed_volume, rows_of, state_fits, state_spelled, threads_fit}
-use Rattle.mg_model.specs.VolumeLemmas.{rows-read, rows_with}
+use Rattle.std.proofs.{Common.{refl, sym, ap, subst, ◌∙◌, ⊎_elim, arith}, lemmas.Bool.{and_from, and_parts, cases_Bool}}
+use Rattle.std.{proofs.lemmas.{Bool.eq-eqb, List.Sums.sum_by-cons}, specs.List.{list_all, list_any}}
+use Rattle.std.specs.{Option.option_map_or, Prelude.{◌≡◌, ◌+◌, ◌==◌, ◌&&◌, ◌||◌, nat_le, ℕ, Bool, true, false, List}}
+use Rattle.std.specs.Prelude.{[], ◌∷◌, if◌then◌else◌, drop, length, map, sum_by, Some}
+use Rattle.{mg_disk.specs.Disk.Image, mg_model.specs.Abbreviations.{accounts_spelled, fitting, is_page_of, table_of}}
+use Rattle.mg_model.specs.{Abbreviations.{threads_spelled, whole_table}, Bank.used, Bytes.are_zeros}
+use Rattle.mg_model.specs.{Objects.{page_behind, page_of, with_object}, Settings.Settings, State.{Counters, Object}}
+use Rattle.mg_model.specs.{State.{ObjectRow, State, Thread, ThreadRow}, Tests.all_distinct, Volume.{Damaged, Is, Rows}}
+use Rattle.mg_model.specs.Volume.{accounts_fit, are_apart, bound_pages, has_no_gap, object_spelled, objects_fit}
+use Rattle.mg_model.specs.Volume.{objects_spelled, replayed_volume, rows_of, state_fits, state_spelled, threads_fit}
+use Rattle.mg_model.specs.{VolumeLemmas.{rows-read, rows_with}, declared.accounts.AccRow.AccRow}
+use Rattle.{mg_objects.specs.Held.{by_base, into_place}, mg_rules.specs.RowsRead.placed_from}
+use Rattle.mg_volume.specs.{Held.VolumeHeld, Meaning.{IsKept, Spelled, has_page, is_page_in, is_sound, now_of}}
+use Rattle.mg_volume.specs.Meaning.{objects_in, rows_apart, threads_in}
 use Rattle.mg_pages.specs.SpelledLemmas as laws
 use Rattle.mg_pages.specs.Meaning as pages
-use Rattle.mg_volume.specs.Held.{VolumeHeld}
-use Rattle.mg_rules.specs.RowsRead.{placed_from}
-use Rattle.mg_objects.specs.Held.{by_base, into_place}
-use Rattle.mg_volume.specs.Meaning.{IsKept, Spelled, has_page, is_page_in, is_sound, now_of, objects_in, rows_apart, threads_in}
 
 -- objects in the order of their bases
 abbrev pub all_spelled : Image → ℕ → List ℕ → List (ℕ × ObjectRow) → List Object

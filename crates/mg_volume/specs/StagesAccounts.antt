@@ -1,13 +1,9 @@
 -- Blocks of accounts are staged, as a list has the rows.
 use Rattle.std.specs.Prelude.{◌≡◌, ◌⊎◌, ◌+◌, ◌*◌, ◌/◌, ◌≤◌, ◌<◌, ℕ, Bool, true, false, List, slice_get, Some}
-use Rattle.mg_disk.specs.Disk.{Image}
-use Rattle.mg_model.specs.declared.accounts.AccRow.{AccRow}
-use Rattle.mg_model.specs.Layout.{first_account_block, first_thread_block}
-use Rattle.mg_model.specs.Limits.{account_limit}
-use Rattle.mg_model.specs.Replay.{block_of}
-use Rattle.mg_pages.specs.declared.pages.Pages.{Pages}
+use Rattle.{mg_disk.specs.Disk.Image, mg_model.specs.Layout.{first_account_block, first_thread_block}}
+use Rattle.mg_model.specs.{Limits.account_limit, Replay.block_of, declared.accounts.AccRow.AccRow}
+use Rattle.{mg_pages.specs.declared.pages.Pages.Pages, mg_rows.specs.Blocks.account_in}
 use Rattle.mg_pages.specs.Meaning as pages
-use Rattle.mg_rows.specs.Blocks.{account_in}
 
 -- the rows of block k of the table, 64 of them
 abbrev pub HasAccounts : List AccRow → ℕ → List ℕ → Type 0

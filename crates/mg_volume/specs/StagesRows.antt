@@ -1,11 +1,7 @@
 -- Four rows of objects are staged, as they are held.
 use Rattle.std.specs.Prelude.{◌≡◌, ◌+◌, ◌*◌, ◌/◌, ◌<◌, ℕ, List, Some}
-use Rattle.mg_model.specs.Layout.{first_object_block}
-use Rattle.mg_model.specs.State.{ObjectRow}
-use Rattle.mg_pages.specs.declared.pages.Pages.{Pages}
-use Rattle.mg_rows.specs.Blocks.{object_in}
-use Rattle.mg_pages.specs.Meaning.{StagesBlock}
-use Rattle.mg_volume.specs.RowLists.{row_at}
+use Rattle.{mg_model.specs.{Layout.first_object_block, State.ObjectRow}, mg_pages.specs.Meaning.StagesBlock}
+use Rattle.{mg_pages.specs.declared.pages.Pages.Pages, mg_rows.specs.Blocks.object_in, mg_volume.specs.RowLists.row_at}
 
 -- the block of the row at this place, and nothing else
 pub record StagesRows (objects : List (ℕ × ObjectRow)) (place : ℕ) (old new : Pages) : Type 0 where

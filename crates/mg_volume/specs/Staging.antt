@@ -1,15 +1,12 @@
 -- What may be staged of a volume, what that makes of its rows, and which blocks wait for a commit.
-use Rattle.std.specs.Prelude.{◌≡◌, ◌+◌, ◌-◌, ◌*◌, ◌/◌, ◌≤◌, ◌<◌, ◌||◌, nat_le, nat_lt, ℕ, zero, suc, Bool, true, false, List, [], ◌∷◌, Some, if◌then◌else◌, find, length, map, replicate, sum_by, IsSomeAnd, Option, None, filter, not, ◌==◌}
-use Rattle.std.specs.List.{list_all, list_any}
-use Rattle.std.specs.Option.{option_map_or}
-use Rattle.mg_model.specs.Layout.{first_object_block, first_thread_block, globals_block}
-use Rattle.mg_model.specs.Limits.{object_limit}
-use Rattle.mg_model.specs.Objects.{page_behind, page_of, with_object, with_row, without_object}
-use Rattle.mg_model.specs.State.{Object, ObjectRow, Thread, ThreadRow}
-use Rattle.mg_model.specs.Threads.{with_new_thread}
+use Rattle.std.specs.{List.{list_all, list_any}, Option.option_map_or, Prelude.{◌≡◌, ◌+◌, ◌-◌, ◌*◌, ◌/◌, ◌≤◌, ◌<◌}}
+use Rattle.std.specs.Prelude.{◌||◌, nat_le, nat_lt, ℕ, zero, suc, Bool, true, false, List, [], ◌∷◌, Some, if◌then◌else◌}
+use Rattle.std.specs.Prelude.{find, length, map, replicate, sum_by, IsSomeAnd, Option, None, filter, not, ◌==◌}
+use Rattle.mg_model.specs.{Layout.{first_object_block, first_thread_block, globals_block}, Limits.object_limit}
+use Rattle.mg_model.specs.{Objects.{page_behind, page_of, with_object, with_row, without_object}, State.Object}
+use Rattle.mg_model.specs.{State.{ObjectRow, Thread, ThreadRow}, Threads.with_new_thread}
+use Rattle.mg_volume.specs.{Held.VolumeHeld, Meaning.{objects_in, threads_in}}
 use Rattle.mg_pages.specs.Meaning as pages
-use Rattle.mg_volume.specs.Held.{VolumeHeld}
-use Rattle.mg_volume.specs.Meaning.{objects_in, threads_in}
 
 -- the threads with this row for thread t, or without that thread
 abbrev pub threads_with : ℕ → Option ThreadRow → List Thread → List Thread

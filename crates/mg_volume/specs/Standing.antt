@@ -1,14 +1,11 @@
 -- A thread that moves elsewhere: another pc, another state and other registers, in its row and in its block; and its block as it
 -- is staged.
 use Rattle.std.specs.Prelude.{◌≡◌, ℕ, List, Option, Some}
-use Rattle.mg_disk.specs.Disk.{Image, block_at}
-use Rattle.mg_model.specs.declared.threads.ThrState.{ThrState}
-use Rattle.mg_model.specs.Layout.{globals_block}
-use Rattle.mg_model.specs.Spelling.{globals_bytes, thread_bytes, thread_read}
-use Rattle.mg_model.specs.State.{Counters, ThreadRow}
+use Rattle.{mg_disk.specs.Disk.{Image, block_at}, mg_model.specs.{Layout.globals_block, Spelling.globals_bytes}}
+use Rattle.mg_model.specs.{Spelling.{thread_bytes, thread_read}, State.{Counters, ThreadRow}}
+use Rattle.{mg_model.specs.declared.threads.ThrState.ThrState, mg_pages.specs.Meaning.StagesBlock}
 use Rattle.mg_pages.specs.declared.pages.Pages.{Pages}
 use Rattle.mg_pages.specs.Meaning as pages
-use Rattle.mg_pages.specs.Meaning.{StagesBlock}
 
 -- the row of a thread that moves elsewhere
 abbrev pub stands_at : ℕ → ThrState → List ℕ → ThreadRow → ThreadRow

@@ -1,18 +1,12 @@
 -- What the layers above may know of the state of a volume.
-use Rattle.std.specs.Prelude.{◌≡◌, ◌≤◌, map, Some}
-use Rattle.std.proofs.Common.{refl, sym, ap, subst, ◌∙◌, arith}
-use Rattle.mg_disk.specs.Disk.{Image}
-use Rattle.mg_disk.specs.declared.disk.Disk.{Ghosts}
-use Rattle.mg_model.specs.State.{Object}
-use Rattle.mg_model.specs.Volume.{Is, volume}
-use Rattle.mg_model.specs.Layout.{total_blocks}
-use Rattle.mg_model.specs.Replay.{replay}
+use Rattle.std.{proofs.Common.{refl, sym, ap, subst, ◌∙◌, arith}, specs.Prelude.{◌≡◌, ◌≤◌, map, Some}}
+use Rattle.{mg_disk.specs.{Disk.Image, declared.disk.Disk.Ghosts}, mg_model.specs.{Layout.total_blocks, Replay.replay}}
+use Rattle.{mg_model.specs.{State.Object, Volume.{Is, volume}}, mg_volume.specs.Contents.{IsSet, volume_of_replay}}
+use Rattle.mg_volume.specs.{Held.VolumeHeld, Meaning.{IsSpelledBy, SameShape, Spelled, StandsOn, accounts_in}}
+use Rattle.mg_volume.specs.Meaning.{counters_in, now_of, objects_in, settings_in, staged_in, staged_of, threads_in}
+use Rattle.mg_volume.specs.Sound.{coming_kept, rows-spelled}
 use Rattle.mg_pages.specs.SpelledLemmas as laws
 use Rattle.mg_pages.specs.Meaning as pages
-use Rattle.mg_volume.specs.Contents.{IsSet, volume_of_replay}
-use Rattle.mg_volume.specs.Held.{VolumeHeld}
-use Rattle.mg_volume.specs.Meaning.{IsSpelledBy, SameShape, Spelled, StandsOn, accounts_in, counters_in, now_of, objects_in, settings_in, staged_in, staged_of, threads_in}
-use Rattle.mg_volume.specs.Sound.{coming_kept, rows-spelled}
 
 -- it has the settings, and as many blocks as they need
 pub set_of : (v : VolumeHeld) (image : Image) → Spelled v image → IsSet v.settings image

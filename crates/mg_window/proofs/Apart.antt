@@ -1,9 +1,8 @@
 -- Lemmas: bases stay apart.
-use Rattle.std.specs.Prelude.{◌≡◌, ◌==◌, ◌&&◌, ◌||◌, ◌∷◌, ◌++◌, [], ℕ, zero, suc, false, not, slice_index_or, slice_set, true}
-use Rattle.std.proofs.Common.{refl, sym, ap, ◌∙◌, ⊎_elim}
+use Rattle.{mg_window.specs.Attached.{Listed, are_apart, is_at, is_there, without}, std.proofs.Common.{refl, sym, ap, ◌∙◌, ⊎_elim}}
 use Rattle.std.proofs.lemmas.Bool.{and_from, and_parts, both_ways, cases_Bool, eq-eqb, ne_eqb, not_from_false, not-true, or_from, or_parts}
-use Rattle.std.proofs.lemmas.List.Folds.{list_any-append}
-use Rattle.mg_window.specs.Attached.{Listed, are_apart, is_at, is_there, without}
+use Rattle.std.{proofs.lemmas.List.Folds.list_any-append, specs.Prelude.{◌≡◌, ◌==◌, ◌&&◌, ◌||◌, ◌∷◌, ◌++◌, [], ℕ, zero, suc, false, not}}
+use Rattle.std.specs.Prelude.{slice_index_or, slice_set, true}
 
 module _ {D : Type 0} where
   -- one more, at a base that is not there

@@ -1,12 +1,9 @@
 -- Lemmas: what is known of the devices of a list, if the list is read and changed.
-use Rattle.std.specs.Prelude.{◌≡◌, ◌+◌, ◌==◌, ◌&&◌, ◌||◌, ◌<◌, ◌∷◌, [], ℕ, Bool, true, false, nat_lt, cond, length, not, slice_index_or, slice_set, Result, Ok, Err, MatchResult, None, Some}
-use Rattle.std.specs.List.{position_or_len}
-use Rattle.std.proofs.Common.{refl, sym, ap, ◌∙◌, subst}
-use Rattle.std.proofs.lemmas.List.{get_or-map, length-map, map-set}
-use Rattle.std.proofs.Math.Seq.{map-set_same}
-use Rattle.mg_window.specs.Attached.{Listed, are_apart, device_at, is_at, is_there, place_at, seen, window_at, with_device, without}
-use Rattle.mg_window.specs.Devices.{Held, stored}
-use Rattle.mg_window.specs.declared.device.TapeFull.{TapeFull}
+use Rattle.mg_window.specs.{Attached.{Listed, are_apart, device_at, is_at, is_there, place_at, seen, window_at, with_device, without}, Devices.Held}
+use Rattle.{mg_window.specs.{Devices.stored, declared.device.TapeFull.TapeFull}, std.proofs.Common.{refl, sym, ap, ◌∙◌, subst}}
+use Rattle.std.{proofs.{Math.Seq.map-set_same, lemmas.List.{get_or-map, length-map, map-set}}, specs.{List.position_or_len, Prelude.{◌≡◌, ◌+◌, ◌==◌}}}
+use Rattle.std.specs.Prelude.{◌&&◌, ◌||◌, ◌<◌, ◌∷◌, [], ℕ, Bool, true, false, nat_lt, cond, length, not, slice_index_or, slice_set, Result, Ok, Err}
+use Rattle.std.specs.Prelude.{MatchResult, None, Some}
 
 module _ {D : Type 0} (held : D → Held) where
   abbrev pub shown : ℕ × D → ℕ × Held

@@ -1,9 +1,6 @@
 -- Lemmas: the sum of a tape so far, and with an entry more.
+use Rattle.{mg_window.specs.Devices.{Tape, sum_at}, std.proofs.{Common.{sym, ap, ◌∙◌}, Math.Nat.mod-add-mod, lemmas.List.Sums.sum_by_more}}
 use Rattle.std.specs.Prelude.{◌≡◌, ◌+◌, ◌%◌, ◌^◌, ◌==◌, ◌<◌, ℕ, if◌then◌else◌, length, slice_index_or, take}
-use Rattle.std.proofs.Common.{sym, ap, ◌∙◌}
-use Rattle.std.proofs.Math.Nat.{mod-add-mod}
-use Rattle.std.proofs.lemmas.List.Sums.{sum_by_more}
-use Rattle.mg_window.specs.Devices.{Tape, sum_at}
 
 -- what an entry adds at a place
 abbrev pub adds : ℕ → ℕ × ℕ → ℕ

@@ -1,6 +1,6 @@
 -- Devices that are attached, each at the base of an object.
-use Rattle.std.specs.Prelude.{◌==◌, ◌&&◌, ◌∷◌, [], ℕ, Bool, List, Option, map, not, position, slice_index_or, slice_set, true}
-use Rattle.std.specs.List.{filter, list_any}
+use Rattle.std.specs.{List.{filter, list_any}, Prelude.{◌==◌, ◌&&◌, ◌∷◌, [], ℕ, Bool, List, Option, map, not, position}}
+use Rattle.std.specs.Prelude.{slice_index_or, slice_set, true}
 use Rattle.mg_window.specs.Devices.{Held}
 
 -- Devices of a type, each with its base, in the order in which they were attached.

@@ -1,6 +1,6 @@
 -- Devices: what a tape holds, and what a load is answered with.
-use Rattle.std.specs.Prelude.{◌%◌, ◌^◌, ◌==◌, ◌∷◌, ◌++◌, [], ℕ, List, find, if◌then◌else◌, length, reverse, sum_by}
-use Rattle.std.specs.Option.{option_map_or}
+use Rattle.std.specs.{Option.option_map_or, Prelude.{◌%◌, ◌^◌, ◌==◌, ◌∷◌, ◌++◌, [], ℕ, List, find, if◌then◌else◌}}
+use Rattle.std.specs.Prelude.{length, reverse, sum_by}
 
 -- The stores that reached a device, the first one first: the place of each, in bytes from the base, and the value.
 abbrev pub Tape : Type 0

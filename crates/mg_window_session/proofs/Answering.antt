@@ -1,23 +1,10 @@
 -- How calls of the kernel follow each other, and what a line is answered when it reaches a device or none.
-use Rattle.std.specs.Prelude.{ℕ, ◌≡◌, ◌+◌, ◌%◌, ◌^◌}
-use Rattle.std.specs.Option.{ForSome}
-use Rattle.std.proofs.Common.{arith, sym, ap, ◌∙◌}
-use Rattle.std.proofs.Math.Nat.{mod-add-mod}
-use Rattle.mg_disk.specs.Runs.{nothing_then}
-use Rattle.mg_disk.specs.declared.disk.Disk.{Ghosts}
-use Rattle.mg_kernel.specs.declared.kernel.Kernel.{Kernel}
-use Rattle.mg_kernel.specs.Meaning.{now_of, words_in}
-use Rattle.mg_kernel.specs.Serving.{Serves}
-use Rattle.mg_model.specs.declared.calls.Line.{Line}
-use Rattle.mg_model.specs.declared.replies.Reply.{Reply}
-use Rattle.mg_model.specs.Counts.{CountsAlike}
-use Rattle.mg_model.specs.Refused.{Answer}
-use Rattle.mg_model.specs.State.{State}
-use Rattle.mg_model.specs.Step.{step}
-use Rattle.mg_window.specs.Attached.{Attached}
-use Rattle.mg_window_session.specs.Machine.{Equipped, plain_step, staying}
-use Rattle.mg_window_session.specs.Stepping.{IsAnswered, Looks, bases_of, dropped}
-use Rattle.mg_window_session.proofs.LeavingDevices.{dropped_stay}
+use Rattle.{mg_disk.specs.{Runs.nothing_then, declared.disk.Disk.Ghosts}, mg_kernel.specs.{Meaning.{now_of, words_in}, Serving.Serves}}
+use Rattle.{mg_kernel.specs.declared.kernel.Kernel.Kernel, mg_model.specs.{Counts.CountsAlike, Refused.Answer, State.State, Step.step}}
+use Rattle.{mg_model.specs.declared.{calls.Line.Line, replies.Reply.Reply}, mg_window.specs.Attached.Attached}
+use Rattle.mg_window_session.{proofs.LeavingDevices.dropped_stay, specs.{Machine.{Equipped, plain_step, staying}, Stepping.{IsAnswered, Looks}}}
+use Rattle.{mg_window_session.specs.Stepping.{bases_of, dropped}, std.proofs.{Common.{arith, sym, ap, ◌∙◌}, Math.Nat.mod-add-mod}}
+use Rattle.std.specs.{Option.ForSome, Prelude.{ℕ, ◌≡◌, ◌+◌, ◌%◌, ◌^◌}}
 
 alike_then : (w0 w1 w2 s0 s1 s2 : ℕ) → CountsAlike w0 w1 s0 s1 → CountsAlike w1 w2 s1 s2 → CountsAlike w0 w2 s0 s2
 alike_then w0 w1 w2 s0 s1 s2 (n, rose, words) (m, rose', words') =

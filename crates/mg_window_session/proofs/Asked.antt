@@ -1,10 +1,7 @@
 -- Lists of windows and of words, read from a place on.
-use Rattle.std.specs.Prelude.{◌≡◌, ◌&&◌, suc, Bool, false, true, List, [], ◌∷◌, length, String}
+use Rattle.{mg_io.specs.Arguments.arguments, mg_window.specs.Attached.Attached, mg_window_session.specs.Commands.{Asked, are_those, is_that}}
+use Rattle.std.{proofs.Common.{refl, ap, ◌∙◌}, specs.Prelude.{◌≡◌, ◌&&◌, suc, Bool, false, true, List, [], ◌∷◌, length, String}}
 use Rattle.std.specs.declared.alloc.Global.{Global}
-use Rattle.std.proofs.Common.{refl, ap, ◌∙◌}
-use Rattle.mg_io.specs.Arguments.{arguments}
-use Rattle.mg_window.specs.Attached.{Attached}
-use Rattle.mg_window_session.specs.Commands.{Asked, are_those, is_that}
 
 -- as many windows as are named, or none of both is left
 pub those_differ : (windows : Attached) (asked : List Asked) → (length windows ≡ length asked → ⊥) → are_those windows asked ≡ false

@@ -1,29 +1,17 @@
 -- What follows of how the lines ended, and of the lines of the devices after the replies.
-use Rattle.std.specs.Prelude.{ℕ, ◌≡◌, List, [], Option, Some, None, IfSome}
+use Rattle.mg_commands.specs.{Headline.{OnVolume, PutsLast, session_of}, LastLemmas.{disk_ran, done_or_memory, ends_run, put_all, put_prefix}}
+use Rattle.{mg_commands.specs.{LastLemmas.sink_failed, OpeningLemmas.{lines_unopened, unopened}}, mg_disk.specs.{Disk.Image, Runs.leaves_yet}}
+use Rattle.{mg_disk.specs.{Runs.nothing_none, Stops.LeftOr}, mg_faults.specs.Faults.{CountGoesOn, count_none, rose_then}}
+use Rattle.{mg_io.specs.Known.AppendsPrefix-none, mg_model.specs.{Lines.lines, State.State, Volume.volume}, mg_serve.specs.Serving.IsWithin}
+use Rattle.{mg_serve.specs.{Sessions.{IsDoneOrMemory, use_of, input_limit}, declared.status.Status.Status}, mg_window.specs.Attached.Attached}
+use Rattle.mg_window_session.{proofs.DeviceSteps.fault_devices, specs.Headline.{DevKeeps, DevicesKeep, LeavesDevices, device_lines, equipped}}
+use Rattle.{mg_window_session.specs.Machine.{device_after, device_state, device_text}, std.{proofs.Common.{ap, inl, refl}, specs.Prelude.{ℕ, ◌≡◌}}}
+use Rattle.std.specs.Prelude.{List, [], Option, Some, None, IfSome}
 use Rattle.mg_check.specs.declared.examining.OpenFault.TheVariants as fault
-use Rattle.std.proofs.Common.{ap, inl, refl}
-use Rattle.mg_disk.specs.Disk.{Image}
-use Rattle.mg_disk.specs.Runs.{leaves_yet, nothing_none}
-use Rattle.mg_disk.specs.Stops.{LeftOr}
 use Rattle.mg_disk.specs.declared.disk.Disk as disks
-use Rattle.mg_faults.specs.Faults.{CountGoesOn, count_none, rose_then}
-use Rattle.mg_io.specs.Known.{AppendsPrefix-none}
 use Rattle.mg_io.specs.declared.traits.Sink as sinks
 use Rattle.mg_io.specs.declared.traits.Source as sources
-use Rattle.mg_model.specs.Lines.{lines}
-use Rattle.mg_model.specs.State.{State}
-use Rattle.mg_model.specs.Volume.{volume}
-use Rattle.mg_serve.specs.Serving.{IsWithin}
-use Rattle.mg_serve.specs.Sessions.{IsDoneOrMemory, use_of, input_limit}
-use Rattle.mg_commands.specs.Headline.{OnVolume, PutsLast, session_of}
-use Rattle.mg_serve.specs.declared.status.Status.{Status}
 use Rattle.mg_serve.specs.declared.status.Status.TheVariants as status
-use Rattle.mg_window.specs.Attached.{Attached}
-use Rattle.mg_commands.specs.LastLemmas.{disk_ran, done_or_memory, ends_run, put_all, put_prefix, sink_failed}
-use Rattle.mg_commands.specs.OpeningLemmas.{lines_unopened, unopened}
-use Rattle.mg_window_session.specs.Headline.{DevKeeps, DevicesKeep, LeavesDevices, device_lines, equipped}
-use Rattle.mg_window_session.specs.Machine.{device_after, device_state, device_text}
-use Rattle.mg_window_session.proofs.DeviceSteps.{fault_devices}
 
 within_then : (limit : ℕ) (left : Option (List ℕ)) (P Q : Type 0) → (P → Q) → IsWithin limit left P → IsWithin limit left Q
 within_then limit None P Q then h = tt

@@ -1,32 +1,17 @@
 -- What a kernel with devices says of lines, and what is left of its devices when a session ended.
-use Rattle.std.specs.Prelude.{ℕ, ◌≡◌, ◌≢◌, ◌<◌, ◌≤◌, ◌+◌, List, [], ◌∷◌, ◌++◌, length, take, drop, Option, Some, None}
-use Rattle.std.proofs.Common.{refl, sym, ap, ◌∙◌, arith, length-append, subst, ⊎_elim}
-use Rattle.std.proofs.lemmas.List.{drop_all, length-take-le, take-append-le, take-append-drop, take_all}
-use Rattle.std.proofs.Math.Seq.{take-append_seam}
-use Rattle.mg_check.specs.declared.examining.OpenFault.{OpenFault}
+use Rattle.{mg_check.specs.declared.examining.OpenFault.OpenFault, mg_commands.specs.Unopened.{EndsUnopenedBy, TellsNothing}}
+use Rattle.{mg_disk.specs.Disk.Image, mg_kernel.specs.{Meaning.now_of, Opening.Holds, declared.kernel.Kernel.Kernel}, mg_model.specs.Lines.lines}
+use Rattle.mg_model.specs.{Print.{answered, reply_line}, State.State, declared.{calls.Line.Line, replies.Reply.Reply}}
+use Rattle.mg_serve.specs.{Machines.{AnswersLine, Commits}, Serving.{IsTraced, Traces}, declared.status.Status.Status}
+use Rattle.{mg_window.specs.{Attached.Attached, Devices.Held}, mg_window_session.{proofs.Lines.after-append, specs.DeviceKernels.IsStepped}}
+use Rattle.mg_window_session.specs.{DeviceKernels.{IsStopped, machine_of, windows_in}, Headline.{AreAfterAnswered, AreAfterOneMore, LeavesDevices}}
+use Rattle.mg_window_session.specs.{Headline.equipped, Machine.{Equipped, device_after, device_state, device_step, device_text}}
+use Rattle.{mg_window_session.specs.declared.device_kernel.DeviceKernel.DeviceKernel, std.proofs.Common.{refl, sym, ap, ◌∙◌, arith, length-append}}
+use Rattle.std.proofs.{Common.{subst, ⊎_elim}, Math.Seq.take-append_seam, lemmas.List.{drop_all, length-take-le, take-append-le, take-append-drop}}
+use Rattle.std.{proofs.lemmas.List.take_all, specs.Prelude.{ℕ, ◌≡◌, ◌≢◌, ◌<◌, ◌≤◌, ◌+◌, List, [], ◌∷◌, ◌++◌, length, take, drop, Option, Some, None}}
 use Rattle.mg_check.specs.declared.examining.OpenFault.TheVariants as fault
-use Rattle.mg_disk.specs.Disk.{Image}
-use Rattle.mg_kernel.specs.declared.kernel.Kernel.{Kernel}
-use Rattle.mg_kernel.specs.Meaning.{now_of}
-use Rattle.mg_kernel.specs.Opening.{Holds}
-use Rattle.mg_model.specs.declared.calls.Line.{Line}
-use Rattle.mg_model.specs.declared.replies.Reply.{Reply}
-use Rattle.mg_model.specs.Lines.{lines}
-use Rattle.mg_model.specs.Print.{answered, reply_line}
-use Rattle.mg_model.specs.State.{State}
 use Rattle.mg_serve.specs.declared.machine.Machine as machines
-use Rattle.mg_serve.specs.declared.status.Status.{Status}
 use Rattle.mg_serve.specs.declared.status.Status.TheVariants as status
-use Rattle.mg_serve.specs.Machines.{AnswersLine, Commits}
-use Rattle.mg_serve.specs.Serving.{IsTraced, Traces}
-use Rattle.mg_commands.specs.Unopened.{EndsUnopenedBy, TellsNothing}
-use Rattle.mg_window.specs.Attached.{Attached}
-use Rattle.mg_window.specs.Devices.{Held}
-use Rattle.mg_window_session.specs.declared.device_kernel.DeviceKernel.{DeviceKernel}
-use Rattle.mg_window_session.specs.Headline.{AreAfterAnswered, AreAfterOneMore, LeavesDevices, equipped}
-use Rattle.mg_window_session.specs.Machine.{Equipped, device_after, device_state, device_step, device_text}
-use Rattle.mg_window_session.specs.DeviceKernels.{IsStepped, IsStopped, machine_of, windows_in}
-use Rattle.mg_window_session.proofs.Lines.{after-append}
 
 -- what is said and kept from a line on
 pub answers_line : (m m' : Equipped) (line : Line) (reply : Reply) → (m', reply) ≡ device_step m line → AnswersLine (device_text m) (device_state m) (device_text m') (device_state m') line reply

@@ -1,13 +1,8 @@
 -- The devices that are dropped base by base are those that leave.
-use Rattle.std.specs.Prelude.{ℕ, ◌≡◌, ◌==◌, ◌&&◌, ◌||◌, Bool, true, false, List, [], ◌∷◌, cond, filter, if◌then◌else◌, map, not}
-use Rattle.std.specs.List.{list_any}
-use Rattle.std.proofs.Common.{refl, sym, ap, ◌∙◌}
-use Rattle.std.proofs.lemmas.Bool.{eq-eqb, eqb-true, ne_eqb}
-use Rattle.mg_model.specs.State.{State}
-use Rattle.mg_window.specs.Attached.{Attached, without}
-use Rattle.mg_window.specs.Devices.{Held}
-use Rattle.mg_window_session.specs.Machine.{has_gone, staying}
-use Rattle.mg_window_session.specs.Stepping.{bases_of, dropped, is_base}
+use Rattle.{mg_model.specs.State.State, mg_window.specs.{Attached.{Attached, without}, Devices.Held}, mg_window_session.specs.Machine.has_gone}
+use Rattle.{mg_window_session.specs.{Machine.staying, Stepping.{bases_of, dropped, is_base}}, std.proofs.Common.{refl, sym, ap, ◌∙◌}}
+use Rattle.std.{proofs.lemmas.Bool.{eq-eqb, eqb-true, ne_eqb}, specs.{List.list_any, Prelude.{ℕ, ◌≡◌, ◌==◌, ◌&&◌, ◌||◌, Bool, true, false, List, []}}}
+use Rattle.std.specs.Prelude.{◌∷◌, cond, filter, if◌then◌else◌, map, not}
 
 abbrev Window : Type 0
 Window = ℕ × Held

@@ -1,8 +1,6 @@
 -- How the machine with devices runs over lines.
+use Rattle.{mg_model.specs.declared.calls.Line.Line, mg_window_session.specs.Machine.{Equipped, device_after, device_step}, std.proofs.Common.refl}
 use Rattle.std.specs.Prelude.{◌≡◌, List, [], ◌∷◌, ◌++◌}
-use Rattle.std.proofs.Common.{refl}
-use Rattle.mg_model.specs.declared.calls.Line.{Line}
-use Rattle.mg_window_session.specs.Machine.{Equipped, device_after, device_step}
 
 -- the machine after some lines and then others
 pub after-append : (m : Equipped) (ls more : List Line) → device_after m (ls ++ more) ≡ device_after (device_after m ls) more

@@ -1,12 +1,9 @@
 -- The words of a run with device windows.
-use Rattle.std.specs.Prelude.{ℕ, ◌==◌, ◌&&◌, nat_le, Bool, false, true, List, [], ◌∷◌, ◌++◌, drop, if◌then◌else◌, length, take, Option, Some, None, codes}
-use Rattle.std.specs.List.{list_any}
-use Rattle.std.specs.Option.{option_map_or}
-use Rattle.mg_model.specs.Words.{and_then, same_bytes}
+use Rattle.std.specs.{List.list_any, Option.option_map_or, Prelude.{ℕ, ◌==◌, ◌&&◌, nat_le, Bool, false, true, List, []}}
+use Rattle.std.specs.Prelude.{◌∷◌, ◌++◌, drop, if◌then◌else◌, length, take, Option, Some, None, codes}
+use Rattle.{mg_commands.specs.Commands.before_colon, mg_model.specs.Words.{and_then, same_bytes}}
+use Rattle.mg_window.specs.{Attached.Attached, Devices.Held}
 use Rattle.mg_model.specs.Words as numbers
-use Rattle.mg_commands.specs.Commands.{before_colon}
-use Rattle.mg_window.specs.Attached.{Attached}
-use Rattle.mg_window.specs.Devices.{Held}
 
 -- the number of the kind that a word names
 abbrev pub kind_named : List ℕ → Option ℕ

@@ -1,12 +1,8 @@
 -- A kernel with devices as a machine: what it says of lines that it stepped. `held` is what is known of a device.
 use Rattle.std.specs.Prelude.{◌≡◌, List, [], ◌∷◌, ◌++◌}
-use Rattle.mg_disk.specs.Disk.{Image}
-use Rattle.mg_kernel.specs.Meaning.{now_of}
-use Rattle.mg_model.specs.declared.calls.Line.{Line}
-use Rattle.mg_window.specs.Attached.{Attached, seen}
-use Rattle.mg_window.specs.Devices.{Held}
-use Rattle.mg_window_session.specs.declared.device_kernel.DeviceKernel.{DeviceKernel}
-use Rattle.mg_window_session.specs.Machine.{Equipped, device_after}
+use Rattle.{mg_disk.specs.Disk.Image, mg_kernel.specs.Meaning.now_of, mg_model.specs.declared.calls.Line.Line}
+use Rattle.{mg_window.specs.{Attached.{Attached, seen}, Devices.Held}, mg_window_session.specs.Machine.Equipped}
+use Rattle.mg_window_session.specs.{Machine.device_after, declared.device_kernel.DeviceKernel.DeviceKernel}
 
 -- the devices of a kernel
 abbrev pub windows_in : {W : Type 0} → (W → Held) → DeviceKernel W → Attached

@@ -1,17 +1,14 @@
 -- What a run with device windows promises. An object that does not tell its content has None for it; a promise on content is then empty.
-use Rattle.std.specs.Prelude.{ℕ, ◌+◌, ◌≤◌, ◌≡◌, List, [], ◌∷◌, ◌++◌, codes, drop, length, take, Option, Some, IfSome, IsSomeAnd}
-use Rattle.std.specs.Fmt.{decimal}
-use Rattle.mg_io.specs.declared.traits.Sink as sinks
-use Rattle.mg_model.specs.Lines.{lines}
-use Rattle.mg_model.specs.Print.{answered, hex_text, spaced}
-use Rattle.mg_model.specs.State.{State}
-use Rattle.mg_serve.specs.Sessions.{DiskRose, IfShort, IsDoneOrMemory, OfInput, Puts, PutsPrefix, SinkRose, SourceRose, left_at, left_now, use_of}
-use Rattle.mg_serve.specs.declared.status.Status.{Status}
-use Rattle.mg_serve.specs.declared.status.Status.TheVariants as status
-use Rattle.mg_commands.specs.Headline.{EndsRun, LinesKeep, OfNoState, OfState, PutsLast, Session, UsageKeeps, session_of}
-use Rattle.mg_window.specs.Attached.{Attached}
-use Rattle.mg_window.specs.Devices.{Held}
+use Rattle.std.specs.{Fmt.decimal, Prelude.{ℕ, ◌+◌, ◌≤◌, ◌≡◌, List, [], ◌∷◌, ◌++◌, codes, drop, length, take, Option}}
+use Rattle.std.specs.Prelude.{Some, IfSome, IsSomeAnd}
+use Rattle.mg_commands.specs.Headline.{EndsRun, LinesKeep, OfNoState, OfState, PutsLast, Session, UsageKeeps}
+use Rattle.{mg_commands.specs.Headline.session_of, mg_model.specs.{Lines.lines, Print.{answered, hex_text, spaced}}}
+use Rattle.{mg_model.specs.State.State, mg_serve.specs.Sessions.{DiskRose, IfShort, IsDoneOrMemory, OfInput, Puts}}
+use Rattle.mg_serve.specs.Sessions.{PutsPrefix, SinkRose, SourceRose, left_at, left_now, use_of}
+use Rattle.{mg_serve.specs.declared.status.Status.Status, mg_window.specs.{Attached.Attached, Devices.Held}}
 use Rattle.mg_window_session.specs.Machine.{Equipped, device_after, device_state, device_text}
+use Rattle.mg_io.specs.declared.traits.Sink as sinks
+use Rattle.mg_serve.specs.declared.status.Status.TheVariants as status
 
 -- the machine that begins: the state of a volume, and the devices that were handed in
 abbrev pub equipped : Attached → State → Equipped

@@ -1,18 +1,12 @@
 -- Runs with devices, one after another.
 use Rattle.std.specs.Prelude.{ℕ, IsSome, IsSomeAnd}
-use Rattle.mg_disk.specs.Disk.{Image}
-use Rattle.mg_disk.specs.Stops.{MightHaveLeft}
+use Rattle.{mg_commands.specs.{Headline.session_of, History.{Finds, LeftBy, Run, Runs}}, mg_disk.specs.Disk.Image}
+use Rattle.{mg_disk.specs.Stops.MightHaveLeft, mg_model.specs.State.State, mg_serve.specs.Sessions.use_of}
+use Rattle.{mg_serve.specs.declared.status.Status.Status, mg_window.specs.Attached.Attached}
+use Rattle.mg_window_session.specs.{Headline.{DevKeeps, equipped}, Machine.{device_state, device_text}}
 use Rattle.mg_disk.specs.declared.disk.Disk as disks
 use Rattle.mg_io.specs.declared.traits.Sink as sinks
 use Rattle.mg_io.specs.declared.traits.Source as sources
-use Rattle.mg_model.specs.State.{State}
-use Rattle.mg_serve.specs.Sessions.{use_of}
-use Rattle.mg_serve.specs.declared.status.Status.{Status}
-use Rattle.mg_commands.specs.Headline.{session_of}
-use Rattle.mg_commands.specs.History.{Finds, LeftBy, Run, Runs}
-use Rattle.mg_window.specs.Attached.{Attached}
-use Rattle.mg_window_session.specs.Headline.{DevKeeps, equipped}
-use Rattle.mg_window_session.specs.Machine.{device_state, device_text}
 
 -- a run of the machine with these devices, which ended so once its lines ran
 abbrev pub run_with : {D S K : Type 0} → Attached → ℕ → Status → D → D → S → S → K → K → ℕ → ℕ → Run D S K

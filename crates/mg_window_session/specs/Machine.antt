@@ -1,21 +1,14 @@
 -- The machine with devices attached: a load or a store that is allowed and falls into an object with a device reaches the
 -- device in place of the object's words. Scripts, fetches and capability lists use the words as before.
-use Rattle.std.specs.Prelude.{ℕ, ◌-◌, ◌&&◌, nat_lt, not, Bool, List, [], ◌∷◌, ◌++◌, filter, if◌then◌else◌, is_some, length, option_map, Option, Some, None}
-use Rattle.mg_model.specs.declared.calls.Call.{Call}
+use Rattle.std.specs.Prelude.{ℕ, ◌-◌, ◌&&◌, nat_lt, not, Bool, List, [], ◌∷◌, ◌++◌, filter, if◌then◌else◌, is_some}
+use Rattle.std.specs.Prelude.{length, option_map, Option, Some, None}
+use Rattle.mg_model.specs.{Access.{allowed, at, based_at}, ObjectCalls.is_aligned, Print.reply_line, State.State}
+use Rattle.mg_model.specs.{Step.step, declared.{calls.{Call.Call, Line.Line}, replies.Reply.Reply, rights.Right.Right}}
+use Rattle.{mg_model.specs.declared.rights.Right.TheVariants.{R, W}, mg_window.specs.Attached.{Attached, device_at}}
+use Rattle.mg_window.specs.{Attached.{place_at, with_device}, Devices.{Held, reading, stored}}
 use Rattle.mg_model.specs.declared.calls.Call.TheVariants as call
-use Rattle.mg_model.specs.declared.calls.Line.{Line}
 use Rattle.mg_model.specs.declared.replies.Refusal.TheVariants as refusal
-use Rattle.mg_model.specs.declared.replies.Reply.{Reply}
 use Rattle.mg_model.specs.declared.replies.Reply.TheVariants as reply
-use Rattle.mg_model.specs.declared.rights.Right.{Right}
-use Rattle.mg_model.specs.declared.rights.Right.TheVariants.{R, W}
-use Rattle.mg_model.specs.Access.{allowed, at, based_at}
-use Rattle.mg_model.specs.ObjectCalls.{is_aligned}
-use Rattle.mg_model.specs.Print.{reply_line}
-use Rattle.mg_model.specs.State.{State}
-use Rattle.mg_model.specs.Step.{step}
-use Rattle.mg_window.specs.Attached.{Attached, device_at, place_at, with_device}
-use Rattle.mg_window.specs.Devices.{Held, reading, stored}
 
 -- a state of the machine, and the devices that are attached
 pub record Equipped : Type 0 where

@@ -1,17 +1,9 @@
 -- What a line does to a kernel and the devices beside it.
-use Rattle.std.specs.Prelude.{ℕ, ◌≡◌, List, [], ◌∷◌, Bool, filter, if◌then◌else◌, is_some, map}
-use Rattle.std.specs.Option.{ForSome}
-use Rattle.mg_disk.specs.Disk.{Image}
-use Rattle.mg_disk.specs.declared.disk.Disk.{Ghosts}
-use Rattle.mg_kernel.specs.declared.kernel.Kernel.{Kernel}
-use Rattle.mg_kernel.specs.Meaning.{now_of, staged_of}
-use Rattle.mg_kernel.specs.Serving.{Serves}
-use Rattle.mg_model.specs.declared.replies.Reply.{Reply}
-use Rattle.mg_model.specs.Access.{based_at}
-use Rattle.mg_model.specs.State.{State}
-use Rattle.mg_window.specs.Attached.{Attached, without}
-use Rattle.mg_window.specs.Devices.{Held}
-use Rattle.mg_window_session.specs.Machine.{Equipped, Outcome}
+use Rattle.std.specs.{Option.ForSome, Prelude.{ℕ, ◌≡◌, List, [], ◌∷◌, Bool, filter, if◌then◌else◌, is_some, map}}
+use Rattle.{mg_disk.specs.{Disk.Image, declared.disk.Disk.Ghosts}, mg_kernel.specs.Meaning.{now_of, staged_of}}
+use Rattle.{mg_kernel.specs.{Serving.Serves, declared.kernel.Kernel.Kernel}, mg_model.specs.Access.based_at}
+use Rattle.{mg_model.specs.{State.State, declared.replies.Reply.Reply}, mg_window.specs.Attached.{Attached, without}}
+use Rattle.{mg_window.specs.Devices.Held, mg_window_session.specs.Machine.{Equipped, Outcome}}
 
 -- whether an object has this base
 abbrev pub is_base : State → ℕ → Bool

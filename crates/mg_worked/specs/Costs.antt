@@ -1,15 +1,8 @@
 -- Worked costs: what the lines of a session may cost, from a fresh state or after an earlier session. A whole search costs
 -- 4,088 words.
-use Rattle.std.specs.Prelude.{◌≡◌, ℕ, zero, suc, ◌+◌, List, [], ◌∷◌, ◌++◌, codes, replicate}
-use Rattle.std.specs.Fmt.{decimal}
-use Rattle.mg_model.specs.Fresh.{fresh}
-use Rattle.mg_model.specs.Lines.{lines}
-use Rattle.mg_model.specs.State.{State}
-use Rattle.mg_model.specs.Step.{after}
-use Rattle.mg_model.specs.Tariff.{usual_tariff}
-use Rattle.mg_model.specs.Warmth.{cost}
-use Rattle.mg_worked.specs.Drawn.{zero_seed}
-use Rattle.mg_worked.specs.Sessions.{IsAnswered, Session, input, linked, small, stores}
+use Rattle.std.specs.{Fmt.decimal, Prelude.{◌≡◌, ℕ, zero, suc, ◌+◌, List, [], ◌∷◌, ◌++◌, codes, replicate}}
+use Rattle.mg_model.specs.{Fresh.fresh, Lines.lines, State.State, Step.after, Tariff.usual_tariff, Warmth.cost}
+use Rattle.mg_worked.specs.{Drawn.zero_seed, Sessions.{IsAnswered, Session, input, linked, small, stores}}
 
 -- from this state the lines get these replies, and this number of words is the most that they may cost
 pub record IsPaid (state : State) (session : Session) (words : ℕ) : Type 0 where

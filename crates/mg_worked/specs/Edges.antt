@@ -1,10 +1,7 @@
 -- Worked sessions: rows of the table of calls at their edges.
 use Rattle.std.specs.Prelude.{◌++◌, ℕ, [], ◌∷◌, codes, replicate}
-use Rattle.mg_model.specs.Draw.{password_drawn}
-use Rattle.mg_model.specs.Fresh.{fresh, root_object}
-use Rattle.mg_model.specs.State.{State}
-use Rattle.mg_worked.specs.Drawn.{zero_seed}
-use Rattle.mg_worked.specs.Sessions.{Session, small, stores}
+use Rattle.mg_model.specs.{Draw.password_drawn, Fresh.{fresh, root_object}, State.State}
+use Rattle.mg_worked.specs.{Drawn.zero_seed, Sessions.{Session, small, stores}}
 
 -- a fresh state with this number of objects, all like the root
 abbrev pub with_objects : ℕ → State

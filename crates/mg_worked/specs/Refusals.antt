@@ -1,7 +1,6 @@
 -- Worked sessions: refusals, and limits at their edge.
 use Rattle.std.specs.Prelude.{ℕ, zero, suc, ◌+◌, List, [], ◌∷◌, ◌++◌, codes, map, replicate}
-use Rattle.mg_model.specs.Fresh.{first_thread, fresh}
-use Rattle.mg_model.specs.State.{Object, State, Thread}
+use Rattle.mg_model.specs.{Fresh.{first_thread, fresh}, State.{Object, State, Thread}}
 use Rattle.mg_worked.specs.Sessions.{Session, small}
 
 -- a fresh state with other counters

@@ -1,11 +1,7 @@
 -- What a worked session is: lines, each with the reply that it gets.
 use Rattle.std.specs.Prelude.{◌≡◌, ℕ, ◌+◌, List, [], ◌∷◌, ◌++◌, codes}
-use Rattle.mg_model.specs.Lines.{lines}
-use Rattle.mg_model.specs.Print.{hex_text, replies_text}
-use Rattle.mg_model.specs.Settings.{Settings}
-use Rattle.mg_model.specs.State.{State}
-use Rattle.mg_model.specs.Tariff.{usual_tariff}
-use Rattle.mg_worked.specs.Drawn.{zero_seed}
+use Rattle.mg_model.specs.{Lines.lines, Print.{hex_text, replies_text}, Settings.Settings, State.State}
+use Rattle.{mg_model.specs.Tariff.usual_tariff, mg_worked.specs.Drawn.zero_seed}
 
 abbrev pub Session : Type 0
 Session = List (List ℕ × List ℕ)

@@ -1,18 +1,12 @@
 -- What the program keeps, from its words to its exit status: the records of `top` and of `top_migrate`.
-use Rattle.std.specs.Prelude.{ℕ, ◌≡◌, ◌≢◌, ◌⊎◌, false, true, List, Some, None, String}
-use Rattle.std.specs.declared.alloc.Global.{Global}
-use Rattle.mg_migrate_session.specs.Commands.{is_migrate}
-use Rattle.mg_migrate_session.specs.Headline.{MigrateKeeps}
-use Rattle.mg_model.specs.Print.{replies_text}
-use Rattle.mg_model.specs.Settings.{Settings}
-use Rattle.mg_model.specs.Step.{after}
-use Rattle.mg_serve.specs.declared.status.Status.{Status}
-use Rattle.mg_serve.specs.declared.status.Status.TheVariants as status
-use Rattle.mg_serve.specs.Sessions.{DiskUse, SinkUse, SourceUse}
-use Rattle.mg_io.specs.Arguments.{arguments}
-use Rattle.mg_commands.specs.Commands.{run_of, spelled}
-use Rattle.mg_commands.specs.Headline.{CheckKeeps, DryKeeps, FormatKeeps, GenKeeps, LinesKeep, RunCosts, UsageKeeps, session_of}
+use Rattle.std.specs.{Prelude.{ℕ, ◌≡◌, ◌≢◌, ◌⊎◌, false, true, List, Some, None, String}, declared.alloc.Global.Global}
+use Rattle.mg_commands.specs.{Commands.{run_of, spelled}, Headline.{CheckKeeps, DryKeeps, FormatKeeps, GenKeeps}}
+use Rattle.mg_commands.specs.Headline.{LinesKeep, RunCosts, UsageKeeps, session_of}
 use Rattle.mg_commands.specs.declared.words.Command.TheVariants.{Check, Dry, Format, Gen, Run}
+use Rattle.{mg_io.specs.Arguments.arguments, mg_migrate_session.specs.{Commands.is_migrate, Headline.MigrateKeeps}}
+use Rattle.{mg_model.specs.{Print.replies_text, Settings.Settings, Step.after}, mg_serve.specs.Sessions.DiskUse}
+use Rattle.mg_serve.specs.{Sessions.{SinkUse, SourceUse}, declared.status.Status.Status}
+use Rattle.mg_serve.specs.declared.status.Status.TheVariants as status
 
 -- What every command but `migrate` did, with this status at the end.
 pub record Ran {D S K : Type 0} (words : List (String Global)) (result : Status) (d : DiskUse D) (i : SourceUse S) (o : SinkUse K)

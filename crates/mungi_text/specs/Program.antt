@@ -1,12 +1,8 @@
 -- What the program keeps, from its words to its exit status: the records of `top`.
-use Rattle.std.specs.Prelude.{◌≡◌, List, None, Some, IfSome, String}
-use Rattle.std.specs.declared.alloc.Global.{Global}
-use Rattle.mg_document_session.specs.Commands.{command_of}
-use Rattle.mg_io.specs.Arguments.{arguments}
-use Rattle.mg_document_session.specs.Headline.{BringsBack, Keeps}
-use Rattle.mg_document_session.specs.declared.words.Command.TheVariants.{Bytes}
-use Rattle.mg_filter.specs.Usages.{UsageKeeps}
-use Rattle.mg_filter.specs.declared.status.Status.{Status}
+use Rattle.std.specs.{Prelude.{◌≡◌, List, None, Some, IfSome, String}, declared.alloc.Global.Global}
+use Rattle.mg_document_session.specs.{Commands.command_of, Headline.{BringsBack, Keeps}}
+use Rattle.{mg_document_session.specs.declared.words.Command.TheVariants.Bytes, mg_filter.specs.Usages.UsageKeeps}
+use Rattle.{mg_filter.specs.declared.status.Status.Status, mg_io.specs.Arguments.arguments}
 use Rattle.mg_io.specs.declared.traits.Sink as sinks
 use Rattle.mg_io.specs.declared.traits.Source as sources
 

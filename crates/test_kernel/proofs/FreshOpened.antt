@@ -1,19 +1,8 @@
 -- What is opened is fresh, if what it was opened from is.
-use Rattle.std.specs.Prelude.{◌≡◌, ◌==◌, List, map, IsSomeAnd, Option, Some, None}
-use Rattle.std.specs.List.{list_any}
-use Rattle.std.specs.Option.{ForSome}
-use Rattle.std.proofs.Common.{refl, sym, ap, ◌∙◌}
-use Rattle.mg_disk.specs.Disk.{Image}
-use Rattle.mg_model.specs.Draw.{password_drawn}
-use Rattle.mg_model.specs.Fresh.{fresh}
-use Rattle.mg_model.specs.Settings.{Settings}
-use Rattle.mg_model.specs.State.{Object, State, Thread}
-use Rattle.mg_model.specs.Volume.{Is, VolumeRead, volume}
-use Rattle.mg_volume.specs.Held.{VolumeHeld}
-use Rattle.mg_volume.specs.StateLemmas.{now_rows, now_settings, now_threads}
-use Rattle.mg_volume.specs.Meaning.{now_of, staged_of}
-use Rattle.mg_volume.specs.Opening.{Opens}
-use Rattle.test_kernel.specs.Fresh.{IsFresh}
+use Rattle.{mg_disk.specs.Disk.Image, mg_model.specs.{Draw.password_drawn, Fresh.fresh, Settings.Settings, State.{Object, State, Thread}, Volume.Is}}
+use Rattle.{mg_model.specs.Volume.{VolumeRead, volume}, mg_volume.specs.{Held.VolumeHeld, Meaning.{now_of, staged_of}, Opening.Opens}}
+use Rattle.{mg_volume.specs.StateLemmas.{now_rows, now_settings, now_threads}, std.{proofs.Common.{refl, sym, ap, ◌∙◌}, specs.List.list_any}}
+use Rattle.{std.specs.{Option.ForSome, Prelude.{◌≡◌, ◌==◌, List, map, IsSomeAnd, Option, Some, None}}, test_kernel.specs.Fresh.IsFresh}
 
 fresh_opened : (settings : Settings) (v : VolumeHeld) (before : VolumeRead) (told : Option Image) → before ≡ Is (fresh settings) → Opens before v told → settings.frames ≡ 64 → staged_of v ≡ 0 → IsFresh v
 fresh_opened settings v before told is opens frames staged =

@@ -1,9 +1,7 @@
 -- What the tests know of a fresh volume of 64 frames.
 use Rattle.std.specs.Prelude.{◌≡◌, ℕ, true, [], ◌∷◌}
-use Rattle.mg_model.specs.Fresh.{root_object}
-use Rattle.mg_volume.specs.Held.{VolumeHeld}
-use Rattle.mg_volume.specs.Meaning.{objects_in, settings_in, staged_of}
-use Rattle.mg_volume.specs.Staging.{lives}
+use Rattle.{mg_model.specs.Fresh.root_object, mg_volume.specs.{Held.VolumeHeld, Meaning.{objects_in, settings_in}}}
+use Rattle.mg_volume.specs.{Meaning.staged_of, Staging.lives}
 
 -- the root is its one object, thread 1 lives, and nothing is staged
 pub record IsFresh (v : VolumeHeld) : Type 0 where

@@ -1,11 +1,8 @@
 -- Lemmas on one write more.
-use Rattle.std.specs.Prelude.{◌≡◌, ◌≤◌, ◌<◌, ◌+◌, ◌&&◌, nat_le, nat_lt, ℕ, zero, suc, true, List, [], ◌∷◌, ◌++◌, length, position, slice_set, Option, Some, None}
-use Rattle.std.specs.Option.{option_map_or}
-use Rattle.std.proofs.Common.{refl, arith, length-append, length-set}
-use Rattle.std.proofs.lemmas.Bool.{and_from, and_parts, le-leb, lt-ltb}
-use Rattle.mg_model.specs.Layout.{globals_block}
-use Rattle.mg_model.specs.Replay.{homes_fit}
-use Rattle.mg_journal.specs.Staged.{goes_to, staged}
+use Rattle.{mg_journal.specs.Staged.{goes_to, staged}, mg_model.specs.{Layout.globals_block, Replay.homes_fit}, std.proofs.Common.{refl, arith}}
+use Rattle.std.{proofs.{Common.{length-append, length-set}, lemmas.Bool.{and_from, and_parts, le-leb, lt-ltb}}, specs.Option.option_map_or}
+use Rattle.std.specs.Prelude.{◌≡◌, ◌≤◌, ◌<◌, ◌+◌, ◌&&◌, nat_le, nat_lt, ℕ, zero, suc, true, List, [], ◌∷◌, ◌++◌, length, position, slice_set, Option}
+use Rattle.std.specs.Prelude.{Some, None}
 
 module _ (total block : ℕ) (bytes : List ℕ) (low : globals_block ≤ block) (high : block < total) where
   home : (nat_le globals_block block && nat_lt block total) ≡ true

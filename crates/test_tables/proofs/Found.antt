@@ -1,8 +1,6 @@
 -- What a search finds is there.
-use Rattle.std.specs.Prelude.{◌≡◌, ◌||◌, Bool, true, false, List, [], ◌∷◌, Option, None, Some, find}
-use Rattle.std.specs.List.{list_any}
-use Rattle.std.specs.Option.{option_map}
-use Rattle.std.proofs.Common.{refl, sym, ap, ◌∙◌}
+use Rattle.std.{proofs.Common.{refl, sym, ap, ◌∙◌}, specs.{List.list_any, Option.option_map, Prelude.{◌≡◌, ◌||◌, Bool, true, false, List, [], ◌∷◌}}}
+use Rattle.std.specs.Prelude.{Option, None, Some, find}
 
 -- an element that passes
 found_any : {X : Type 0} (test : X → Bool) (xs : List X) (found : X) → find test xs ≡ Some found → list_any test xs ≡ true

@@ -1,5 +1,4 @@
-use Rattle.mg_laws.proofs.Lowest.{lowest_free-exists}
-use Rattle.mg_laws.proofs.LowestPages.{lowest_free-taken}
+use Rattle.mg_laws.proofs.{Lowest.lowest_free-exists, LowestPages.lowest_free-taken}
 use Rattle.mg_laws.proofs.free_pages_are_found.Goals as goal
 
 pub returns-clause-found : goal.returns-clause-found

@@ -1,6 +1,4 @@
-use Rattle.mg_laws.proofs.FreshFormed.{fresh-formed}
-use Rattle.mg_laws.proofs.KeepsStep.{after-keeps, step-keeps}
-use Rattle.mg_laws.proofs.LinesInRange.{lines-in_range}
+use Rattle.mg_laws.proofs.{FreshFormed.fresh-formed, KeepsStep.{after-keeps, step-keeps}, LinesInRange.lines-in_range}
 use Rattle.mg_laws.proofs.steps_keep_states_well_formed.Goals as goal
 
 pub returns-clause-begins : goal.returns-clause-begins

@@ -1,6 +1,5 @@
+use Rattle.{rand_chacha.specs.Block.{block_word, column_round, diagonal_round, double_rounds, quarter_round}, rand_core.specs.Steps.u32_at}
 use Rattle.std.proofs.Common.{refl}
-use Rattle.rand_chacha.specs.Block.{block_word, column_round, diagonal_round, double_rounds, quarter_round}
-use Rattle.rand_core.specs.Steps.{u32_at}
 use Rattle.mg_worked.proofs.passwords_are_a_key_stream.Goals as goal
 
 pub returns : goal.returns

@@ -1,8 +1,5 @@
-use Rattle.std.proofs.Common.{refl}
-use Rattle.rand_chacha.specs.Block.{block_word, column_round, diagonal_round, double_rounds, quarter_round}
-use Rattle.rand_core.specs.Steps.{u32_at}
-use Rattle.std.specs.Fmt.{digits}
-use Rattle.mg_model.specs.Print.{hex_text}
+use Rattle.{mg_model.specs.Print.hex_text, rand_chacha.specs.Block.{block_word, column_round, diagonal_round, double_rounds, quarter_round}}
+use Rattle.{rand_core.specs.Steps.u32_at, std.{proofs.Common.refl, specs.Fmt.digits}}
 use Rattle.mg_worked.proofs.sessions_on_rights.Goals as goal
 
 pub returns-clause-each_right_is_needed : goal.returns-clause-each_right_is_needed

@@ -1,10 +1,6 @@
-use Rattle.std.proofs.Common.{arith, get_or, refl, sym, ◌∙◌}
+use Rattle.{mg_access.specs.{ReachedLemmas.{any_end, any_miss}, Searching.slot_opens}, mg_model.specs.declared.slots.Slot.Slot}
+use Rattle.{mg_volume.specs.{Meaning.now_of, RunLemmas.{reads_then, told_since}}, std.proofs.Common.{arith, get_or, refl, sym, ◌∙◌}}
 use Rattle.std.proofs.lemmas.List.{get_or_default}
-use Rattle.mg_access.specs.Searching.{slot_opens}
-use Rattle.mg_access.specs.ReachedLemmas.{any_end, any_miss}
-use Rattle.mg_volume.specs.RunLemmas.{reads_then, told_since}
-use Rattle.mg_model.specs.declared.slots.Slot.{Slot}
-use Rattle.mg_volume.specs.Meaning.{now_of}
 use Rattle.mg_access.proofs.lists.list_among.Goals as goal
 
 pub returns-in_err-slot_opens-clause-reads : goal.returns-in_err-slot_opens-clause-reads

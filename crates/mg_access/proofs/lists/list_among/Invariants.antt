@@ -1,9 +1,5 @@
-use Rattle.std.proofs.Common.{◌≡◌, ◌≤◌, ◌+◌, ◌*◌, drop}
-use Rattle.std.specs.List.{list_any}
-use Rattle.std.specs.Option.{ForSome}
-use Rattle.mg_volume.specs.Calls.{Reads}
-use Rattle.mg_access.specs.Searching.{slot_opens}
-use Rattle.mg_volume.specs.Meaning.{now_of}
+use Rattle.{mg_access.specs.Searching.slot_opens, mg_volume.specs.{Calls.Reads, Meaning.now_of}, std.proofs.Common.{◌≡◌, ◌≤◌, ◌+◌, ◌*◌, drop}}
+use Rattle.std.specs.{List.list_any, Option.ForSome}
 use Rattle.mg_access.proofs.lists.list_among.Given as goal
 
 -- no slot before this one opens the object

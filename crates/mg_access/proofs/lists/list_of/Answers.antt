@@ -1,13 +1,6 @@
-use Rattle.std.proofs.Common.{◌≡◌, [], false, None, Option, Some, sym, ap, subst, ◌∙◌}
-use Rattle.std.specs.Prelude.{MatchOption}
-use Rattle.std.specs.List.{list_any}
-use Rattle.std.specs.Option.{option_map_or}
-use Rattle.std.proofs.lemmas.Result.{IfOk-weaker}
-use Rattle.mg_access.specs.Searching.{IsOpenedBy, slot_opens}
-use Rattle.mg_model.specs.Access.{domain_of, last_slots}
-use Rattle.mg_model.specs.State.{CallFrame, Thread}
-use Rattle.mg_volume.specs.Meaning.{now_of}
-use Rattle.mg_volume.specs.RunLemmas.{told_thread}
+use Rattle.{mg_access.specs.Searching.{IsOpenedBy, slot_opens}, mg_model.specs.{Access.{domain_of, last_slots}, State.{CallFrame, Thread}}}
+use Rattle.{mg_volume.specs.{Meaning.now_of, RunLemmas.told_thread}, std.proofs.Common.{◌≡◌, [], false, None, Option, Some, sym, ap, subst, ◌∙◌}}
+use Rattle.std.{proofs.lemmas.Result.IfOk-weaker, specs.{List.list_any, Option.option_map_or, Prelude.MatchOption}}
 use Rattle.mg_access.proofs.lists.list_of.Goals as goal
 
 pub returns-in-Some-clause-via : goal.returns-in-Some-clause-via

@@ -1,9 +1,6 @@
-use Rattle.std.proofs.Common.{◌≡◌, ◌+◌, ◌-◌, ◌≤◌, ◌<◌, ◌∙◌, IfSome, None, Some, arith, subst, sym}
-use Rattle.mg_access.proofs.Entries.{entry_before, next-hit, next-miss, next-none}
-use Rattle.mg_access.specs.Searching.{words_based}
-use Rattle.mg_volume.specs.Meaning.{now_of}
-use Rattle.mg_volume.specs.Pairs.{words_looked_at}
-use Rattle.mg_volume.specs.RunLemmas.{reads_then}
+use Rattle.{mg_access.{proofs.Entries.{entry_before, next-hit, next-miss, next-none}, specs.Searching.words_based}, mg_volume.specs.Meaning.now_of}
+use Rattle.{mg_volume.specs.{Pairs.words_looked_at, RunLemmas.reads_then}, std.proofs.Common.{◌≡◌, ◌+◌, ◌-◌, ◌≤◌, ◌<◌, ◌∙◌, IfSome, None, Some}}
+use Rattle.std.proofs.Common.{arith, subst, sym}
 use Rattle.mg_access.proofs.lists.list_opens.Goals as goal
 
 pub returns-then-holds-clause-opens : goal.returns-then-holds-clause-opens

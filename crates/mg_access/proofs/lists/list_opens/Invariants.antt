@@ -1,11 +1,5 @@
-use Rattle.std.proofs.Common.{◌≡◌, ◌-◌, ◌≤◌, ◌+◌, ◌*◌}
-use Rattle.std.specs.List.{list_any}
-use Rattle.std.specs.Option.{ForSome}
-use Rattle.mg_volume.specs.Calls.{Reads}
-use Rattle.mg_access.specs.Searching.{opens, words_based}
-use Rattle.mg_model.specs.Abbreviations.{pairs_from}
-use Rattle.mg_model.specs.Access.{pairs_of}
-use Rattle.mg_volume.specs.Meaning.{now_of}
+use Rattle.{mg_access.specs.Searching.{opens, words_based}, mg_model.specs.{Abbreviations.pairs_from, Access.pairs_of}, mg_volume.specs.Calls.Reads}
+use Rattle.{mg_volume.specs.Meaning.now_of, std.{proofs.Common.{◌≡◌, ◌-◌, ◌≤◌, ◌+◌, ◌*◌}, specs.{List.list_any, Option.ForSome}}}
 use Rattle.mg_access.proofs.lists.list_opens.Given as goal
 
 -- no entry before this one opens the object

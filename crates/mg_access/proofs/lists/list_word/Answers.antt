@@ -1,6 +1,4 @@
-use Rattle.std.proofs.Common.{◌∙◌}
-use Rattle.std.proofs.lemmas.Result.{IfOk-weaker}
-use Rattle.mg_access.proofs.StandingFacts.{told-word}
+use Rattle.{mg_access.proofs.StandingFacts.told-word, std.proofs.{Common.◌∙◌, lemmas.Result.IfOk-weaker}}
 use Rattle.mg_access.proofs.lists.list_word.Goals as goal
 
 pub returns-clause-word : goal.returns-clause-word

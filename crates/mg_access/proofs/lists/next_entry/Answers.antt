@@ -1,9 +1,5 @@
-use Rattle.std.proofs.Common.{◌+◌, ◌*◌, ◌/◌, slice_index}
-use Rattle.mg_access.proofs.StandingFacts.{told-word}
-use Rattle.mg_access.specs.Searching.{words_based}
-use Rattle.mg_model.specs.Objects.{word_at}
-use Rattle.mg_volume.specs.Pairs.{same_pairs}
-use Rattle.mg_volume.specs.Meaning.{now_of}
+use Rattle.{mg_access.{proofs.StandingFacts.told-word, specs.Searching.words_based}, mg_model.specs.Objects.word_at, mg_volume.specs.Meaning.now_of}
+use Rattle.{mg_volume.specs.Pairs.same_pairs, std.proofs.Common.{◌+◌, ◌*◌, ◌/◌, slice_index}}
 use Rattle.mg_access.proofs.lists.next_entry.Goals as goal
 
 pub returns-clause-found : goal.returns-clause-found

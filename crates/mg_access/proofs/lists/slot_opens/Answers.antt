@@ -1,16 +1,8 @@
-use Rattle.std.proofs.Common.{◌==◌, ◌/◌, ℕ, Some, None, [], if◌then◌else◌, find, sym, subst, ap, ◌∙◌}
-use Rattle.std.specs.Prelude.{IsSome, is_some}
-use Rattle.std.specs.List.{list_any}
-use Rattle.std.proofs.lemmas.Result.{IfOk-weaker}
-use Rattle.mg_access.specs.Searching.{opens, words_based}
-use Rattle.mg_access.proofs.Apart.{first-page-in, found-based}
-use Rattle.mg_access.specs.FoundLemmas.{found-any}
-use Rattle.mg_access.proofs.Reached.{slot-none, slot-some}
-use Rattle.mg_volume.specs.RunLemmas.{told_rows}
-use Rattle.mg_model.specs.Access.{pairs_of}
-use Rattle.mg_model.specs.Ranges.{IsPlace}
-use Rattle.mg_model.specs.State.{ObjectRow}
-use Rattle.mg_volume.specs.Meaning.{is_page_in, now_of, objects_in}
+use Rattle.mg_access.{proofs.{Apart.{first-page-in, found-based}, Reached.{slot-none, slot-some}}, specs.{FoundLemmas.found-any, Searching.opens}}
+use Rattle.{mg_access.specs.Searching.words_based, mg_model.specs.{Access.pairs_of, Ranges.IsPlace, State.ObjectRow}}
+use Rattle.{mg_volume.specs.{Meaning.{is_page_in, now_of, objects_in}, RunLemmas.told_rows}, std.proofs.Common.{◌==◌, ◌/◌, ℕ, Some, None, []}}
+use Rattle.std.{proofs.{Common.{if◌then◌else◌, find, sym, subst, ap, ◌∙◌}, lemmas.Result.IfOk-weaker}, specs.{List.list_any, Prelude.IsSome}}
+use Rattle.std.specs.Prelude.{is_some}
 use Rattle.mg_access.proofs.lists.slot_opens.Goals as goal
 
 pub returns-in_default-clause-opens : goal.returns-in_default-clause-opens

@@ -1,6 +1,4 @@
-use Rattle.std.proofs.Common.{◌∙◌}
-use Rattle.mg_access.specs.ThreadLemmas.{lives-row}
-use Rattle.mg_volume.specs.Meaning.{threads_in}
+use Rattle.{mg_access.specs.ThreadLemmas.lives-row, mg_volume.specs.Meaning.threads_in, std.proofs.Common.◌∙◌}
 use Rattle.mg_access.proofs.rows.row_of.Goals as goal
 
 pub unreachable-requires : goal.unreachable-requires

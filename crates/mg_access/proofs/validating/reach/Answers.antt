@@ -1,11 +1,6 @@
+use Rattle.mg_access.proofs.{Allowed.{kept-allowed, sought-there}, Found.{finds-as, finds-failed, unsearched}, Reached.reached-none}
+use Rattle.{mg_model.specs.Access.{covers, domain_of}, mg_vcache.specs.Seats.is_kept, mg_volume.specs.{Meaning.now_of, RunLemmas.told_rows}}
 use Rattle.std.proofs.Common.{None, Some, sym, ap, ◌∙◌, rules}
-use Rattle.mg_access.proofs.Allowed.{kept-allowed, sought-there}
-use Rattle.mg_access.proofs.Reached.{reached-none}
-use Rattle.mg_access.proofs.Found.{finds-as, finds-failed, unsearched}
-use Rattle.mg_model.specs.Access.{covers, domain_of}
-use Rattle.mg_vcache.specs.Seats.{is_kept}
-use Rattle.mg_volume.specs.Meaning.{now_of}
-use Rattle.mg_volume.specs.RunLemmas.{told_rows}
 use Rattle.mg_access.proofs.validating.reach.Goals as goal
 
 pub returns-in_default-clause-row : goal.returns-in_default-clause-row

@@ -1,13 +1,7 @@
+use Rattle.mg_access.proofs.{Allowed.{opened-allowed, opened-backed, sought-period, sought-row, unopened-allowed}, Found.{searched, unfinished}}
+use Rattle.{mg_access.proofs.Tried.filled, mg_model.specs.{Backed.IsBacked, Keys.seat_of}, mg_vcache.specs.{SeatLemmas.each_fill, Seats.AllBacked}}
+use Rattle.{mg_vcache.specs.Seats.is_kept, mg_volume.specs.Meaning.now_of, std.proofs.Common.{None, Some, refl, sym, subst, ◌≡◌, true, rules}}
 use Rattle.std.specs.Option.{ForSome}
-use Rattle.std.proofs.Common.{None, Some, refl, sym, subst, ◌≡◌, true, rules}
-use Rattle.mg_access.proofs.Allowed.{opened-allowed, opened-backed, sought-period, sought-row, unopened-allowed}
-use Rattle.mg_access.proofs.Found.{searched, unfinished}
-use Rattle.mg_access.proofs.Tried.{filled}
-use Rattle.mg_model.specs.Backed.{IsBacked}
-use Rattle.mg_model.specs.Keys.{seat_of}
-use Rattle.mg_vcache.specs.Seats.{AllBacked, is_kept}
-use Rattle.mg_vcache.specs.SeatLemmas.{each_fill}
-use Rattle.mg_volume.specs.Meaning.{now_of}
 use Rattle.mg_access.proofs.validating.search.Goals as goal
 
 pub returns-in-Some-clause-row : goal.returns-in-Some-clause-row

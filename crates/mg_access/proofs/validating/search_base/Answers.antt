@@ -1,11 +1,6 @@
+use Rattle.mg_access.proofs.{Allowed.sought-there, Found.{finds-as, finds-failed, unsearched}, Reached.{base-of, reached-none}, Tried.known-at}
+use Rattle.{mg_model.specs.Access.{allowed, at, covers, domain_of}, mg_volume.specs.{Meaning.{now_of, objects_in}, RunLemmas.told_rows}}
 use Rattle.std.proofs.Common.{None, Some, refl, sym, ◌∙◌, rules}
-use Rattle.mg_access.proofs.Allowed.{sought-there}
-use Rattle.mg_access.proofs.Reached.{base-of, reached-none}
-use Rattle.mg_access.proofs.Found.{finds-as, finds-failed, unsearched}
-use Rattle.mg_access.proofs.Tried.{known-at}
-use Rattle.mg_model.specs.Access.{allowed, at, covers, domain_of}
-use Rattle.mg_volume.specs.Meaning.{now_of, objects_in}
-use Rattle.mg_volume.specs.RunLemmas.{told_rows}
 use Rattle.mg_access.proofs.validating.search_base.Goals as goal
 
 pub returns-in_default-clause-row : goal.returns-in_default-clause-row

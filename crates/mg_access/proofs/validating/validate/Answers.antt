@@ -1,12 +1,6 @@
+use Rattle.{mg_access.{proofs.{Allowed.kept-allowed, Found.unsearched, Reached.base-of}, specs.Finding.Finds}, mg_model.specs.Access.{allowed, at}}
+use Rattle.{mg_model.specs.Access.covers, mg_vcache.specs.Seats.is_kept, mg_volume.specs.{Meaning.now_of, RunLemmas.told_rows}}
 use Rattle.std.proofs.Common.{Some, ap, subst, ◌∙◌, ◌≡◌, true, rules}
-use Rattle.mg_access.proofs.Allowed.{kept-allowed}
-use Rattle.mg_access.proofs.Reached.{base-of}
-use Rattle.mg_access.proofs.Found.{unsearched}
-use Rattle.mg_access.specs.Finding.{Finds}
-use Rattle.mg_model.specs.Access.{allowed, at, covers}
-use Rattle.mg_vcache.specs.Seats.{is_kept}
-use Rattle.mg_volume.specs.Meaning.{now_of}
-use Rattle.mg_volume.specs.RunLemmas.{told_rows}
 use Rattle.mg_access.proofs.validating.validate.Goals as goal
 
 pub returns-in-Some-clause-row : goal.returns-in-Some-clause-row

@@ -1,10 +1,6 @@
-use Rattle.std.proofs.Common.{◌%◌, ◌/◌, sym, ◌∙◌}
-use Rattle.std.proofs.lemmas.Bool.{eq-eqb}
-use Rattle.mg_access.specs.FindingLemmas.{word-failed, word-found}
-use Rattle.mg_access.specs.FoundLemmas.{found-any, found-passes, page-in}
-use Rattle.mg_access.specs.WordLemmas.{refusal-denied, refusal-none}
-use Rattle.mg_model.specs.Access.{covers}
-use Rattle.mg_volume.specs.Meaning.{is_page_in, now_of, objects_in}
+use Rattle.mg_access.specs.{FindingLemmas.{word-failed, word-found}, FoundLemmas.{found-any, found-passes, page-in}, WordLemmas.refusal-denied}
+use Rattle.{mg_access.specs.WordLemmas.refusal-none, mg_model.specs.Access.covers, mg_volume.specs.Meaning.{is_page_in, now_of, objects_in}}
+use Rattle.std.proofs.{Common.{◌%◌, ◌/◌, sym, ◌∙◌}, lemmas.Bool.eq-eqb}
 use Rattle.mg_access.proofs.words.word_object.Goals as goal
 
 pub returns-in-Some-clause-refusal : goal.returns-in-Some-clause-refusal

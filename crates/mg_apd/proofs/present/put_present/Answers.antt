@@ -1,6 +1,4 @@
-use Rattle.std.proofs.Common.{ap, ◌∙◌}
-use Rattle.mg_apd.proofs.Last.{last_put}
-use Rattle.mg_model.specs.State.{ThreadRow}
+use Rattle.{mg_apd.proofs.Last.last_put, mg_model.specs.State.ThreadRow, std.proofs.Common.{ap, ◌∙◌}}
 use Rattle.mg_apd.proofs.present.put_present.Goals as goal
 
 pub returns : goal.returns

@@ -1,12 +1,7 @@
-use Rattle.std.proofs.Common.{◌≡◌, [], ◌∷◌, ◌++◌, length, Ok, ap, sym, subst, ◌∙◌, rules, arith, length-append}
-use Rattle.mg_asm.specs.Assembled.{behind, words_in}
-use Rattle.mg_asm.specs.Labels.{AreLabels, KeepsLabel}
-use Rattle.mg_asm.specs.Reading.{line_reading}
-use Rattle.mg_asm.proofs.Loops.{lines-next}
-use Rattle.mg_asm.proofs.Stepwise.{items-stepwise, items_behind, words_in-more}
+use Rattle.mg_asm.{proofs.{Loops.lines-next, Stepwise.{items-stepwise, items_behind, words_in-more}}, specs.Assembled.{behind, words_in}}
+use Rattle.{mg_asm.specs.{Labels.{AreLabels, KeepsLabel}, Reading.line_reading}, mg_model.specs.Words.is_newline, std.proofs.Common.{◌≡◌, [], ◌∷◌}}
+use Rattle.std.{proofs.Common.{◌++◌, length, Ok, ap, sym, subst, ◌∙◌, rules, arith, length-append}, specs.List.slice_split}
 use Rattle.mg_asm.proofs.assembling.items.Goals as goal
-use Rattle.std.specs.List.{slice_split}
-use Rattle.mg_model.specs.Words.{is_newline}
 
 pub lines-preserved : goal.lines-preserved
 lines-preserved c =

@@ -1,9 +1,5 @@
-use Rattle.std.proofs.Common.{◌≡◌, ◌≤◌, length}
-use Rattle.mg_asm.specs.Assembled.{items_of, words_in}
-use Rattle.mg_asm.specs.Labels.{AreLabels}
-use Rattle.std.specs.List.{slice_split}
-use Rattle.mg_model.specs.Words.{is_newline}
-use Rattle.mg_asm.proofs.Stepwise.{items_behind}
+use Rattle.{mg_asm.{proofs.Stepwise.items_behind, specs.{Assembled.{items_of, words_in}, Labels.AreLabels}}, mg_model.specs.Words.is_newline}
+use Rattle.std.{proofs.Common.{◌≡◌, ◌≤◌, length}, specs.List.slice_split}
 use Rattle.mg_asm.proofs.assembling.items.Given as goal
 
 -- the items so far with their labels, and those of the lines that are left

@@ -1,5 +1,4 @@
-use Rattle.std.proofs.Common.{rules, ap, ◌∙◌}
-use Rattle.mg_asm.proofs.Stepwise.{words-stepwise, words_behind}
+use Rattle.{mg_asm.proofs.Stepwise.{words-stepwise, words_behind}, std.proofs.Common.{rules, ap, ◌∙◌}}
 use Rattle.mg_asm.proofs.assembling.words.Goals as goal
 
 pub loop-i-init : goal.loop-i-init

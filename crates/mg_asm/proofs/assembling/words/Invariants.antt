@@ -1,6 +1,4 @@
-use Rattle.std.proofs.Common.{◌≡◌, ◌+◌, drop}
-use Rattle.mg_asm.specs.Assembled.{words_of}
-use Rattle.mg_asm.proofs.Stepwise.{words_behind}
+use Rattle.{mg_asm.{proofs.Stepwise.words_behind, specs.Assembled.words_of}, std.proofs.Common.{◌≡◌, ◌+◌, drop}}
 use Rattle.mg_asm.proofs.assembling.words.Given as goal
 
 -- the words so far, and those of the items that are left

@@ -1,5 +1,4 @@
-use Rattle.std.proofs.Common.{refl}
-use Rattle.mg_asm.proofs.Placed.{keeps-label, keeps-other, on_ok_map}
+use Rattle.{mg_asm.proofs.Placed.{keeps-label, keeps-other, on_ok_map}, std.proofs.Common.refl}
 use Rattle.mg_asm.proofs.labels.add_label.Goals as goal
 
 pub returns-in-Label : goal.returns-in-Label

@@ -1,8 +1,6 @@
-use Rattle.std.proofs.Common.{rules, ap, ◌∙◌}
-use Rattle.mg_asm.proofs.Stepwise.{listed-stepwise, listed_behind}
-use Rattle.mg_asm.proofs.listing.read_list.Goals as goal
+use Rattle.{mg_asm.proofs.Stepwise.{listed-stepwise, listed_behind}, mg_model.specs.Words.is_newline, std.proofs.Common.{rules, ap, ◌∙◌}}
 use Rattle.std.specs.List.{slice_split}
-use Rattle.mg_model.specs.Words.{is_newline}
+use Rattle.mg_asm.proofs.listing.read_list.Goals as goal
 
 pub lines-init : goal.lines-init
 lines-init c = record {

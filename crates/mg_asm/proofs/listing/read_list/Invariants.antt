@@ -1,8 +1,5 @@
-use Rattle.std.proofs.Common.{◌≡◌, ◌+◌, ◌≤◌, length}
-use Rattle.mg_asm.specs.Listed.{listed}
+use Rattle.{mg_asm.{proofs.Stepwise.listed_behind, specs.Listed.listed}, mg_model.specs.Words.is_newline, std.proofs.Common.{◌≡◌, ◌+◌, ◌≤◌, length}}
 use Rattle.std.specs.List.{slice_split}
-use Rattle.mg_model.specs.Words.{is_newline}
-use Rattle.mg_asm.proofs.Stepwise.{listed_behind}
 use Rattle.mg_asm.proofs.listing.read_list.Given as goal
 
 -- the words so far, and those of the lines that are left

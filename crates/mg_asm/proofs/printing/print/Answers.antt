@@ -1,12 +1,7 @@
-use Rattle.std.proofs.Common.{◌++◌, ◌∷◌, [], get_or, ap, ◌∙◌, arith}
-use Rattle.std.proofs.lemmas.List.{take_all}
+use Rattle.mg_asm.{proofs.{Back.assembled-printed, Grown.printed_more}, specs.{Assembled.assembled, Printed.{printed, word_line}}}
+use Rattle.{mg_model.specs.Ranges.IsWord, std.proofs.{Common.{◌++◌, ◌∷◌, [], get_or, ap, ◌∙◌, arith}, lemmas.List.take_all}}
 use Rattle.std.proofs.lemmas.List.Elements.{All-from_get_or}
-use Rattle.mg_asm.specs.Assembled.{assembled}
-use Rattle.mg_asm.specs.Printed.{printed, word_line}
-use Rattle.mg_asm.proofs.Back.{assembled-printed}
-use Rattle.mg_asm.proofs.Grown.{printed_more}
 use Rattle.mg_asm.proofs.printing.print.Goals as goal
-use Rattle.mg_model.specs.Ranges.{IsWord}
 
 pub loop-word-preserved : goal.loop-word-preserved
 loop-word-preserved c =

@@ -1,5 +1,4 @@
-use Rattle.std.proofs.Common.{◌≡◌, take}
-use Rattle.mg_asm.specs.Printed.{printed}
+use Rattle.{mg_asm.specs.Printed.printed, std.proofs.Common.{◌≡◌, take}}
 use Rattle.mg_asm.proofs.printing.print.Given as goal
 
 -- the words so far are printed

@@ -1,7 +1,5 @@
-use Rattle.std.proofs.Common.{◌≡◌, ◌++◌, map, take}
-use Rattle.mg_asm.specs.Printed.{operand_text}
+use Rattle.{mg_asm.specs.Printed.operand_text, mg_model.specs.Print.spaced, std.proofs.Common.{◌≡◌, ◌++◌, map, take}}
 use Rattle.mg_asm.proofs.printing.put_operands.Given as goal
-use Rattle.mg_model.specs.Print.{spaced}
 
 -- the operands so far are printed
 abbrev pub invariant-loop-operand : goal.invariant-loop-operand

@@ -1,12 +1,7 @@
-use Rattle.std.proofs.Common.{◌+◌, ◌*◌, ◌++◌, get_or, ap, ◌∙◌, arith}
-use Rattle.std.proofs.lemmas.List.{take_all}
+use Rattle.{mg_asm.{proofs.{Called.lines-back, Grown.stored_more}, specs.Stored.{store_line, store_lines}}, mg_model.specs.Lines.lines}
+use Rattle.{mg_model.specs.Ranges.IsWord, std.proofs.{Common.{◌+◌, ◌*◌, ◌++◌, get_or, ap, ◌∙◌, arith}, lemmas.List.take_all}}
 use Rattle.std.proofs.lemmas.List.Elements.{All-from_get_or}
-use Rattle.mg_asm.specs.Stored.{store_line, store_lines}
-use Rattle.mg_asm.proofs.Called.{lines-back}
-use Rattle.mg_asm.proofs.Grown.{stored_more}
 use Rattle.mg_asm.proofs.storing.store_lines.Goals as goal
-use Rattle.mg_model.specs.Lines.{lines}
-use Rattle.mg_model.specs.Ranges.{IsWord}
 
 pub loop-i-preserved : goal.loop-i-preserved
 loop-i-preserved c =

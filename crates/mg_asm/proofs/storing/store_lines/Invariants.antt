@@ -1,5 +1,4 @@
-use Rattle.std.proofs.Common.{◌≡◌, take}
-use Rattle.mg_asm.specs.Stored.{store_lines}
+use Rattle.{mg_asm.specs.Stored.store_lines, std.proofs.Common.{◌≡◌, take}}
 use Rattle.mg_asm.proofs.storing.store_lines.Given as goal
 
 -- the lines of the words so far are there

@@ -1,6 +1,5 @@
-use Rattle.std.proofs.Common.{◌≡◌, ◌-◌, ◌<◌, ◌==◌, length, take, drop, arith}
+use Rattle.{mg_asm.specs.CutLemmas.{cut-none, cut-some, no_length, rest_of}, std.proofs.Common.{◌≡◌, ◌-◌, ◌<◌, ◌==◌, length, take, drop, arith}}
 use Rattle.std.proofs.lemmas.Bool.Decides.{nat_tests}
-use Rattle.mg_asm.specs.CutLemmas.{cut-none, cut-some, no_length, rest_of}
 use Rattle.mg_asm.proofs.tokens.cut.Goals as goal
 
 pub returns-then-is_empty-clause-pieces : goal.returns-then-is_empty-clause-pieces

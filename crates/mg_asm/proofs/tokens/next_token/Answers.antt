@@ -1,7 +1,5 @@
-use Rattle.std.proofs.Common.{◌≡◌, ◌<◌, arith}
+use Rattle.{mg_asm.specs.Tokens.is_gap, mg_text.specs.PieceLemmas.{pieces-found, pieces-lacking}, std.proofs.Common.{◌≡◌, ◌<◌, arith}}
 use Rattle.std.proofs.lemmas.Bool.Decides.{nat_tests}
-use Rattle.mg_asm.specs.Tokens.{is_gap}
-use Rattle.mg_text.specs.PieceLemmas.{pieces-found, pieces-lacking}
 use Rattle.mg_asm.proofs.tokens.next_token.Goals as goal
 
 pub returns-then-is_empty-clause-none : goal.returns-then-is_empty-clause-none

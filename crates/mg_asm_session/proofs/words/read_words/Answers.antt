@@ -1,5 +1,4 @@
-use Rattle.std.proofs.Common.{sym, arith}
-use Rattle.mg_asm_session.proofs.Spelled.{three_or_more}
+use Rattle.{mg_asm_session.proofs.Spelled.three_or_more, std.proofs.Common.{sym, arith}}
 use Rattle.mg_asm_session.proofs.words.read_words.Goals as goal
 
 pub returns-in_default-2-clause-command : goal.returns-in_default-2-clause-command

@@ -1,10 +1,6 @@
-use Rattle.std.proofs.Common.{◌≡◌, ◌≤◌, ◌+◌, ◌-◌, ℕ, true, List, is_some, get_or, refl, arith}
-use Rattle.std.proofs.lemmas.List.Sums.{sum_by-set}
-use Rattle.mg_bank.specs.AccountLemmas.{account_there, balance_of-row}
-use Rattle.mg_bank.specs.Bank.{credits_of}
-use Rattle.mg_model.specs.Abbreviations.{with_account}
-use Rattle.mg_model.specs.Bank.{account_of, balance_of}
-use Rattle.mg_model.specs.declared.accounts.AccRow.{AccRow}
+use Rattle.{mg_bank.specs.{AccountLemmas.{account_there, balance_of-row}, Bank.credits_of}, mg_model.specs.Abbreviations.with_account}
+use Rattle.{mg_model.specs.{Bank.{account_of, balance_of}, declared.accounts.AccRow.AccRow}, std.proofs.Common.{◌≡◌, ◌≤◌, ◌+◌, ◌-◌, ℕ, true, List}}
+use Rattle.std.proofs.{Common.{is_some, get_or, refl, arith}, lemmas.List.Sums.sum_by-set}
 use Rattle.mg_bank.proofs.rows.take.Goals as goal
 
 -- the row in its place with less

@@ -1,6 +1,4 @@
-use Rattle.std.proofs.Common.{rules, arith}
-use Rattle.mg_bytes.proofs.Spliced.{spliced}
-use Rattle.mg_bytes.specs.WordLemmas.{beside}
+use Rattle.{mg_bytes.{proofs.Spliced.spliced, specs.WordLemmas.beside}, std.proofs.Common.{rules, arith}}
 use Rattle.mg_bytes.proofs.bytes.put_number.Goals as goal
 
 pub returns-clause-put : goal.returns-clause-put

@@ -1,11 +1,7 @@
+use Rattle.{mg_calls_bank.proofs.AccountRows.{account-is, drawn-accounts, opened}, mg_model.specs.declared.accounts.AccRow.AccRow}
+use Rattle.{mg_volume.specs.{Meaning.now_of, RunLemmas.{call_made, call_refused}, StateLemmas.now_accounts}, std.proofs.Common.{ap, sym, ◌∙◌, rules}}
 use Rattle.std.specs.Prelude.{◌+◌, List, None, Some, length}
-use Rattle.std.proofs.Common.{ap, sym, ◌∙◌, rules}
 use Rattle.mg_bank.specs.Refusals as bank
-use Rattle.mg_calls_bank.proofs.AccountRows.{account-is, drawn-accounts, opened}
-use Rattle.mg_model.specs.declared.accounts.AccRow.{AccRow}
-use Rattle.mg_volume.specs.StateLemmas.{now_accounts}
-use Rattle.mg_volume.specs.Meaning.{now_of}
-use Rattle.mg_volume.specs.RunLemmas.{call_made, call_refused}
 use Rattle.mg_calls_bank.proofs.banking.account.Goals as goal
 
 pub returns-in-Some : goal.returns-in-Some

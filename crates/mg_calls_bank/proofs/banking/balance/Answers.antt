@@ -1,11 +1,6 @@
-use Rattle.std.specs.Prelude.{List}
-use Rattle.std.proofs.Common.{ap, sym, ◌∙◌, rules}
-use Rattle.mg_calls_bank.proofs.AccountRows.{balance-closed, balance-told}
-use Rattle.mg_model.specs.declared.accounts.AccRow.{AccRow}
-use Rattle.mg_model.specs.Bank.{opens}
-use Rattle.mg_volume.specs.StateLemmas.{now_accounts, now_rows}
-use Rattle.mg_volume.specs.Meaning.{accounts_in, now_of, objects_in}
-use Rattle.mg_volume.specs.RunLemmas.{call_refused}
+use Rattle.{mg_calls_bank.proofs.AccountRows.{balance-closed, balance-told}, mg_model.specs.{Bank.opens, declared.accounts.AccRow.AccRow}}
+use Rattle.mg_volume.specs.{Meaning.{accounts_in, now_of, objects_in}, RunLemmas.call_refused, StateLemmas.{now_accounts, now_rows}}
+use Rattle.std.{proofs.Common.{ap, sym, ◌∙◌, rules}, specs.Prelude.List}
 use Rattle.mg_calls_bank.proofs.banking.balance.Goals as goal
 
 pub returns-then-opens : goal.returns-then-opens

@@ -1,13 +1,6 @@
-use Rattle.std.specs.Prelude.{None, Some}
-use Rattle.std.proofs.Common.{subst, sym, ◌∙◌, rules}
-use Rattle.mg_calls_bank.proofs.AccountRows.{paid, pay-is}
-use Rattle.mg_model.specs.BankCalls.{pay}
-use Rattle.mg_model.specs.declared.replies.Reply.TheVariants.{No}
-use Rattle.mg_volume.specs.Calls.{Answers, CallStages}
-use Rattle.mg_volume.specs.Held.{VolumeHeld}
-use Rattle.mg_volume.specs.StateLemmas.{now_accounts}
-use Rattle.mg_volume.specs.Meaning.{accounts_in, now_of}
-use Rattle.mg_volume.specs.RunLemmas.{call_made, call_refused}
+use Rattle.{mg_calls_bank.proofs.AccountRows.{paid, pay-is}, mg_model.specs.{BankCalls.pay, declared.replies.Reply.TheVariants.No}}
+use Rattle.mg_volume.specs.{Calls.{Answers, CallStages}, Held.VolumeHeld, Meaning.{accounts_in, now_of}, RunLemmas.{call_made, call_refused}}
+use Rattle.{mg_volume.specs.StateLemmas.now_accounts, std.{proofs.Common.{subst, sym, ◌∙◌, rules}, specs.Prelude.{None, Some}}}
 use Rattle.mg_calls_bank.proofs.banking.pay.Goals as goal
 
 pub returns-in-Ok : goal.returns-in-Ok

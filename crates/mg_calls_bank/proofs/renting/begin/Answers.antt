@@ -1,6 +1,4 @@
-use Rattle.std.proofs.Common.{ap, ◌∙◌}
-use Rattle.mg_model.specs.State.{Counters}
-use Rattle.mg_volume.specs.Meaning.{now_of}
+use Rattle.{mg_model.specs.State.Counters, mg_volume.specs.Meaning.now_of, std.proofs.Common.{ap, ◌∙◌}}
 use Rattle.mg_calls_bank.proofs.renting.begin.Goals as goal
 
 pub returns-clause-now : goal.returns-clause-now

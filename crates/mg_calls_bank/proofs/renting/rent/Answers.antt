@@ -1,17 +1,8 @@
-use Rattle.std.specs.Prelude.{◌==◌, ◌+◌, ◌<◌}
-use Rattle.std.proofs.Common.{ap, subst, sym, ◌∙◌, ⊎_elim, arith}
-use Rattle.std.proofs.lemmas.Bool.{cases_lt, eqb-false}
-use Rattle.mg_calls_bank.proofs.RentRow.{few-owed, rent-done, rent-last, rented-now, same-counters}
-use Rattle.mg_model.specs.BankCalls.{rent}
-use Rattle.mg_model.specs.declared.replies.Refusal.{Refusal}
-use Rattle.mg_model.specs.declared.replies.Reply.TheVariants.{No}
-use Rattle.mg_model.specs.Limits.{period_limit}
-use Rattle.mg_model.specs.State.{Counters}
-use Rattle.mg_volume.specs.Calls.{Answers, CallStages}
-use Rattle.mg_volume.specs.Held.{VolumeHeld}
-use Rattle.mg_volume.specs.StateLemmas.{now_counters}
-use Rattle.mg_volume.specs.Meaning.{accounts_in, counters_in, now_of}
-use Rattle.mg_volume.specs.RunLemmas.{call_made, call_refused, stages_then}
+use Rattle.{mg_calls_bank.proofs.RentRow.{few-owed, rent-done, rent-last, rented-now, same-counters}, mg_model.specs.BankCalls.rent}
+use Rattle.mg_model.specs.{Limits.period_limit, State.Counters, declared.replies.{Refusal.Refusal, Reply.TheVariants.No}}
+use Rattle.mg_volume.specs.{Calls.{Answers, CallStages}, Held.VolumeHeld, Meaning.{accounts_in, counters_in, now_of}, RunLemmas.call_made}
+use Rattle.{mg_volume.specs.{RunLemmas.{call_refused, stages_then}, StateLemmas.now_counters}, std.proofs.Common.{ap, subst, sym, ◌∙◌, ⊎_elim, arith}}
+use Rattle.std.{proofs.lemmas.Bool.{cases_lt, eqb-false}, specs.Prelude.{◌==◌, ◌+◌, ◌<◌}}
 use Rattle.mg_calls_bank.proofs.renting.rent.Goals as goal
 
 pub begin-requires-clause-period : goal.begin-requires-clause-period

@@ -1,12 +1,8 @@
-use Rattle.std.proofs.Common.{◌≡◌, ◌+◌, ◌*◌, ◌/◌, true, arith, sym, ap, subst, ◌∙◌}
-use Rattle.mg_access.specs.FoundLemmas.{found-any, found-passes, page-in}
-use Rattle.mg_calls_dom.proofs.Fetched.{fetched-keeps, fetched-limit, fetched-word, unfetched-keeps, unfetched-limit, unfetched-word}
-use Rattle.mg_calls_dom.proofs.Words.{word-address}
-use Rattle.mg_model.specs.Access.{covers}
-use Rattle.mg_model.specs.Objects.{word_at}
-use Rattle.mg_vcache.specs.Seats.{AllBacked, is_kept}
-use Rattle.mg_volume.specs.Meaning.{has_page, is_page_in, now_of, objects_in}
-use Rattle.mg_volume.specs.RunLemmas.{reads_then, told_since}
+use Rattle.{mg_access.specs.FoundLemmas.{found-any, found-passes, page-in}, mg_calls_dom.proofs.Fetched.{fetched-keeps, fetched-limit, fetched-word}}
+use Rattle.{mg_calls_dom.proofs.{Fetched.{unfetched-keeps, unfetched-limit, unfetched-word}, Words.word-address}, mg_model.specs.Access.covers}
+use Rattle.{mg_model.specs.Objects.word_at, mg_vcache.specs.Seats.{AllBacked, is_kept}, mg_volume.specs.Meaning.{has_page, is_page_in, now_of}}
+use Rattle.{mg_volume.specs.{Meaning.objects_in, RunLemmas.{reads_then, told_since}}, std.proofs.Common.{◌≡◌, ◌+◌, ◌*◌, ◌/◌, true, arith, sym, ap}}
+use Rattle.std.proofs.Common.{subst, ◌∙◌}
 use Rattle.mg_calls_dom.proofs.access.fetch.Goals as goal
 
 pub word-requires-clause-page : goal.word-requires-clause-page

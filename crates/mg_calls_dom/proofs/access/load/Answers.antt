@@ -1,19 +1,9 @@
-use Rattle.std.specs.Option.{ForSome}
-use Rattle.std.proofs.Common.{◌≡◌, ◌+◌, ◌-◌, ◌*◌, arith, sym, ap, subst, ◌∙◌, rules}
-use Rattle.mg_access.specs.LineLemmas.{keeps_line, limit_line}
-use Rattle.mg_access.specs.ServedLemmas.{read_call}
-use Rattle.mg_calls_dom.proofs.Words.{no-word, own-word, word-address}
+use Rattle.{mg_access.specs.{LineLemmas.{keeps_line, limit_line}, ServedLemmas.read_call}, mg_calls_dom.proofs.Words.{no-word, own-word}}
+use Rattle.{mg_calls_dom.proofs.Words.word-address, mg_model.specs.{Abbreviations.unless_refused, Accesses.line_words, Kept.KeepsLine}}
+use Rattle.mg_model.specs.{Objects.word_at, declared.{calls.Line.Line, replies.Reply.TheVariants.{No, Value}, rights.Right.TheVariants.R}}
+use Rattle.{mg_vcache.specs.Seats.{AllBacked, is_kept}, mg_volume.specs.{Meaning.now_of, RunLemmas.{reads_then, told_since}}, std.proofs.Common.◌≡◌}
+use Rattle.std.{proofs.Common.{◌+◌, ◌-◌, ◌*◌, arith, sym, ap, subst, ◌∙◌, rules}, specs.Option.ForSome}
 use Rattle.mg_model.specs.declared.calls.Call.TheVariants as call
-use Rattle.mg_model.specs.declared.calls.Line.{Line}
-use Rattle.mg_model.specs.declared.replies.Reply.TheVariants.{No, Value}
-use Rattle.mg_model.specs.declared.rights.Right.TheVariants.{R}
-use Rattle.mg_model.specs.Accesses.{line_words}
-use Rattle.mg_model.specs.Kept.{KeepsLine}
-use Rattle.mg_model.specs.Objects.{word_at}
-use Rattle.mg_model.specs.Abbreviations.{unless_refused}
-use Rattle.mg_vcache.specs.Seats.{AllBacked, is_kept}
-use Rattle.mg_volume.specs.Meaning.{now_of}
-use Rattle.mg_volume.specs.RunLemmas.{reads_then, told_since}
 use Rattle.mg_calls_dom.proofs.access.load.Goals as goal
 
 pub returns-in_ok-word-in-Ok : goal.returns-in_ok-word-in-Ok

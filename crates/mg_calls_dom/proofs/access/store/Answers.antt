@@ -1,23 +1,10 @@
-use Rattle.std.specs.Option.{ForSome}
-use Rattle.std.proofs.Common.{◌≡◌, ◌+◌, ◌-◌, ◌*◌, arith, sym, ap, subst, ◌∙◌, rules}
-use Rattle.mg_access.specs.LineLemmas.{drops_line, limit_line}
-use Rattle.mg_access.specs.Searching.{word_accesses}
-use Rattle.mg_access.specs.ServedLemmas.{read_call, reads_serves}
-use Rattle.mg_access.specs.Served.{of_call}
+use Rattle.mg_access.specs.{LineLemmas.{drops_line, limit_line}, Searching.word_accesses, Served.of_call, ServedLemmas.{read_call, reads_serves}}
 use Rattle.mg_calls_dom.proofs.Words.{dropped-at, dropped-keys, no-word, own-word, stored-backed, word-address}
+use Rattle.mg_model.specs.{Abbreviations.unless_refused, Accesses.line_words, Kept.KeepsLine, ObjectCalls.store, Objects.with_word, State.State}
+use Rattle.mg_model.specs.declared.{calls.Line.Line, replies.Reply.TheVariants.{Done, No}, rights.Right.TheVariants.W}
+use Rattle.{mg_vcache.specs.Seats.{AllBacked, is_kept}, mg_volume.specs.{Meaning.now_of, RunLemmas.then_serves}, std.proofs.Common.{◌≡◌, ◌+◌, ◌-◌}}
+use Rattle.std.{proofs.Common.{◌*◌, arith, sym, ap, subst, ◌∙◌, rules}, specs.Option.ForSome}
 use Rattle.mg_model.specs.declared.calls.Call.TheVariants as call
-use Rattle.mg_model.specs.declared.calls.Line.{Line}
-use Rattle.mg_model.specs.declared.replies.Reply.TheVariants.{Done, No}
-use Rattle.mg_model.specs.declared.rights.Right.TheVariants.{W}
-use Rattle.mg_model.specs.Accesses.{line_words}
-use Rattle.mg_model.specs.Kept.{KeepsLine}
-use Rattle.mg_model.specs.ObjectCalls.{store}
-use Rattle.mg_model.specs.Objects.{with_word}
-use Rattle.mg_model.specs.Abbreviations.{unless_refused}
-use Rattle.mg_model.specs.State.{State}
-use Rattle.mg_vcache.specs.Seats.{AllBacked, is_kept}
-use Rattle.mg_volume.specs.Meaning.{now_of}
-use Rattle.mg_volume.specs.RunLemmas.{then_serves}
 use Rattle.mg_calls_dom.proofs.access.store.Goals as goal
 
 pub returns-in_ok-set_word-in-Ok : goal.returns-in_ok-set_word-in-Ok

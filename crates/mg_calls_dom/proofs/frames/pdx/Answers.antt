@@ -1,24 +1,10 @@
-use Rattle.std.specs.Prelude.{◌≡◌, ◌==◌}
-use Rattle.std.specs.Option.{ForSome}
-use Rattle.std.proofs.Common.{◌-◌, arith, sym, ap, subst, ◌∙◌, rules}
-use Rattle.std.specs.List.{list_any}
-use Rattle.mg_access.specs.LineLemmas.{drops_line}
-use Rattle.mg_access.specs.ReachedLemmas.{reached_at, reached_lives, same_threads}
-use Rattle.mg_access.specs.Searching.{access_refusal}
-use Rattle.mg_access.specs.ServedLemmas.{read_call, reads_serves}
-use Rattle.mg_access.specs.Served.{of_call}
-use Rattle.mg_calls_dom.proofs.Entered.{entering-backed, entering-disturbs, no-words, pdx-denied}
+use Rattle.mg_access.specs.{LineLemmas.drops_line, ReachedLemmas.{reached_at, reached_lives, same_threads}, Searching.access_refusal, Served.of_call}
+use Rattle.{mg_access.specs.ServedLemmas.{read_call, reads_serves}, mg_calls_dom.proofs.Entered.{entering-backed, entering-disturbs, no-words}}
+use Rattle.{mg_calls_dom.proofs.Entered.pdx-denied, mg_model.specs.{Domains.pdx, Kept.KeepsLine, ObjectCalls.row_at, State.Thread}}
+use Rattle.mg_model.specs.declared.{calls.Line.Line, replies.Reply.TheVariants.{Count, No}, rights.Right.TheVariants.P}
+use Rattle.{mg_vcache.specs.Seats.{AllBacked, is_kept}, mg_volume.specs.{Meaning.now_of, RunLemmas.then_stages}, std.proofs.Common.{◌-◌, arith, sym}}
+use Rattle.std.{proofs.Common.{ap, subst, ◌∙◌, rules}, specs.{List.list_any, Option.ForSome, Prelude.{◌≡◌, ◌==◌}}}
 use Rattle.mg_model.specs.declared.calls.Call.TheVariants as call
-use Rattle.mg_model.specs.declared.calls.Line.{Line}
-use Rattle.mg_model.specs.declared.replies.Reply.TheVariants.{Count, No}
-use Rattle.mg_model.specs.declared.rights.Right.TheVariants.{P}
-use Rattle.mg_model.specs.Domains.{pdx}
-use Rattle.mg_model.specs.Kept.{KeepsLine}
-use Rattle.mg_model.specs.ObjectCalls.{row_at}
-use Rattle.mg_model.specs.State.{Thread}
-use Rattle.mg_vcache.specs.Seats.{AllBacked, is_kept}
-use Rattle.mg_volume.specs.Meaning.{now_of}
-use Rattle.mg_volume.specs.RunLemmas.{then_stages}
 use Rattle.mg_calls_dom.proofs.frames.pdx.Goals as goal
 
 pub step_in-requires-clause-lives : goal.step_in-requires-clause-lives

@@ -1,14 +1,8 @@
-use Rattle.std.specs.Prelude.{◌-◌, ◌==◌, find, length, None, Some}
-use Rattle.std.proofs.Common.{sym, ap, ◌∙◌, rules}
-use Rattle.mg_access.specs.BackingLemmas.{drops_stay}
-use Rattle.mg_access.specs.ThreadLemmas.{change-gives, told-row}
-use Rattle.mg_calls_dom.proofs.Entered.{leaving, ret-is}
+use Rattle.{mg_access.specs.{BackingLemmas.drops_stay, ThreadLemmas.{change-gives, told-row}}, mg_calls_dom.proofs.Entered.{leaving, ret-is}}
+use Rattle.{mg_model.specs.{Domains.ret, State.Thread, declared.replies.Reply.TheVariants.Count}, mg_volume.specs.Meaning.{now_of, threads_in}}
+use Rattle.{mg_volume.specs.RunLemmas.{call_made, call_refused}, std.{proofs.Common.{sym, ap, ◌∙◌, rules}, specs.Prelude.{◌-◌, ◌==◌, find, length}}}
+use Rattle.std.specs.Prelude.{None, Some}
 use Rattle.mg_model.specs.declared.calls.Call.TheVariants as call
-use Rattle.mg_model.specs.declared.replies.Reply.TheVariants.{Count}
-use Rattle.mg_model.specs.State.{Thread}
-use Rattle.mg_model.specs.Domains.{ret}
-use Rattle.mg_volume.specs.Meaning.{now_of, threads_in}
-use Rattle.mg_volume.specs.RunLemmas.{call_made, call_refused}
 use Rattle.mg_calls_dom.proofs.frames.ret.Goals as goal
 
 pub returns-in-Ok-clause-does : goal.returns-in-Ok-clause-does

@@ -1,11 +1,6 @@
-use Rattle.std.specs.Prelude.{◌+◌, ◌==◌, find, length, None, Some}
-use Rattle.std.proofs.Common.{sym, ap, ◌∙◌}
-use Rattle.mg_access.specs.ThreadLemmas.{change-gives, told-row}
-use Rattle.mg_apd.specs.Refusals.{entered_slots}
-use Rattle.mg_calls_dom.proofs.Entered.{entering, pdx-is}
-use Rattle.mg_model.specs.declared.replies.Reply.TheVariants.{Count}
-use Rattle.mg_model.specs.State.{Thread}
-use Rattle.mg_volume.specs.Meaning.{now_of, threads_in}
+use Rattle.{mg_access.specs.ThreadLemmas.{change-gives, told-row}, mg_apd.specs.Refusals.entered_slots, mg_calls_dom.proofs.Entered.entering}
+use Rattle.{mg_calls_dom.proofs.Entered.pdx-is, mg_model.specs.{State.Thread, declared.replies.Reply.TheVariants.Count}}
+use Rattle.{mg_volume.specs.Meaning.{now_of, threads_in}, std.{proofs.Common.{sym, ap, ◌∙◌}, specs.Prelude.{◌+◌, ◌==◌, find, length, None, Some}}}
 use Rattle.mg_calls_dom.proofs.frames.step_in.Goals as goal
 
 pub returns-in-Ok-clause-answers : goal.returns-in-Ok-clause-answers

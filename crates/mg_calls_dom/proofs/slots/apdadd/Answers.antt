@@ -1,15 +1,8 @@
+use Rattle.{mg_access.specs.{BackingLemmas.same_stay, ThreadLemmas.{change-gives, told-row}}, mg_calls_dom.proofs.SlotCalls.{apdadd-is, slotted}}
+use Rattle.mg_model.specs.{Access.last_slots, Domains.apdadd, State.Thread, declared.replies.Reply.TheVariants.Count}
+use Rattle.{mg_volume.specs.{Meaning.{now_of, threads_in}, RunLemmas.{call_made, call_refused}}, std.proofs.Common.{sym, ap, ◌∙◌, rules}}
 use Rattle.std.specs.Prelude.{◌++◌, ◌∷◌, ◌==◌, [], find, length, None, Some}
-use Rattle.std.proofs.Common.{sym, ap, ◌∙◌, rules}
-use Rattle.mg_access.specs.BackingLemmas.{same_stay}
-use Rattle.mg_access.specs.ThreadLemmas.{change-gives, told-row}
-use Rattle.mg_calls_dom.proofs.SlotCalls.{apdadd-is, slotted}
-use Rattle.mg_model.specs.declared.replies.Reply.TheVariants.{Count}
 use Rattle.mg_model.specs.declared.calls.Call.TheVariants as call
-use Rattle.mg_model.specs.Access.{last_slots}
-use Rattle.mg_model.specs.State.{Thread}
-use Rattle.mg_model.specs.Domains.{apdadd}
-use Rattle.mg_volume.specs.Meaning.{now_of, threads_in}
-use Rattle.mg_volume.specs.RunLemmas.{call_made, call_refused}
 use Rattle.mg_calls_dom.proofs.slots.apdadd.Goals as goal
 
 pub returns-in-Ok-clause-does : goal.returns-in-Ok-clause-does

@@ -1,15 +1,8 @@
-use Rattle.std.specs.Prelude.{◌++◌, ◌==◌, suc, drop, find, take, None, Some}
-use Rattle.std.proofs.Common.{sym, ap, ◌∙◌, rules}
-use Rattle.mg_access.specs.BackingLemmas.{drops_stay}
-use Rattle.mg_access.specs.ThreadLemmas.{change-gives, told-row}
-use Rattle.mg_calls_dom.proofs.SlotCalls.{apddel-is, slotted}
+use Rattle.{mg_access.specs.{BackingLemmas.drops_stay, ThreadLemmas.{change-gives, told-row}}, mg_calls_dom.proofs.SlotCalls.{apddel-is, slotted}}
+use Rattle.{mg_model.specs.{Access.last_slots, Domains.apddel, State.Thread, declared.replies.Reply.TheVariants.Done}, mg_volume.specs.Meaning.now_of}
+use Rattle.{mg_volume.specs.{Meaning.threads_in, RunLemmas.{call_made, call_refused}}, std.{proofs.Common.{sym, ap, ◌∙◌, rules}, specs.Prelude.◌++◌}}
+use Rattle.std.specs.Prelude.{◌==◌, suc, drop, find, take, None, Some}
 use Rattle.mg_model.specs.declared.calls.Call.TheVariants as call
-use Rattle.mg_model.specs.declared.replies.Reply.TheVariants.{Done}
-use Rattle.mg_model.specs.Access.{last_slots}
-use Rattle.mg_model.specs.State.{Thread}
-use Rattle.mg_model.specs.Domains.{apddel}
-use Rattle.mg_volume.specs.Meaning.{now_of, threads_in}
-use Rattle.mg_volume.specs.RunLemmas.{call_made, call_refused}
 use Rattle.mg_calls_dom.proofs.slots.apddel.Goals as goal
 
 pub returns-in-Ok-clause-does : goal.returns-in-Ok-clause-does

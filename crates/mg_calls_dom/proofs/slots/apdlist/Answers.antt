@@ -1,13 +1,7 @@
+use Rattle.{mg_access.specs.ThreadLemmas.lives-row, mg_model.specs.{Access.{domain_of, last_slots}, State.{CallFrame, Thread}}}
+use Rattle.{mg_model.specs.declared.{replies.Reply.TheVariants.Slots, slots.Slot.Slot}, mg_volume.specs.Meaning.{now_of, threads_in}}
+use Rattle.{mg_volume.specs.RunLemmas.{stages_none, told_thread}, std.{proofs.Common.{sym, ap, ◌∙◌, rules}, specs.Option.option_map_or}}
 use Rattle.std.specs.Prelude.{◌≡◌, ◌-◌, ◌++◌, [], length, map, option_map, replicate, List, Option, Some}
-use Rattle.std.specs.Option.{option_map_or}
-use Rattle.std.proofs.Common.{sym, ap, ◌∙◌, rules}
-use Rattle.mg_access.specs.ThreadLemmas.{lives-row}
-use Rattle.mg_model.specs.declared.replies.Reply.TheVariants.{Slots}
-use Rattle.mg_model.specs.declared.slots.Slot.{Slot}
-use Rattle.mg_model.specs.Access.{domain_of, last_slots}
-use Rattle.mg_model.specs.State.{CallFrame, Thread}
-use Rattle.mg_volume.specs.Meaning.{now_of, threads_in}
-use Rattle.mg_volume.specs.RunLemmas.{stages_none, told_thread}
 use Rattle.mg_calls_dom.proofs.slots.apdlist.Goals as goal
 
 pub unreachable-requires : goal.unreachable-requires

@@ -1,12 +1,7 @@
-use Rattle.std.specs.Prelude.{◌≡◌, ◌+◌, true, false}
-use Rattle.std.proofs.Common.{refl, sym, ◌∙◌, rules}
-use Rattle.mg_calls_obj.proofs.Rows.{change_gives, entry-is, entry_moves, may_change, staged-is}
-use Rattle.mg_calls_obj.specs.Altering.{is_crowded, is_outside}
-use Rattle.mg_model.specs.declared.replies.Reply.TheVariants.{Value}
-use Rattle.mg_model.specs.ObjectCalls.{with_entry}
-use Rattle.mg_model.specs.State.{ObjectRow}
-use Rattle.mg_volume.specs.Meaning.{now_of, objects_in}
-use Rattle.mg_volume.specs.RunLemmas.{call_made, call_refused}
+use Rattle.mg_calls_obj.{proofs.Rows.{change_gives, entry-is, entry_moves, may_change, staged-is}, specs.Altering.{is_crowded, is_outside}}
+use Rattle.{mg_model.specs.{ObjectCalls.with_entry, State.ObjectRow, declared.replies.Reply.TheVariants.Value}, mg_volume.specs.Meaning.now_of}
+use Rattle.{mg_volume.specs.{Meaning.objects_in, RunLemmas.{call_made, call_refused}}, std.{proofs.Common.{refl, sym, ◌∙◌, rules}, specs.Prelude.◌≡◌}}
+use Rattle.std.specs.Prelude.{◌+◌, true, false}
 use Rattle.mg_calls_obj.proofs.altering.entry_by_row.Goals as goal
 
 pub change-requires-clause-change : goal.change-requires-clause-change

@@ -1,11 +1,6 @@
-use Rattle.std.specs.Prelude.{◌≡◌}
-use Rattle.std.proofs.Common.{refl, sym, ap, ◌∙◌, rules}
-use Rattle.mg_calls_obj.proofs.Rows.{change_gives, ext-is, staged-is}
-use Rattle.mg_model.specs.declared.replies.Reply.TheVariants.{Done}
-use Rattle.mg_model.specs.ObjectCalls.{extension_of}
-use Rattle.mg_model.specs.State.{ObjectRow}
-use Rattle.mg_volume.specs.Meaning.{now_of, objects_in}
-use Rattle.mg_volume.specs.RunLemmas.{call_made}
+use Rattle.{mg_calls_obj.proofs.Rows.{change_gives, ext-is, staged-is}, mg_model.specs.{ObjectCalls.extension_of, State.ObjectRow}}
+use Rattle.{mg_model.specs.declared.replies.Reply.TheVariants.Done, mg_volume.specs.{Meaning.{now_of, objects_in}, RunLemmas.call_made}}
+use Rattle.std.{proofs.Common.{refl, sym, ap, ◌∙◌, rules}, specs.Prelude.◌≡◌}
 use Rattle.mg_calls_obj.proofs.altering.ext_by_row.Goals as goal
 
 pub returns : goal.returns

@@ -1,11 +1,7 @@
-use Rattle.std.specs.Prelude.{◌≡◌, Some, None}
-use Rattle.std.proofs.Common.{refl, sym, ap, ◌∙◌, rules}
-use Rattle.mg_calls_obj.proofs.Rows.{change_gives, recharge-is, staged-is}
-use Rattle.mg_model.specs.declared.replies.Reply.TheVariants.{Done}
-use Rattle.mg_model.specs.State.{ObjectRow}
-use Rattle.mg_volume.specs.StateLemmas.{now_accounts}
-use Rattle.mg_volume.specs.Meaning.{now_of, objects_in}
-use Rattle.mg_volume.specs.RunLemmas.{call_made, call_refused}
+use Rattle.{mg_calls_obj.proofs.Rows.{change_gives, recharge-is, staged-is}, mg_model.specs.State.ObjectRow}
+use Rattle.{mg_model.specs.declared.replies.Reply.TheVariants.Done, mg_volume.specs.{Meaning.{now_of, objects_in}, RunLemmas.call_made}}
+use Rattle.{mg_volume.specs.{RunLemmas.call_refused, StateLemmas.now_accounts}, std.{proofs.Common.{refl, sym, ap, ◌∙◌, rules}, specs.Prelude.◌≡◌}}
+use Rattle.std.specs.Prelude.{Some, None}
 use Rattle.mg_calls_obj.proofs.altering.recharge_by_row.Goals as goal
 
 pub returns-in-Some : goal.returns-in-Some

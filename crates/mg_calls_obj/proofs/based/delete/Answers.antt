@@ -1,5 +1,4 @@
-use Rattle.mg_calls_obj.proofs.DropsBacked.{others_stay}
-use Rattle.mg_model.specs.State.{ObjectRow}
+use Rattle.{mg_calls_obj.proofs.DropsBacked.others_stay, mg_model.specs.State.ObjectRow}
 use Rattle.mg_calls_obj.proofs.based.delete.Goals as goal
 
 pub returns-clause-backed : goal.returns-clause-backed

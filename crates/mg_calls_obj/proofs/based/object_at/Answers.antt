@@ -1,9 +1,5 @@
-use Rattle.std.specs.Prelude.{◌≡◌, ◌==◌, find, Some}
-use Rattle.std.proofs.Common.{sym, subst, ◌∙◌}
-use Rattle.std.proofs.lemmas.Bool.{eqb-true}
-use Rattle.mg_calls_obj.proofs.Rows.{found_passes}
-use Rattle.mg_model.specs.State.{ObjectRow}
-use Rattle.mg_volume.specs.Meaning.{objects_in}
+use Rattle.{mg_calls_obj.proofs.Rows.found_passes, mg_model.specs.State.ObjectRow, mg_volume.specs.Meaning.objects_in, std.proofs.Common.{sym, subst}}
+use Rattle.std.{proofs.{Common.◌∙◌, lemmas.Bool.eqb-true}, specs.Prelude.{◌≡◌, ◌==◌, find, Some}}
 use Rattle.mg_calls_obj.proofs.based.object_at.Goals as goal
 
 pub returns-clause-base : goal.returns-clause-base

@@ -1,8 +1,5 @@
-use Rattle.std.specs.Prelude.{◌*◌, Some, None}
-use Rattle.std.proofs.Common.{refl, sym, ◌∙◌, rules}
-use Rattle.mg_calls_obj.proofs.NewObject.{create-is, created}
-use Rattle.mg_volume.specs.Meaning.{now_of}
-use Rattle.mg_volume.specs.RunLemmas.{call_made, call_refused}
+use Rattle.{mg_calls_obj.proofs.NewObject.{create-is, created}, mg_volume.specs.{Meaning.now_of, RunLemmas.{call_made, call_refused}}}
+use Rattle.std.{proofs.Common.{refl, sym, ◌∙◌, rules}, specs.Prelude.{◌*◌, Some, None}}
 use Rattle.mg_calls_obj.proofs.creating.create.Goals as goal
 
 pub returns-in-Some : goal.returns-in-Some

@@ -1,7 +1,5 @@
-use Rattle.std.proofs.Common.{arith, subst, sym}
-use Rattle.mg_calls_obj.specs.Door.{ActsBy}
-use Rattle.mg_model.specs.declared.calls.Call.{Call}
-use Rattle.mg_volume.specs.RunLemmas.{call_wider}
+use Rattle.{mg_calls_obj.specs.Door.ActsBy, mg_model.specs.declared.calls.Call.Call, mg_volume.specs.RunLemmas.call_wider, std.proofs.Common.arith}
+use Rattle.std.proofs.Common.{subst, sym}
 use Rattle.mg_calls_obj.proofs.door.act.Goals as goal
 
 pub returns-in-Delete-clause-does : goal.returns-in-Delete-clause-does

@@ -1,22 +1,10 @@
-use Rattle.std.specs.Prelude.{◌≡◌, ◌≤◌, ◌+◌, ◌-◌, ℕ, None, Some}
-use Rattle.std.specs.Option.{ForSome}
-use Rattle.std.proofs.Common.{arith, sym, ap, subst, ◌∙◌, rules}
-use Rattle.mg_access.specs.ReachedLemmas.{gone_held, reached_allowed, reached_at, reached_lives, reached_none}
-use Rattle.mg_access.specs.Searching.{allowed_row}
-use Rattle.mg_access.specs.ServedLemmas.{read_call, reads_serves}
-use Rattle.mg_access.specs.Served.{of_call}
-use Rattle.mg_calls_obj.proofs.Doors.{at_door, denied, door-done, door-limit, door-rules, ends_backed, is-line}
-use Rattle.mg_calls_obj.specs.Door.{asked, named}
-use Rattle.mg_model.specs.declared.rights.Right.{Right}
-use Rattle.mg_model.specs.Access.{allowed}
-use Rattle.mg_model.specs.Backed.{KeepsBacked, ended_by_call}
-use Rattle.mg_model.specs.Kept.{KeepsLine, Validates, access_limit}
-use Rattle.mg_model.specs.ObjectCalls.{row_at}
-use Rattle.mg_model.specs.Refused.{Answer}
-use Rattle.mg_model.specs.State.{State}
-use Rattle.mg_model.specs.Turn.{thread_call}
-use Rattle.mg_vcache.specs.Seats.{AllBacked, is_kept}
-use Rattle.mg_volume.specs.Meaning.{now_of}
+use Rattle.mg_access.specs.{ReachedLemmas.{gone_held, reached_allowed, reached_at, reached_lives, reached_none}, Searching.allowed_row}
+use Rattle.{mg_access.specs.{Served.of_call, ServedLemmas.{read_call, reads_serves}}, mg_calls_obj.proofs.Doors.{at_door, denied, door-done}}
+use Rattle.{mg_calls_obj.{proofs.Doors.{door-limit, door-rules, ends_backed, is-line}, specs.Door.{asked, named}}, mg_model.specs.Access.allowed}
+use Rattle.mg_model.specs.{Backed.{KeepsBacked, ended_by_call}, Kept.{KeepsLine, Validates, access_limit}, ObjectCalls.row_at, Refused.Answer}
+use Rattle.{mg_model.specs.{State.State, Turn.thread_call, declared.rights.Right.Right}, mg_vcache.specs.Seats.{AllBacked, is_kept}}
+use Rattle.{mg_volume.specs.Meaning.now_of, std.{proofs.Common.{arith, sym, ap, subst, ◌∙◌, rules}, specs.{Option.ForSome, Prelude.{◌≡◌, ◌≤◌, ◌+◌}}}}
+use Rattle.std.specs.Prelude.{◌-◌, ℕ, None, Some}
 use Rattle.mg_calls_obj.proofs.door.on_object.Goals as goal
 
 pub returns-in_err-object : goal.returns-in_err-object

@@ -1,22 +1,12 @@
-use Rattle.std.proofs.Common.{◌≡◌, ◌-◌, arith, get_or, refl, sym, ap, subst, ◌∙◌, rules}
-use Rattle.std.specs.Prelude.{map}
-use Rattle.mg_access.specs.LineLemmas.{limit_line, thread_limit, thread_rules}
-use Rattle.mg_access.specs.ReachedLemmas.{any_end, any_hit, any_miss, gone_held, reached_allowed, reached_lives, reached_none}
-use Rattle.mg_access.specs.Searching.{allowed_row}
-use Rattle.mg_access.specs.ServedLemmas.{read_call}
-use Rattle.mg_calls_obj.proofs.Rights.{failed_limit, gone-since, limit-since, no-words, of, searched, taken_more, tries_end, tries_hit, tries_miss, valid-since}
-use Rattle.mg_calls_obj.proofs.InfoReplies.{info-denied, info-known}
-use Rattle.mg_calls_obj.proofs.informing.validated_info.Invariants.{rights}
+use Rattle.mg_access.specs.{LineLemmas.{limit_line, thread_limit, thread_rules}, ReachedLemmas.{any_end, any_hit, any_miss, gone_held}}
+use Rattle.mg_access.specs.{ReachedLemmas.{reached_allowed, reached_lives, reached_none}, Searching.allowed_row, ServedLemmas.read_call}
+use Rattle.mg_calls_obj.proofs.{InfoReplies.{info-denied, info-known}, Rights.{failed_limit, gone-since, limit-since, no-words, of, searched}}
+use Rattle.mg_calls_obj.proofs.{Rights.{taken_more, tries_end, tries_hit, tries_miss, valid-since}, informing.validated_info.Invariants.rights}
+use Rattle.mg_model.specs.{Access.allowed, Accesses.{accesses, any_access}, Kept.{KeepsRules, Searches, Validates}}
+use Rattle.mg_model.specs.declared.{replies.{Refusal.TheVariants.Denied, Reply.TheVariants.No}, rights.Right.TheVariants.R}
+use Rattle.{mg_vcache.specs.Seats.is_kept, mg_volume.specs.{Meaning.now_of, RunLemmas.{reads_then, told_since}}, std.proofs.Common.{◌≡◌, ◌-◌, arith}}
+use Rattle.std.{proofs.Common.{get_or, refl, sym, ap, subst, ◌∙◌, rules}, specs.Prelude.map}
 use Rattle.mg_model.specs.declared.calls.Call.TheVariants as call
-use Rattle.mg_model.specs.declared.replies.Refusal.TheVariants.{Denied}
-use Rattle.mg_model.specs.declared.replies.Reply.TheVariants.{No}
-use Rattle.mg_model.specs.declared.rights.Right.TheVariants.{R}
-use Rattle.mg_model.specs.Access.{allowed}
-use Rattle.mg_model.specs.Accesses.{accesses, any_access}
-use Rattle.mg_model.specs.Kept.{KeepsRules, Searches, Validates}
-use Rattle.mg_vcache.specs.Seats.{is_kept}
-use Rattle.mg_volume.specs.Meaning.{now_of}
-use Rattle.mg_volume.specs.RunLemmas.{reads_then, told_since}
 use Rattle.mg_calls_obj.proofs.informing.validated_info.Goals as goal
 
 pub returns-in_err-object : goal.returns-in_err-object

@@ -1,16 +1,7 @@
-use Rattle.std.proofs.Common.{◌≡◌, ◌==◌, ◌-◌, [], ◌∷◌, List, drop, None, take}
-use Rattle.std.specs.Prelude.{find, map}
-use Rattle.std.specs.List.{list_any}
-use Rattle.std.specs.Option.{ForSome}
-use Rattle.mg_calls_obj.proofs.Rights.{Tries, of}
-use Rattle.mg_model.specs.declared.rights.Right.{Right}
-use Rattle.mg_model.specs.declared.rights.Right.TheVariants.{R, W, X, D, P, O}
-use Rattle.mg_model.specs.Access.{allowed}
-use Rattle.mg_model.specs.Kept.{Searches}
-use Rattle.mg_model.specs.State.{Thread}
-use Rattle.mg_vcache.specs.Seats.{is_kept}
-use Rattle.mg_volume.specs.Calls.{Reads}
-use Rattle.mg_volume.specs.Meaning.{now_of, threads_in}
+use Rattle.{mg_calls_obj.proofs.Rights.{Tries, of}, mg_model.specs.{Access.allowed, Kept.Searches, State.Thread, declared.rights.Right.Right}}
+use Rattle.{mg_model.specs.declared.rights.Right.TheVariants.{R, W, X, D, P, O}, mg_vcache.specs.Seats.is_kept, mg_volume.specs.Calls.Reads}
+use Rattle.{mg_volume.specs.Meaning.{now_of, threads_in}, std.{proofs.Common.{◌≡◌, ◌==◌, ◌-◌, [], ◌∷◌, List, drop, None, take}, specs.List.list_any}}
+use Rattle.std.specs.{Option.ForSome, Prelude.{find, map}}
 use Rattle.mg_calls_obj.proofs.informing.validated_info.Given as goal
 
 abbrev pub rights : List Right

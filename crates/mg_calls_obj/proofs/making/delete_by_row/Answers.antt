@@ -1,10 +1,5 @@
-use Rattle.std.specs.Prelude.{◌==◌}
-use Rattle.std.specs.List.{list_any}
-use Rattle.std.proofs.Common.{ap, ◌∙◌}
-use Rattle.mg_calls_obj.proofs.DropsBacked.{gone_keeps}
-use Rattle.mg_calls_obj.proofs.Rows.{based_there}
-use Rattle.mg_model.specs.State.{ObjectRow}
-use Rattle.mg_volume.specs.Meaning.{now_of, objects_in}
+use Rattle.{mg_calls_obj.proofs.{DropsBacked.gone_keeps, Rows.based_there}, mg_model.specs.State.ObjectRow, mg_volume.specs.Meaning.now_of}
+use Rattle.{mg_volume.specs.Meaning.objects_in, std.{proofs.Common.{ap, ◌∙◌}, specs.{List.list_any, Prelude.◌==◌}}}
 use Rattle.mg_calls_obj.proofs.making.delete_by_row.Goals as goal
 
 pub remove-requires-clause-there : goal.remove-requires-clause-there

@@ -1,13 +1,8 @@
-use Rattle.std.specs.Prelude.{◌≡◌, ◌||◌, nat_le, true, false, length, unwrap_or}
-use Rattle.std.proofs.Common.{refl, sym, ap, ◌∙◌, rules}
-use Rattle.mg_calls_obj.proofs.Rows.{change_gives, changed, pwadd-is, staged-is, with_password}
-use Rattle.mg_model.specs.declared.replies.Reply.TheVariants.{Value}
-use Rattle.mg_model.specs.Limits.{draw_limit, never, password_limit}
-use Rattle.mg_model.specs.ObjectCalls.{all_drawn, drawn, is_past}
-use Rattle.mg_model.specs.State.{Counters, ObjectRow}
-use Rattle.mg_volume.specs.StateLemmas.{now_counters}
-use Rattle.mg_volume.specs.Meaning.{now_of, objects_in}
-use Rattle.mg_volume.specs.RunLemmas.{call_made, call_refused}
+use Rattle.{mg_calls_obj.proofs.Rows.{change_gives, changed, pwadd-is, staged-is, with_password}, mg_model.specs.Limits.{draw_limit, never}}
+use Rattle.mg_model.specs.{Limits.password_limit, ObjectCalls.{all_drawn, drawn, is_past}, State.{Counters, ObjectRow}}
+use Rattle.{mg_model.specs.declared.replies.Reply.TheVariants.Value, mg_volume.specs.{Meaning.{now_of, objects_in}, RunLemmas.call_made}}
+use Rattle.{mg_volume.specs.{RunLemmas.call_refused, StateLemmas.now_counters}, std.{proofs.Common.{refl, sym, ap, ◌∙◌, rules}, specs.Prelude.◌≡◌}}
+use Rattle.std.specs.Prelude.{◌||◌, nat_le, true, false, length, unwrap_or}
 use Rattle.mg_calls_obj.proofs.passwords.pwadd_by_row.Goals as goal
 
 pub returns-then-is_past : goal.returns-then-is_past

@@ -1,15 +1,8 @@
-use Rattle.std.specs.Prelude.{◌≡◌, Bool, true, false, if◌then◌else◌, Result, Ok, Err}
-use Rattle.std.specs.List.{list_any}
-use Rattle.std.proofs.Common.{refl, sym, ap, ◌∙◌, rules}
-use Rattle.mg_calls_obj.proofs.DropsBacked.{change_keeps}
-use Rattle.mg_calls_obj.proofs.Rows.{change_gives, pwdel-is, staged-is, without_password}
-use Rattle.mg_model.specs.declared.replies.Refusal.{Refusal}
-use Rattle.mg_model.specs.declared.replies.Refusal.TheVariants.{NoPassword}
-use Rattle.mg_model.specs.declared.replies.Reply.TheVariants.{Done, No}
-use Rattle.mg_model.specs.ObjectCalls.{has_password}
-use Rattle.mg_model.specs.State.{ObjectRow}
-use Rattle.mg_volume.specs.Meaning.{now_of, objects_in}
-use Rattle.mg_volume.specs.RunLemmas.{call_made, call_refused}
+use Rattle.mg_calls_obj.proofs.{DropsBacked.change_keeps, Rows.{change_gives, pwdel-is, staged-is, without_password}}
+use Rattle.mg_model.specs.{ObjectCalls.has_password, State.ObjectRow, declared.replies.Refusal.{Refusal, TheVariants.NoPassword}}
+use Rattle.{mg_model.specs.declared.replies.Reply.TheVariants.{Done, No}, mg_volume.specs.{Meaning.{now_of, objects_in}, RunLemmas.call_made}}
+use Rattle.{mg_volume.specs.RunLemmas.call_refused, std.{proofs.Common.{refl, sym, ap, ◌∙◌, rules}, specs.{List.list_any, Prelude.{◌≡◌, Bool, true}}}}
+use Rattle.std.specs.Prelude.{false, if◌then◌else◌, Result, Ok, Err}
 use Rattle.mg_calls_obj.proofs.passwords.pwdel_by_row.Goals as goal
 
 -- what was removed was there

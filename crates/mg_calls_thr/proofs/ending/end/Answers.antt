@@ -1,12 +1,7 @@
-use Rattle.std.proofs.Common.{sym, ap, ◌∙◌, rules}
-use Rattle.mg_access.specs.BackingLemmas.{drops_stay}
-use Rattle.mg_calls_thr.proofs.Ended.{end-done, end-first, end-refused}
+use Rattle.{mg_access.specs.BackingLemmas.drops_stay, mg_calls_thr.proofs.Ended.{end-done, end-first, end-refused}, mg_model.specs.Threads.end_thread}
+use Rattle.{mg_model.specs.declared.replies.Reply.TheVariants.Done, mg_volume.specs.{Meaning.{now_of, threads_in}, RunLemmas.call_made}}
+use Rattle.{mg_volume.specs.{RunLemmas.call_refused, StateLemmas.now_threads}, std.proofs.Common.{sym, ap, ◌∙◌, rules}}
 use Rattle.mg_model.specs.declared.calls.Call.TheVariants as call
-use Rattle.mg_model.specs.declared.replies.Reply.TheVariants.{Done}
-use Rattle.mg_model.specs.Threads.{end_thread}
-use Rattle.mg_volume.specs.StateLemmas.{now_threads}
-use Rattle.mg_volume.specs.Meaning.{now_of, threads_in}
-use Rattle.mg_volume.specs.RunLemmas.{call_made, call_refused}
 use Rattle.mg_calls_thr.proofs.ending.end.Goals as goal
 
 pub returns-in-Some-clause-does : goal.returns-in-Some-clause-does

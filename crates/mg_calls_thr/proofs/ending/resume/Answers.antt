@@ -1,13 +1,7 @@
-use Rattle.std.specs.Prelude.{◌==◌, find, None, Some}
-use Rattle.std.proofs.Common.{sym, ap, ◌∙◌, rules}
-use Rattle.mg_access.specs.ThreadLemmas.{change-gives}
-use Rattle.mg_calls_thr.proofs.Ended.{resume-by}
-use Rattle.mg_model.specs.declared.replies.Reply.TheVariants.{Done}
-use Rattle.mg_model.specs.declared.threads.ThrState.TheVariants.{Ready}
-use Rattle.mg_model.specs.State.{Thread, ThreadRow}
-use Rattle.mg_volume.specs.StateLemmas.{now_threads}
-use Rattle.mg_volume.specs.Meaning.{now_of, threads_in}
-use Rattle.mg_volume.specs.RunLemmas.{call_made, call_refused}
+use Rattle.{mg_access.specs.ThreadLemmas.change-gives, mg_calls_thr.proofs.Ended.resume-by, mg_model.specs.State.{Thread, ThreadRow}}
+use Rattle.{mg_model.specs.declared.{replies.Reply.TheVariants.Done, threads.ThrState.TheVariants.Ready}, mg_volume.specs.Meaning.now_of}
+use Rattle.{mg_volume.specs.{Meaning.threads_in, RunLemmas.{call_made, call_refused}, StateLemmas.now_threads}, std.proofs.Common.{sym, ap, ◌∙◌}}
+use Rattle.std.{proofs.Common.rules, specs.Prelude.{◌==◌, find, None, Some}}
 use Rattle.mg_calls_thr.proofs.ending.resume.Goals as goal
 
 pub returns-in-Some : goal.returns-in-Some

@@ -1,12 +1,7 @@
+use Rattle.{mg_access.specs.ThreadLemmas.told-row, mg_calls_thr.proofs.Made.{born-by, counted-threads, joined, made, make-done, make-full}}
+use Rattle.{mg_calls_thr.specs.Making.first_row, mg_model.specs.State.Counters, mg_volume.specs.Meaning.{counters_in, now_of, threads_in}}
+use Rattle.{mg_volume.specs.{RunLemmas.{call_made, call_refused}, StateLemmas.{now_counters, now_threads}}, std.proofs.Common.{ap, subst, ◌∙◌, rules}}
 use Rattle.std.specs.Prelude.{◌≤◌}
-use Rattle.std.proofs.Common.{ap, subst, ◌∙◌, rules}
-use Rattle.mg_access.specs.ThreadLemmas.{told-row}
-use Rattle.mg_calls_thr.proofs.Made.{born-by, counted-threads, joined, made, make-done, make-full}
-use Rattle.mg_calls_thr.specs.Making.{first_row}
-use Rattle.mg_model.specs.State.{Counters}
-use Rattle.mg_volume.specs.StateLemmas.{now_counters, now_threads}
-use Rattle.mg_volume.specs.Meaning.{counters_in, now_of, threads_in}
-use Rattle.mg_volume.specs.RunLemmas.{call_made, call_refused}
 use Rattle.mg_calls_thr.proofs.making.make.Goals as goal
 
 pub returns-in-Some : goal.returns-in-Some

@@ -1,23 +1,10 @@
-use Rattle.std.proofs.Common.{◌-◌, arith, sym, ap, subst, ◌∙◌, rules}
-use Rattle.std.specs.Prelude.{◌≡◌, ◌==◌}
-use Rattle.std.specs.Option.{ForSome}
-use Rattle.std.specs.List.{list_any}
-use Rattle.mg_access.specs.LineLemmas.{keeps_line, limit_line}
-use Rattle.mg_access.specs.ReachedLemmas.{same_threads}
-use Rattle.mg_access.specs.Searching.{access_refusal}
-use Rattle.mg_access.specs.ServedLemmas.{read_call, reads_serves}
-use Rattle.mg_access.specs.Served.{of_call}
-use Rattle.mg_calls_thr.proofs.Made.{make-denied, making-backed, no-words}
+use Rattle.mg_access.specs.{LineLemmas.{keeps_line, limit_line}, ReachedLemmas.same_threads, Searching.access_refusal, Served.of_call}
+use Rattle.{mg_access.specs.ServedLemmas.{read_call, reads_serves}, mg_calls_thr.proofs.Made.{make-denied, making-backed, no-words}}
+use Rattle.mg_model.specs.{State.Thread, Threads.make_thread, WellFormed.IsWellFormed, declared.{calls.Line.Line, replies.Reply.TheVariants.No}}
+use Rattle.{mg_model.specs.declared.rights.Right.TheVariants.X, mg_vcache.specs.Seats.{AllBacked, is_kept}, mg_volume.specs.Meaning.now_of}
+use Rattle.{mg_volume.specs.{Meaning.staged_in, RunLemmas.then_stages}, std.proofs.Common.{◌-◌, arith, sym, ap, subst, ◌∙◌, rules}}
+use Rattle.std.specs.{List.list_any, Option.ForSome, Prelude.{◌≡◌, ◌==◌}}
 use Rattle.mg_model.specs.declared.calls.Call.TheVariants as call
-use Rattle.mg_model.specs.declared.calls.Line.{Line}
-use Rattle.mg_model.specs.declared.replies.Reply.TheVariants.{No}
-use Rattle.mg_model.specs.declared.rights.Right.TheVariants.{X}
-use Rattle.mg_model.specs.State.{Thread}
-use Rattle.mg_model.specs.Threads.{make_thread}
-use Rattle.mg_model.specs.WellFormed.{IsWellFormed}
-use Rattle.mg_vcache.specs.Seats.{AllBacked, is_kept}
-use Rattle.mg_volume.specs.Meaning.{now_of, staged_in}
-use Rattle.mg_volume.specs.RunLemmas.{then_stages}
 use Rattle.mg_calls_thr.proofs.making.validated_make.Goals as goal
 
 pub make-requires-clause-lives : goal.make-requires-clause-lives

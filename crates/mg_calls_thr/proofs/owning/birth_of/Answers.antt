@@ -1,7 +1,4 @@
-use Rattle.std.proofs.Common.{sym, ◌∙◌}
-use Rattle.mg_calls_thr.proofs.Owned.{birth-of}
-use Rattle.mg_calls_thr.specs.Owning.{thread_among}
-use Rattle.mg_volume.specs.Meaning.{threads_in}
+use Rattle.{mg_calls_thr.{proofs.Owned.birth-of, specs.Owning.thread_among}, mg_volume.specs.Meaning.threads_in, std.proofs.Common.{sym, ◌∙◌}}
 use Rattle.mg_calls_thr.proofs.owning.birth_of.Goals as goal
 
 pub returns : goal.returns

@@ -1,9 +1,6 @@
+use Rattle.mg_calls_thr.{proofs.Owned.{lives-held, none-there, one-there}, specs.Owning.{birth_among, is_own_among, thread_among}}
+use Rattle.{mg_model.specs.declared.replies.Refusal.TheVariants.NotYours, mg_volume.specs.Meaning.threads_in, std.proofs.Common.{sym, ap, ◌∙◌}}
 use Rattle.std.specs.Prelude.{◌==◌, None, Some, not, if◌then◌else◌}
-use Rattle.std.proofs.Common.{sym, ap, ◌∙◌}
-use Rattle.mg_calls_thr.proofs.Owned.{lives-held, none-there, one-there}
-use Rattle.mg_calls_thr.specs.Owning.{birth_among, is_own_among, thread_among}
-use Rattle.mg_model.specs.declared.replies.Refusal.TheVariants.{NotYours}
-use Rattle.mg_volume.specs.Meaning.{threads_in}
 use Rattle.mg_calls_thr.proofs.owning.not_own.Goals as goal
 
 pub returns-in_default-clause-word : goal.returns-in_default-clause-word

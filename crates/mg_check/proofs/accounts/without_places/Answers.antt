@@ -1,7 +1,5 @@
-use Rattle.std.proofs.Common.{rules, ◌≡◌, ◌+◌, ℕ, length, ◌∙◌, arith, length-append, ◌∷◌, [], ap}
-use Rattle.std.specs.Prelude.{slice_index_or}
-use Rattle.mg_model.specs.declared.accounts.AccRow.{AccRow}
-use Rattle.mg_rules.specs.GapLemmas.{account-next, gap-there}
+use Rattle.{mg_model.specs.declared.accounts.AccRow.AccRow, mg_rules.specs.GapLemmas.{account-next, gap-there}, std.proofs.Common.{rules, ◌≡◌, ◌+◌}}
+use Rattle.std.{proofs.Common.{ℕ, length, ◌∙◌, arith, length-append, ◌∷◌, [], ap}, specs.Prelude.slice_index_or}
 use Rattle.mg_check.proofs.accounts.without_places.Goals as goal
 
 pub returns-then-place-len-clause-damaged : goal.returns-then-place-len-clause-damaged

@@ -1,6 +1,4 @@
-use Rattle.std.proofs.Common.{◌≡◌, ◌≤◌, length, take, vec_capacity}
-use Rattle.mg_model.specs.Limits.{account_limit}
-use Rattle.mg_rules.specs.RowsRead.{placed_from}
+use Rattle.{mg_model.specs.Limits.account_limit, mg_rules.specs.RowsRead.placed_from, std.proofs.Common.{◌≡◌, ◌≤◌, length, take, vec_capacity}}
 use Rattle.mg_check.proofs.accounts.without_places.Given as goal
 
 -- the accounts so far are the first ones

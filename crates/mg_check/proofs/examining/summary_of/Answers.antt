@@ -1,6 +1,4 @@
-use Rattle.std.proofs.Common.{arith}
-use Rattle.mg_check.proofs.Counted.{told}
-use Rattle.mg_rules.specs.LiveTableLemmas.{live-count, live-pages}
+use Rattle.{mg_check.proofs.Counted.told, mg_rules.specs.LiveTableLemmas.{live-count, live-pages}, std.proofs.Common.arith}
 use Rattle.mg_check.proofs.examining.summary_of.Goals as goal
 
 pub returns-clause-told : goal.returns-clause-told

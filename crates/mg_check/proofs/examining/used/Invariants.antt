@@ -1,6 +1,4 @@
-use Rattle.std.proofs.Common.{◌≡◌, ◌≤◌, ◌*◌, take}
-use Rattle.std.specs.Prelude.{sum_by}
-use Rattle.mg_rules.specs.Tables.{pages_in}
+use Rattle.{mg_rules.specs.Tables.pages_in, std.{proofs.Common.{◌≡◌, ◌≤◌, ◌*◌, take}, specs.Prelude.sum_by}}
 use Rattle.mg_check.proofs.examining.used.Given as goal
 
 -- the pages of the objects so far are counted

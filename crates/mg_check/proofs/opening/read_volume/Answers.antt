@@ -1,6 +1,5 @@
+use Rattle.{mg_check.specs.ReadRuns.{caused, only_by, only_then}, mg_rules.specs.SettledVolumeLemmas.{volume-damaged, volume-read}}
 use Rattle.std.proofs.Common.{Err, ap, ◌∙◌}
-use Rattle.mg_check.specs.ReadRuns.{caused, only_by, only_then}
-use Rattle.mg_rules.specs.SettledVolumeLemmas.{volume-damaged, volume-read}
 use Rattle.mg_check.proofs.opening.read_volume.Goals as goal
 
 pub returns-in-Ok-clause-told : goal.returns-in-Ok-clause-told

@@ -1,6 +1,4 @@
-use Rattle.std.proofs.Common.{subst}
-use Rattle.mg_layout.specs.SuperBlock.{IsSuper}
-use Rattle.mg_model.specs.Spelling.{super_read}
+use Rattle.{mg_layout.specs.SuperBlock.IsSuper, mg_model.specs.Spelling.super_read, std.proofs.Common.subst}
 use Rattle.mg_check.proofs.settings.read_second.Goals as goal
 
 pub returns-in-Ok-clause-spelled : goal.returns-in-Ok-clause-spelled

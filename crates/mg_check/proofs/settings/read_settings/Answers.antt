@@ -1,12 +1,6 @@
-use Rattle.std.proofs.Common.{subst, ◌∙◌, arith}
-use Rattle.std.proofs.lemmas.Bool.{eqb-false}
-use Rattle.mg_layout.specs.SuperBlock.{IsSuper}
-use Rattle.mg_model.specs.Layout.{gate_open, super_block}
-use Rattle.mg_model.specs.Replay.{block_of}
-use Rattle.mg_model.specs.Spelling.{BadSuper, NotSuper, OldSuper, super_read}
-use Rattle.mg_model.specs.VolumeLemmas.{volume-closed, volume-short}
-use Rattle.mg_model.specs.Volume.{gate_byte}
-use Rattle.mg_rules.specs.SettledVolumeLemmas.{opened-by, volume-behind}
+use Rattle.{mg_layout.specs.SuperBlock.IsSuper, mg_model.specs.{Layout.{gate_open, super_block}, Replay.block_of, Spelling.{BadSuper, NotSuper}}}
+use Rattle.mg_model.specs.{Spelling.{OldSuper, super_read}, Volume.gate_byte, VolumeLemmas.{volume-closed, volume-short}}
+use Rattle.{mg_rules.specs.SettledVolumeLemmas.{opened-by, volume-behind}, std.proofs.{Common.{subst, ◌∙◌, arith}, lemmas.Bool.eqb-false}}
 use Rattle.mg_check.proofs.settings.read_settings.Goals as goal
 
 pub returns-then-blocks-lt2-clause-not : goal.returns-then-blocks-lt2-clause-not

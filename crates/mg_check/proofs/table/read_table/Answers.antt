@@ -1,11 +1,6 @@
-use Rattle.std.proofs.Common.{◌≡◌, Some, ◌*◌, ◌==◌, ap, sym, ◌∙◌, arith}
-use Rattle.mg_disk.specs.Disk.{Image}
-use Rattle.mg_model.specs.Layout.{table_blocks}
-use Rattle.mg_check.specs.Reads.{contents}
-use Rattle.mg_rules.specs.TableTold.{entry_in, table_entry}
-use Rattle.mg_rules.specs.EntryLemmas.{table-rest, table-told}
-use Rattle.mg_check.proofs.RunsAtHand.{handed-on, here}
-use Rattle.mg_check.specs.ReadRuns.{caused, only_of, only_then, same_contents, still_read}
+use Rattle.mg_check.{proofs.RunsAtHand.{handed-on, here}, specs.{ReadRuns.{caused, only_of, only_then, same_contents, still_read}, Reads.contents}}
+use Rattle.{mg_disk.specs.Disk.Image, mg_model.specs.Layout.table_blocks, mg_rules.specs.{EntryLemmas.{table-rest, table-told}, TableTold.entry_in}}
+use Rattle.{mg_rules.specs.TableTold.table_entry, std.proofs.Common.{◌≡◌, Some, ◌*◌, ◌==◌, ap, sym, ◌∙◌, arith}}
 use Rattle.mg_check.proofs.table.read_table.Goals as goal
 
 pub turn_to-requires-clause-can : goal.turn_to-requires-clause-can

@@ -1,8 +1,5 @@
-use Rattle.std.proofs.Common.{◌≡◌, ◌≤◌, length, min}
-use Rattle.std.specs.Option.{ForSome}
-use Rattle.mg_disk.specs.Stops.{OnlyRead}
-use Rattle.mg_check.specs.Reads.{IsRun, contents}
-use Rattle.mg_rules.specs.TableTold.{AreEntries, table_entry}
+use Rattle.{mg_check.specs.Reads.{IsRun, contents}, mg_disk.specs.Stops.OnlyRead, mg_rules.specs.TableTold.{AreEntries, table_entry}}
+use Rattle.std.{proofs.Common.{◌≡◌, ◌≤◌, length, min}, specs.Option.ForSome}
 use Rattle.mg_check.proofs.table.read_table.Given as goal
 
 -- the entries before this one are read, and what is at hand are blocks of the contents

@@ -1,7 +1,5 @@
-use Rattle.std.proofs.Common.{◌==◌, ◌++◌, ◌∷◌, [], ap, sym, ◌∙◌}
-use Rattle.std.proofs.lemmas.Bool.{eq-eqb}
+use Rattle.{mg_rules.specs.EntryLemmas.{entry-free, entry-held}, std.proofs.{Common.{◌==◌, ◌++◌, ◌∷◌, [], ap, sym, ◌∙◌}, lemmas.Bool.eq-eqb}}
 use Rattle.std.proofs.lemmas.Result.{on_ok_weaker}
-use Rattle.mg_rules.specs.EntryLemmas.{entry-free, entry-held}
 use Rattle.mg_check.proofs.table.take.Goals as goal
 
 pub returns-then-frame-frames-clause-told : goal.returns-then-frame-frames-clause-told

@@ -1,6 +1,4 @@
-use Rattle.std.proofs.Common.{arith}
-use Rattle.std.proofs.lemmas.List.{length-append}
-use Rattle.mg_rules.specs.LiveTableLemmas.{behind-none}
+use Rattle.{mg_rules.specs.LiveTableLemmas.behind-none, std.proofs.{Common.arith, lemmas.List.length-append}}
 use Rattle.mg_check.proofs.table_rows.fill_to.Goals as goal
 
 pub loop-preserved : goal.loop-preserved

@@ -1,5 +1,4 @@
-use Rattle.std.proofs.Common.{◌≡◌, ◌≤◌, length, vec_capacity}
-use Rattle.mg_rules.specs.RowsRead.{live_from}
+use Rattle.{mg_rules.specs.RowsRead.live_from, std.proofs.Common.{◌≡◌, ◌≤◌, length, vec_capacity}}
 use Rattle.mg_check.proofs.table_rows.fill_to.Given as goal
 
 abbrev pub invariant-loop : goal.invariant-loop

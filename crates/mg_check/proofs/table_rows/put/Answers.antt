@@ -1,11 +1,6 @@
-use Rattle.std.proofs.Common.{rules}
-use Rattle.std.proofs.Common.{◌+◌, ap, sym, ◌∙◌, Some, arith}
-use Rattle.std.proofs.lemmas.Result.{on_ok_weaker}
-use Rattle.mg_rows.specs.Answers.{as_read}
-use Rattle.mg_rules.specs.RowsRead.{live_from}
-use Rattle.mg_rules.specs.LiveRowLemmas.{live_free, live_more}
-use Rattle.mg_rules.specs.LiveTableLemmas.{behind-filled, long-more}
-use Rattle.mg_rules.specs.PlacedLemmas.{kept_more, placed_more, placed_wider}
+use Rattle.{mg_rows.specs.Answers.as_read, mg_rules.specs.{LiveRowLemmas.{live_free, live_more}, LiveTableLemmas.{behind-filled, long-more}}}
+use Rattle.{mg_rules.specs.{PlacedLemmas.{kept_more, placed_more, placed_wider}, RowsRead.live_from}, std.proofs.Common.{rules, ◌+◌, ap, sym, ◌∙◌}}
+use Rattle.std.proofs.{Common.{Some, arith}, lemmas.Result.on_ok_weaker}
 use Rattle.mg_check.proofs.table_rows.put.Goals as goal
 
 pub returns-in_ok-fill_to-in-Row-clause-taken : goal.returns-in_ok-fill_to-in-Row-clause-taken

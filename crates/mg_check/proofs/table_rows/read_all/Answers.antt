@@ -1,12 +1,7 @@
-use Rattle.std.proofs.Common.{◌≡◌, ℕ, Some, ap, subst, sym, ◌∙◌, arith}
-use Rattle.mg_disk.specs.Disk.{Image}
-use Rattle.mg_model.specs.Replay.{block_of}
-use Rattle.mg_check.specs.Reads.{contents}
-use Rattle.mg_rules.specs.TableRows.{AreLive}
-use Rattle.mg_rules.specs.LiveRowLemmas.{live_none, not_spelled}
-use Rattle.mg_check.proofs.RunsAtHand.{handed-on, here, none_yet}
-use Rattle.mg_rules.specs.PlacedLemmas.{kept_none, placed_all, placed_none}
-use Rattle.mg_check.specs.ReadRuns.{caused, only_none, only_of, only_then, same_contents, still_read}
+use Rattle.mg_check.{proofs.RunsAtHand.{handed-on, here, none_yet}, specs.ReadRuns.{caused, only_none, only_of, only_then, same_contents, still_read}}
+use Rattle.{mg_check.specs.Reads.contents, mg_disk.specs.Disk.Image, mg_model.specs.Replay.block_of, mg_rules.specs.LiveRowLemmas.live_none}
+use Rattle.{mg_rules.specs.{LiveRowLemmas.not_spelled, PlacedLemmas.{kept_none, placed_all, placed_none}, TableRows.AreLive}, std.proofs.Common.◌≡◌}
+use Rattle.std.proofs.Common.{ℕ, Some, ap, subst, sym, ◌∙◌, arith}
 use Rattle.mg_check.proofs.table_rows.read_all.Goals as goal
 
 pub turn_to-requires-clause-can : goal.turn_to-requires-clause-can

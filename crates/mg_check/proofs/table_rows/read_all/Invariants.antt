@@ -1,10 +1,5 @@
-use Rattle.std.proofs.Common.{◌≤◌, vec_capacity}
-use Rattle.std.specs.Option.{ForSome}
-use Rattle.mg_model.specs.Replay.{block_of}
-use Rattle.mg_disk.specs.Stops.{OnlyRead}
-use Rattle.mg_check.specs.Reads.{IsRun, contents}
-use Rattle.mg_rules.specs.RowsRead.{ArePlaced}
-use Rattle.mg_rules.specs.TableRows.{AreLive, EachKeeps}
+use Rattle.{mg_check.specs.Reads.{IsRun, contents}, mg_disk.specs.Stops.OnlyRead, mg_model.specs.Replay.block_of, mg_rules.specs.RowsRead.ArePlaced}
+use Rattle.{mg_rules.specs.TableRows.{AreLive, EachKeeps}, std.{proofs.Common.{◌≤◌, vec_capacity}, specs.Option.ForSome}}
 use Rattle.mg_check.proofs.table_rows.read_all.Given as goal
 
 -- the rows before this one are held, and what is at hand are blocks of the contents

@@ -1,13 +1,7 @@
-use Rattle.std.proofs.Common.{◌≡◌, ℕ, Some, ap, subst, sym, ◌∙◌, arith}
-use Rattle.mg_disk.specs.Disk.{Image}
-use Rattle.mg_model.specs.Replay.{block_of}
-use Rattle.mg_check.specs.Reads.{contents}
-use Rattle.mg_rules.specs.RowsRead.{live_from}
-use Rattle.mg_rules.specs.TableRows.{AreLive}
-use Rattle.mg_rules.specs.LiveRowLemmas.{live_none, not_spelled}
-use Rattle.mg_check.proofs.RunsAtHand.{handed-on, here, none_yet}
-use Rattle.mg_rules.specs.PlacedLemmas.{kept_none, placed_all, placed_none}
-use Rattle.mg_check.specs.ReadRuns.{caused, failed_then, only_none, only_of, only_then, same_contents, still_read}
+use Rattle.mg_check.{proofs.RunsAtHand.{handed-on, here, none_yet}, specs.ReadRuns.{caused, failed_then, only_none, only_of, only_then}}
+use Rattle.{mg_check.specs.{ReadRuns.{same_contents, still_read}, Reads.contents}, mg_disk.specs.Disk.Image, mg_model.specs.Replay.block_of}
+use Rattle.mg_rules.specs.{LiveRowLemmas.{live_none, not_spelled}, PlacedLemmas.{kept_none, placed_all, placed_none}, RowsRead.live_from}
+use Rattle.{mg_rules.specs.TableRows.AreLive, std.proofs.Common.{◌≡◌, ℕ, Some, ap, subst, sym, ◌∙◌, arith}}
 use Rattle.mg_check.proofs.table_rows.read_places.Goals as goal
 
 pub turn_to-requires-clause-can : goal.turn_to-requires-clause-can

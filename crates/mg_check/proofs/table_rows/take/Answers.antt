@@ -1,8 +1,5 @@
-use Rattle.std.proofs.Common.{◌+◌, ap, sym, ◌∙◌, Some, arith}
-use Rattle.std.proofs.lemmas.Result.{on_ok_weaker}
-use Rattle.mg_rows.specs.Answers.{as_read}
-use Rattle.mg_rules.specs.LiveRowLemmas.{live_free, live_more}
-use Rattle.mg_rules.specs.PlacedLemmas.{kept_more, placed_more, placed_wider}
+use Rattle.{mg_rows.specs.Answers.as_read, mg_rules.specs.{LiveRowLemmas.{live_free, live_more}, PlacedLemmas.{kept_more, placed_more, placed_wider}}}
+use Rattle.std.proofs.{Common.{◌+◌, ap, sym, ◌∙◌, Some, arith}, lemmas.Result.on_ok_weaker}
 use Rattle.mg_check.proofs.table_rows.take.Goals as goal
 
 pub returns-in-Row-clause-taken : goal.returns-in-Row-clause-taken

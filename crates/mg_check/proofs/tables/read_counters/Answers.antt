@@ -1,5 +1,4 @@
-use Rattle.std.proofs.Common.{ap, sym, ◌∙◌}
-use Rattle.mg_model.specs.Spelling.{globals_read}
+use Rattle.{mg_model.specs.Spelling.globals_read, std.proofs.Common.{ap, sym, ◌∙◌}}
 use Rattle.mg_check.proofs.tables.read_counters.Goals as goal
 
 pub returns-in-Some-clause-told : goal.returns-in-Some-clause-told

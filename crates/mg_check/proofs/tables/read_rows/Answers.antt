@@ -1,5 +1,4 @@
-use Rattle.std.proofs.Common.{rules}
-use Rattle.mg_rules.specs.ToldLemmas.{damaged-rows, told-rows}
+use Rattle.{mg_rules.specs.ToldLemmas.{damaged-rows, told-rows}, std.proofs.Common.rules}
 use Rattle.mg_check.proofs.tables.read_rows.Goals as goal
 
 pub returns-in-Ok-true-clause-told : goal.returns-in-Ok-true-clause-told

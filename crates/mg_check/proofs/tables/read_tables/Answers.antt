@@ -1,14 +1,7 @@
-use Rattle.std.proofs.Common.{rules}
-use Rattle.std.proofs.Common.{subst, sym, ◌∙◌}
-use Rattle.mg_model.specs.Abbreviations.{account_row_bytes}
-use Rattle.mg_model.specs.Limits.{account_limit}
-use Rattle.mg_model.specs.Spelling.{account_read}
-use Rattle.mg_rules.specs.TableTold.{HasRest, IsTable}
-use Rattle.mg_rules.specs.TableRows.{AreLive}
-use Rattle.mg_rules.specs.NoRowLemmas.{with-gap, without-accounts, without-counters, without-objects, without-threads, without-zeros}
-use Rattle.mg_check.proofs.RunsAtHand.{handed-on}
-use Rattle.mg_check.specs.ReadRuns.{only_by, only_then, same_contents, still_read}
-use Rattle.mg_rules.specs.ToldLemmas.{tables-told}
+use Rattle.mg_check.{proofs.RunsAtHand.handed-on, specs.ReadRuns.{only_by, only_then, same_contents, still_read}}
+use Rattle.{mg_model.specs.{Abbreviations.account_row_bytes, Limits.account_limit, Spelling.account_read}, mg_rules.specs.NoRowLemmas.with-gap}
+use Rattle.mg_rules.specs.{NoRowLemmas.{without-accounts, without-counters, without-objects, without-threads, without-zeros}, TableRows.AreLive}
+use Rattle.{mg_rules.specs.{TableTold.{HasRest, IsTable}, ToldLemmas.tables-told}, std.proofs.Common.{rules, subst, sym, ◌∙◌}}
 use Rattle.mg_check.proofs.tables.read_tables.Goals as goal
 
 pub read_all-requires-clause-can : goal.read_all-requires-clause-can

@@ -1,5 +1,5 @@
-use Rattle.std.proofs.Common.{rules}
 use Rattle.mg_commands.specs.OpeningLemmas.{fault_may_tell, fault_tells, told_done, told_prefix, told_without, unopened_without}
+use Rattle.std.proofs.Common.{rules}
 use Rattle.mg_commands.proofs.checking.check.Goals as goal
 
 pub returns-in-Ok : goal.returns-in-Ok

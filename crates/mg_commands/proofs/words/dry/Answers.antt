@@ -1,5 +1,4 @@
-use Rattle.std.proofs.Common.{sym, ◌∙◌}
-use Rattle.mg_commands.proofs.Spelled.{dry_of-five, dry_of-other}
+use Rattle.{mg_commands.proofs.Spelled.{dry_of-five, dry_of-other}, std.proofs.Common.{sym, ◌∙◌}}
 use Rattle.mg_commands.proofs.words.dry.Goals as goal
 
 pub returns-then-words-ne5 : goal.returns-then-words-ne5

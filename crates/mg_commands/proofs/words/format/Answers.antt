@@ -1,8 +1,8 @@
-use Rattle.std.proofs.Common.{sym, ◌∙◌, arith}
-use Rattle.mg_io.specs.Arguments.{arguments}
 use Rattle.mg_commands.proofs.Spelled.{format_of-five, format_of-nine, format_of-other, item, length-arguments, tariff_of-four}
+use Rattle.mg_commands.proofs.words.format.Goals.{in_default-via-then-words-lt5, in_default-via-else-words-lt5+else-words-lt6+then-words-lt9}
+use Rattle.mg_commands.proofs.words.format.Goals.{in_default-via-else-words-lt5+else-words-lt6+else-words-lt9+else-words-lt10}
+use Rattle.{mg_io.specs.Arguments.arguments, std.proofs.Common.{sym, ◌∙◌, arith}}
 use Rattle.mg_commands.proofs.words.format.Goals as goal
-use Rattle.mg_commands.proofs.words.format.Goals.{in_default-via-then-words-lt5, in_default-via-else-words-lt5+else-words-lt6+then-words-lt9, in_default-via-else-words-lt5+else-words-lt6+else-words-lt9+else-words-lt10}
 
 pub returns-in-len5 : goal.returns-in-len5
 returns-in-len5 c =

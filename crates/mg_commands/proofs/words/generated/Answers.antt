@@ -1,6 +1,5 @@
-use Rattle.std.proofs.Common.{sym, ◌∙◌, arith}
-use Rattle.mg_io.specs.Arguments.{arguments}
-use Rattle.mg_commands.proofs.Spelled.{gen_of-four, gen_of-other, item, length-arguments}
+use Rattle.{mg_commands.proofs.Spelled.{gen_of-four, gen_of-other, item, length-arguments}, mg_io.specs.Arguments.arguments, std.proofs.Common.sym}
+use Rattle.std.proofs.Common.{◌∙◌, arith}
 use Rattle.mg_commands.proofs.words.generated.Goals as goal
 
 pub returns-in-len4-clause-run : goal.returns-in-len4-clause-run

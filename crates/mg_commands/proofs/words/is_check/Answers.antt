@@ -1,5 +1,4 @@
-use Rattle.std.proofs.Common.{sym, ◌∙◌}
-use Rattle.mg_commands.proofs.Spelled.{is_check-other, is_check-two}
+use Rattle.{mg_commands.proofs.Spelled.{is_check-other, is_check-two}, std.proofs.Common.{sym, ◌∙◌}}
 use Rattle.mg_commands.proofs.words.is_check.Goals as goal
 
 pub returns-then-words-ne2 : goal.returns-then-words-ne2

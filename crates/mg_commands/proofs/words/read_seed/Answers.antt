@@ -1,5 +1,4 @@
-use Rattle.std.proofs.Common.{refl, sym, ◌∙◌}
-use Rattle.mg_commands.proofs.Seed.{seed-start, seed-next}
+use Rattle.{mg_commands.proofs.Seed.{seed-start, seed-next}, std.proofs.Common.{refl, sym, ◌∙◌}}
 use Rattle.mg_commands.proofs.words.read_seed.Goals as goal
 
 pub loop-i-init : goal.loop-i-init

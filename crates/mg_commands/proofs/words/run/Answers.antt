@@ -1,5 +1,4 @@
-use Rattle.std.proofs.Common.{sym, ◌∙◌}
-use Rattle.mg_commands.proofs.Spelled.{run_of-other, run_of-three, run_of-two}
+use Rattle.{mg_commands.proofs.Spelled.{run_of-other, run_of-three, run_of-two}, std.proofs.Common.{sym, ◌∙◌}}
 use Rattle.mg_commands.proofs.words.run.Goals as goal
 
 pub returns-then-words-eq2-clause-batch : goal.returns-then-words-eq2-clause-batch

@@ -1,7 +1,4 @@
-use Rattle.std.proofs.Common.{◌≡◌}
-use Rattle.std.specs.Option.{ForSome}
-use Rattle.mg_disk.specs.Stops.{WritesNothing}
-use Rattle.mg_journal.specs.Looked.{Fits}
+use Rattle.{mg_disk.specs.Stops.WritesNothing, mg_journal.specs.Looked.Fits, std.{proofs.Common.◌≡◌, specs.Option.ForSome}}
 use Rattle.mg_console.proofs.damage.report_rows.Given as goal
 
 -- nothing was written, and the view fits what reads give

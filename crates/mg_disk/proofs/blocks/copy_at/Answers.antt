@@ -1,10 +1,6 @@
-use Rattle.std.proofs.Common.{rules}
-use Rattle.std.proofs.Common.{◌+◌, sym, ap, ◌∙◌, subst, drop, arith, add-one, Contains, slice_index_or, ◌∷◌, []}
-use Rattle.std.proofs.Math.Seq.{drop-cons}
-use Rattle.std.proofs.lemmas.List.{get_or_default, drop_all}
+use Rattle.{mg_disk.specs.{Disk.SameBut, PlaceLemmas.{copied_shorter, nothing_differs}}, std.proofs.Common.{rules, ◌+◌, sym, ap, ◌∙◌, subst, drop}}
+use Rattle.std.proofs.{Common.{arith, add-one, Contains, slice_index_or, ◌∷◌, []}, Math.Seq.drop-cons, lemmas.List.{get_or_default, drop_all}}
 use Rattle.std.proofs.lemmas.List.Elements.{Contains-get_or}
-use Rattle.mg_disk.specs.Disk.{SameBut}
-use Rattle.mg_disk.specs.PlaceLemmas.{copied_shorter, nothing_differs}
 use Rattle.mg_disk.proofs.blocks.copy_at.Goals as goal
 
 pub index-requires : goal.index-requires

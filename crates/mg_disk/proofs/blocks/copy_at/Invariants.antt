@@ -1,6 +1,4 @@
-use Rattle.std.proofs.Common.{◌≡◌, drop, Contains}
-use Rattle.std.specs.Vec.{vec_len, vec_capacity}
-use Rattle.mg_disk.specs.Disk.{SameBut}
+use Rattle.{mg_disk.specs.Disk.SameBut, std.{proofs.Common.{◌≡◌, drop, Contains}, specs.Vec.{vec_len, vec_capacity}}}
 use Rattle.mg_disk.proofs.blocks.copy_at.Given as goal
 
 -- only the places that are left may differ

@@ -1,9 +1,6 @@
-use Rattle.std.proofs.Common.{◌<◌, refl, sym, subst, take, arith, slice_index_or, slice_set}
-use Rattle.std.proofs.lemmas.List.{take_all, take_more}
-use Rattle.std.proofs.lemmas.List.Elements.{Contains-get_or, All-set, All-replicate}
-use Rattle.mg_disk.specs.BlockBytes.{IsBytes}
-use Rattle.mg_disk.specs.Blocks.{IsGated, gates_block}
-use Rattle.mg_disk.specs.PlaceLemmas.{gated_longer}
+use Rattle.{mg_disk.specs.{BlockBytes.IsBytes, Blocks.{IsGated, gates_block}, PlaceLemmas.gated_longer}, std.proofs.Common.{◌<◌, refl, sym, subst}}
+use Rattle.std.proofs.{Common.{take, arith, slice_index_or, slice_set}, lemmas.List.{take_all, take_more, Elements.{Contains-get_or, All-set}}}
+use Rattle.std.proofs.lemmas.List.Elements.{All-replicate}
 use Rattle.mg_disk.proofs.blocks.put_gates.Goals as goal
 
 pub index_mut-requires : goal.index_mut-requires

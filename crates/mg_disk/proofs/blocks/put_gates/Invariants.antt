@@ -1,7 +1,4 @@
-use Rattle.std.proofs.Common.{◌≡◌, take}
-use Rattle.std.specs.Vec.{vec_len}
-use Rattle.mg_disk.specs.Blocks.{IsGated}
-use Rattle.mg_disk.specs.Disk.{AreBytes}
+use Rattle.{mg_disk.specs.{Blocks.IsGated, Disk.AreBytes}, std.{proofs.Common.{◌≡◌, take}, specs.Vec.vec_len}}
 use Rattle.mg_disk.proofs.blocks.put_gates.Given as goal
 
 -- the places so far have gates

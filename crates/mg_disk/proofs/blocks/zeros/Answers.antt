@@ -1,9 +1,5 @@
-use Rattle.std.proofs.Common.{◌<◌, ap, sym, subst, arith, ◌∙◌, ◌+◌, ◌++◌, ◌∷◌, []}
-use Rattle.std.proofs.lemmas.List.{replicate-append-replicate}
-use Rattle.std.proofs.lemmas.List.Elements.{All-append, All-replicate}
-use Rattle.mg_disk.specs.Blocks.{zero_block}
-use Rattle.mg_disk.specs.BlockBytes.{IsBytes}
-use Rattle.mg_disk.specs.Disk.{AreBytes}
+use Rattle.{mg_disk.specs.{BlockBytes.IsBytes, Blocks.zero_block, Disk.AreBytes}, std.proofs.Common.{◌<◌, ap, sym, subst, arith, ◌∙◌, ◌+◌, ◌++◌, ◌∷◌}}
+use Rattle.std.proofs.{Common.[], lemmas.List.{replicate-append-replicate, Elements.{All-append, All-replicate}}}
 use Rattle.mg_disk.proofs.blocks.zeros.Goals as goal
 
 pub loop-preserved : goal.loop-preserved

@@ -1,7 +1,4 @@
-use Rattle.std.proofs.Common.{◌≡◌}
-use Rattle.std.specs.Vec.{vec_len}
-use Rattle.mg_disk.specs.Blocks.{zeros_of}
-use Rattle.mg_disk.specs.Disk.{AreBytes}
+use Rattle.{mg_disk.specs.{Blocks.zeros_of, Disk.AreBytes}, std.{proofs.Common.◌≡◌, specs.Vec.vec_len}}
 use Rattle.mg_disk.proofs.blocks.zeros.Given as goal
 
 -- the blocks so far

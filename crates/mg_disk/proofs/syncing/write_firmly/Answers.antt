@@ -1,6 +1,4 @@
-use Rattle.mg_disk.specs.Disk.{TornAt, only_place}
-use Rattle.mg_disk.specs.Stops.{MightHaveLeft}
-use Rattle.mg_disk.specs.Runs.{leaves_quiet, torn_once}
+use Rattle.mg_disk.specs.{Disk.{TornAt, only_place}, Runs.{leaves_quiet, torn_once}, Stops.MightHaveLeft}
 use Rattle.mg_disk.proofs.syncing.write_firmly.Goals as goal
 
 pub returns-in_err-write-clause-from_any : goal.returns-in_err-write-clause-from_any

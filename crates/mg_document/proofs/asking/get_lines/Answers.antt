@@ -1,7 +1,5 @@
-use Rattle.std.proofs.Common.{◌≡◌, ◌+◌, ◌*◌, ◌++◌, suc, ap, ◌∙◌, arith}
-use Rattle.mg_document.specs.Asked.{load_line, load_lines}
-use Rattle.mg_document.specs.Documents.{words_for}
-use Rattle.mg_document.proofs.Grown.{loads_more}
+use Rattle.{mg_document.{proofs.Grown.loads_more, specs.{Asked.{load_line, load_lines}, Documents.words_for}}, std.proofs.Common.{◌≡◌, ◌+◌, ◌*◌}}
+use Rattle.std.proofs.Common.{◌++◌, suc, ap, ◌∙◌, arith}
 use Rattle.mg_document.proofs.asking.get_lines.Goals as goal
 
 pub loop-i-preserved : goal.loop-i-preserved

@@ -1,5 +1,4 @@
-use Rattle.std.proofs.Common.{◌≡◌}
-use Rattle.mg_document.specs.Asked.{load_lines}
+use Rattle.{mg_document.specs.Asked.load_lines, std.proofs.Common.◌≡◌}
 use Rattle.mg_document.proofs.asking.get_lines.Given as goal
 
 -- the lines so far

@@ -1,7 +1,5 @@
-use Rattle.std.proofs.Common.{◌-◌, ◌*◌, length, take, drop, ◌∙◌}
+use Rattle.{mg_document.{proofs.Packs.word-more, specs.Documents.words_for}, std.proofs.Common.{◌-◌, ◌*◌, length, take, drop, ◌∙◌}}
 use Rattle.std.proofs.lemmas.List.{take_rest}
-use Rattle.mg_document.specs.Documents.{words_for}
-use Rattle.mg_document.proofs.Packs.{word-more}
 use Rattle.mg_document.proofs.packing.words_of.Goals as goal
 
 pub loop-k-preserved : goal.loop-k-preserved

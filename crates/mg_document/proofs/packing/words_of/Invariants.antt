@@ -1,6 +1,4 @@
-use Rattle.std.proofs.Common.{◌≡◌, ◌*◌, ◌∷◌, length}
-use Rattle.mg_document.specs.Documents.{words_for}
-use Rattle.mg_model.specs.Bytes.{numbers_at, padded_to}
+use Rattle.{mg_document.specs.Documents.words_for, mg_model.specs.Bytes.{numbers_at, padded_to}, std.proofs.Common.{◌≡◌, ◌*◌, ◌∷◌, length}}
 use Rattle.mg_document.proofs.packing.words_of.Given as goal
 
 -- the length and the words so far

@@ -1,6 +1,5 @@
-use Rattle.std.proofs.Common.{Err, sym, ap, ◌∙◌, arith, rules}
-use Rattle.mg_document.specs.Replies.{ended}
-use Rattle.mg_document.proofs.Steps.{behind-missing, behind-no_word, behind-word}
+use Rattle.{mg_document.{proofs.Steps.{behind-missing, behind-no_word, behind-word}, specs.Replies.ended}, std.proofs.Common.{Err, sym, ap, ◌∙◌}}
+use Rattle.std.proofs.Common.{arith, rules}
 use Rattle.mg_document.proofs.reading.read_words.Goals as goal
 
 pub returns-in-None-clause-fault : goal.returns-in-None-clause-fault

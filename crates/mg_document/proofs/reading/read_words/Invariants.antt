@@ -1,5 +1,4 @@
-use Rattle.std.proofs.Common.{◌≡◌, ◌+◌, ◌-◌, []}
-use Rattle.mg_document.specs.Replies.{bytes_behind, ended}
+use Rattle.{mg_document.specs.Replies.{bytes_behind, ended}, std.proofs.Common.{◌≡◌, ◌+◌, ◌-◌, []}}
 use Rattle.mg_document.proofs.reading.read_words.Given as goal
 
 -- the bytes so far, and those of the replies that are left

@@ -1,8 +1,5 @@
-use Rattle.std.proofs.Common.{◌≡◌, ◌-◌, ◌<◌, length, take, drop, arith}
-use Rattle.std.proofs.lemmas.Bool.Decides.{nat_tests}
-use Rattle.mg_model.specs.Words.{is_newline}
-use Rattle.mg_asm.specs.CutLemmas.{no_length, rest_of}
-use Rattle.mg_document.proofs.Cuts.{ended-none, ended-some}
+use Rattle.{mg_asm.specs.CutLemmas.{no_length, rest_of}, mg_document.proofs.Cuts.{ended-none, ended-some}, mg_model.specs.Words.is_newline}
+use Rattle.std.proofs.{Common.{◌≡◌, ◌-◌, ◌<◌, length, take, drop, arith}, lemmas.Bool.Decides.nat_tests}
 use Rattle.mg_document.proofs.replies.next_reply.Goals as goal
 
 pub returns-then-is_empty-clause-none : goal.returns-then-is_empty-clause-none

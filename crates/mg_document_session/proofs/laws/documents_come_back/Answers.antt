@@ -1,7 +1,5 @@
-use Rattle.std.proofs.Common.{◌+◌, ◌*◌, ◌≤◌, ◌^◌, suc, arith}
-use Rattle.mg_document.specs.Documents.{words_for}
-use Rattle.mg_document_session.proofs.Loads.{loads-back}
-use Rattle.mg_document_session.proofs.RepliesTold.{comes-back}
+use Rattle.{mg_document.specs.Documents.words_for, mg_document_session.proofs.{Loads.loads-back, RepliesTold.comes-back}, std.proofs.Common.◌+◌}
+use Rattle.std.proofs.Common.{◌*◌, ◌≤◌, ◌^◌, suc, arith}
 use Rattle.mg_document_session.proofs.laws.documents_come_back.Goals as goal
 
 pub returns-clause-back : goal.returns-clause-back

@@ -1,6 +1,4 @@
-use Rattle.std.proofs.Common.{◌≡◌, sym, ◌∙◌}
-use Rattle.std.proofs.lemmas.Option.{same_Some}
-use Rattle.mg_document_session.proofs.Brings.{brings-back}
+use Rattle.{mg_document_session.proofs.Brings.brings-back, std.proofs.{Common.{◌≡◌, sym, ◌∙◌}, lemmas.Option.same_Some}}
 use Rattle.mg_document_session.proofs.top_call.top.Goals as goal
 
 pub returns-in-Some-clause-back : goal.returns-in-Some-clause-back

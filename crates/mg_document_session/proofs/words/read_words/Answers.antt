@@ -1,5 +1,4 @@
-use Rattle.std.proofs.Common.{sym, arith}
-use Rattle.mg_document_session.proofs.Spelled.{five_or_more, just_two}
+use Rattle.{mg_document_session.proofs.Spelled.{five_or_more, just_two}, std.proofs.Common.{sym, arith}}
 use Rattle.mg_document_session.proofs.words.read_words.Goals as goal
 
 pub returns-in_default-2-clause-command : goal.returns-in_default-2-clause-command

@@ -1,6 +1,4 @@
-use Rattle.std.proofs.Common.{◌≡◌, ◌-◌, ◌≤◌, length}
-use Rattle.std.specs.Io.KnownBytes.{Consumes}
-use Rattle.mg_faults.specs.Faults.{CountGoesOn}
+use Rattle.{mg_faults.specs.Faults.CountGoesOn, std.{proofs.Common.{◌≡◌, ◌-◌, ◌≤◌, length}, specs.Io.KnownBytes.Consumes}}
 use Rattle.mg_filter.proofs.whole.read_whole.Given as goal
 
 -- The text is what was read so far, and within the limit.

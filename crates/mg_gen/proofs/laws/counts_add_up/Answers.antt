@@ -1,5 +1,4 @@
-use Rattle.mg_gen.proofs.Counted.{counts-add-up, words-in-rows}
-use Rattle.mg_gen.proofs.Told.{counts-are-told}
+use Rattle.mg_gen.proofs.{Counted.{counts-add-up, words-in-rows}, Told.counts-are-told}
 use Rattle.mg_gen.proofs.laws.counts_add_up.Goals as goal
 
 pub returns-clause-sum : goal.returns-clause-sum

@@ -1,5 +1,4 @@
-use Rattle.std.proofs.Common.{◌∙◌}
-use Rattle.mg_gen.proofs.Passwords.{password-is}
+use Rattle.{mg_gen.proofs.Passwords.password-is, std.proofs.Common.◌∙◌}
 use Rattle.mg_gen.proofs.lines.password.Goals as goal
 
 pub returns : goal.returns

@@ -1,6 +1,5 @@
-use Rattle.std.proofs.Common.{◌+◌, ◌++◌, get_or, take, ap, sym, ◌∙◌, arith}
-use Rattle.mg_gen.specs.Tallies.{count_line, count_lines, row_words}
-use Rattle.mg_gen.proofs.Rows.{lines_more, word-at}
+use Rattle.{mg_gen.{proofs.Rows.{lines_more, word-at}, specs.Tallies.{count_line, count_lines, row_words}}, std.proofs.Common.{◌+◌, ◌++◌, get_or}}
+use Rattle.std.proofs.Common.{take, ap, sym, ◌∙◌, arith}
 use Rattle.mg_gen.proofs.tally.push_counts.Goals as goal
 
 pub loop-i-preserved : goal.loop-i-preserved

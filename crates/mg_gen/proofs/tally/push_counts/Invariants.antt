@@ -1,6 +1,4 @@
-use Rattle.std.proofs.Common.{◌≡◌, ◌+◌, ◌*◌, ◌≤◌, take}
-use Rattle.arrayvec.specs.ArrayVec.{array_vec_len}
-use Rattle.mg_gen.specs.Tallies.{count_lines, row_words}
+use Rattle.{arrayvec.specs.ArrayVec.array_vec_len, mg_gen.specs.Tallies.{count_lines, row_words}, std.proofs.Common.{◌≡◌, ◌+◌, ◌*◌, ◌≤◌, take}}
 use Rattle.mg_gen.proofs.tally.push_counts.Given as goal
 
 abbrev pub invariant-loop-i : goal.invariant-loop-i

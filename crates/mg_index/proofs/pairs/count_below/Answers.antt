@@ -1,8 +1,5 @@
-use Rattle.std.proofs.Common.{rules}
-use Rattle.std.specs.Prelude.{ℕ, nat_lt, slice_index_or}
-use Rattle.std.proofs.lemmas.Bool.{ltb-false, ltb-true}
-use Rattle.std.proofs.lemmas.List.Sorted.{IsPartitionPoint-from_clause, IsPartitionedBy-ltb}
-use Rattle.mg_index.specs.ListLemmas.{no-falls}
+use Rattle.{mg_index.specs.ListLemmas.no-falls, std.proofs.{Common.rules, lemmas.Bool.{ltb-false, ltb-true}}}
+use Rattle.std.{proofs.lemmas.List.Sorted.{IsPartitionPoint-from_clause, IsPartitionedBy-ltb}, specs.Prelude.{ℕ, nat_lt, slice_index_or}}
 use Rattle.mg_index.proofs.pairs.count_below.Goals as goal
 
 pub returns-clause-below : goal.returns-clause-below

@@ -1,5 +1,4 @@
-use Rattle.std.proofs.Common.{◌∙◌, ◌≤◌, ◌<◌, ℕ, List, length, ap, arith, get_or, slice_set, sym, take}
-use Rattle.std.proofs.lemmas.List.Elements.{All-more, All-weaker}
+use Rattle.std.proofs.{Common.{◌∙◌, ◌≤◌, ◌<◌, ℕ, List, length, ap, arith, get_or, slice_set, sym, take}, lemmas.List.Elements.{All-more, All-weaker}}
 use Rattle.std.proofs.lemmas.List.Sums.{fold_more}
 use Rattle.mg_index.proofs.pairs.free_places.Goals as goal
 

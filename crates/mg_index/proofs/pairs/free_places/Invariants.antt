@@ -1,5 +1,4 @@
-use Rattle.std.proofs.Common.{◌≡◌, ◌≤◌, ℕ, All, take}
-use Rattle.mg_index.specs.Pairs.{freed}
+use Rattle.{mg_index.specs.Pairs.freed, std.proofs.Common.{◌≡◌, ◌≤◌, ℕ, All, take}}
 use Rattle.mg_index.proofs.pairs.free_places.Given as goal
 
 -- the places up to here are free

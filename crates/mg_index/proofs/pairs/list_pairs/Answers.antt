@@ -1,10 +1,8 @@
-use Rattle.std.proofs.Common.{◌≡◌, ◌<◌, ◌+◌, ◌∙◌, ◌++◌, [], ◌∷◌, Global, Vec, if◌then◌else◌, is_ok, ℕ, List, ap, arith, get_or, length, rules, subst, sym, true}
+use Rattle.mg_index.proofs.{Listed.{IsBegun, begun-free, begun-number, listed-exact, listed-none}, pairs.list_pairs.Goals.then-number-ne0}
+use Rattle.{mg_index.{proofs.pairs.list_pairs.Goals.else-number-ne0, specs.Words.numbers_in}, std.proofs.Common.{◌≡◌, ◌<◌, ◌+◌, ◌∙◌, ◌++◌, [], ◌∷◌}}
+use Rattle.std.proofs.{Common.{Global, Vec, if◌then◌else◌, is_ok, ℕ, List, ap, arith, get_or, length, rules, subst, sym, true}, lemmas.List.take_all}
 use Rattle.std.specs.Vec.{vec_capacity, vec_len}
-use Rattle.std.proofs.lemmas.List.{take_all}
-use Rattle.mg_index.specs.Words.{numbers_in}
-use Rattle.mg_index.proofs.Listed.{IsBegun, begun-free, begun-number, listed-exact, listed-none}
 use Rattle.mg_index.proofs.pairs.list_pairs.Goals as goal
-use Rattle.mg_index.proofs.pairs.list_pairs.Goals.{then-number-ne0, else-number-ne0}
 
 pub loop-place-init : goal.loop-place-init
 loop-place-init c =

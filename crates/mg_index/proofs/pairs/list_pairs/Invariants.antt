@@ -1,5 +1,4 @@
-use Rattle.std.specs.Vec.{vec_capacity}
-use Rattle.mg_index.proofs.Listed.{IsBegun}
+use Rattle.{mg_index.proofs.Listed.IsBegun, std.specs.Vec.vec_capacity}
 use Rattle.mg_index.proofs.pairs.list_pairs.Given as goal
 
 -- the places up to here are listed

@@ -1,6 +1,4 @@
-use Rattle.std.proofs.Common.{◌≡◌, ◌+◌, ◌-◌, ◌<◌, ap, arith, get_or, ⊎_elim}
-use Rattle.std.proofs.lemmas.Bool.{cases_lt}
-use Rattle.mg_index.proofs.Listed.{rising-all}
+use Rattle.{mg_index.proofs.Listed.rising-all, std.proofs.{Common.{◌≡◌, ◌+◌, ◌-◌, ◌<◌, ap, arith, get_or, ⊎_elim}, lemmas.Bool.cases_lt}}
 use Rattle.mg_index.proofs.pairs.rise.Goals as goal
 
 pub loop-i-preserved : goal.loop-i-preserved

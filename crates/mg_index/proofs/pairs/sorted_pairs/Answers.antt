@@ -1,7 +1,5 @@
-use Rattle.std.proofs.Common.{◌≤◌, ℕ, length, rules, subst, sym}
-use Rattle.std.specs.Vec.{vec_capacity}
-use Rattle.std.proofs.lemmas.List.Sorted.{IsNonDecreasingBy-from_sort_by_key}
-use Rattle.mg_index.proofs.Listed.{sorted-table}
+use Rattle.{mg_index.proofs.Listed.sorted-table, std.proofs.Common.{◌≤◌, ℕ, length, rules, subst, sym}}
+use Rattle.std.{proofs.lemmas.List.Sorted.IsNonDecreasingBy-from_sort_by_key, specs.Vec.vec_capacity}
 use Rattle.mg_index.proofs.pairs.sorted_pairs.Goals as goal
 
 pub returns : goal.returns

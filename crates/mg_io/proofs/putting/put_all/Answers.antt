@@ -1,6 +1,4 @@
-use Rattle.std.proofs.Common.{arith, ◌≡◌, length, ◌≤◌}
-use Rattle.mg_faults.specs.Faults.{count_then}
-use Rattle.mg_io.proofs.Moving.{IsPartly-next, IsPartly-length}
+use Rattle.{mg_faults.specs.Faults.count_then, mg_io.proofs.Moving.{IsPartly-next, IsPartly-length}, std.proofs.Common.{arith, ◌≡◌, length, ◌≤◌}}
 use Rattle.mg_io.proofs.putting.put_all.Goals as goal
 
 pub loop-rest-preserved : goal.loop-rest-preserved

@@ -1,6 +1,4 @@
-use Rattle.std.proofs.Common.{◌≡◌, length}
-use Rattle.mg_faults.specs.Faults.{CountGoesOn}
-use Rattle.mg_io.proofs.Moving.{IsPartly}
+use Rattle.{mg_faults.specs.Faults.CountGoesOn, mg_io.proofs.Moving.IsPartly, std.proofs.Common.{◌≡◌, length}}
 use Rattle.mg_io.proofs.putting.put_all.Given as goal
 
 abbrev pub invariant-loop-rest : goal.invariant-loop-rest

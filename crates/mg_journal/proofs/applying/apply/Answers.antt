@@ -1,11 +1,5 @@
-use Rattle.std.proofs.Common.{refl, ◌≡◌, ℕ, arith, true}
-use Rattle.mg_disk.specs.BecomesLemmas.{becomes-same}
-use Rattle.mg_disk.specs.Disk.{SameBut}
-use Rattle.mg_disk.specs.PlaceLemmas.{same_as}
-use Rattle.mg_disk.specs.Runs.{leaves_yet, only_image}
-use Rattle.mg_journal.specs.Applied.{filled}
-use Rattle.mg_journal.specs.Contents.{names}
-use Rattle.mg_journal.proofs.ApplyRuns.{none_written}
+use Rattle.mg_disk.specs.{BecomesLemmas.becomes-same, Disk.SameBut, PlaceLemmas.same_as, Runs.{leaves_yet, only_image}}
+use Rattle.{mg_journal.{proofs.ApplyRuns.none_written, specs.{Applied.filled, Contents.names}}, std.proofs.Common.{refl, ◌≡◌, ℕ, arith, true}}
 use Rattle.mg_journal.proofs.applying.apply.Goals as goal
 
 pub returns-then-places-eq0-clause-any_moment : goal.returns-then-places-eq0-clause-any_moment

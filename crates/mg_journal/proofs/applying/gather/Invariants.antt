@@ -1,5 +1,4 @@
-use Rattle.std.specs.Prelude.{◌≡◌, length}
-use Rattle.mg_journal.specs.Applied.{HasRun}
+use Rattle.{mg_journal.specs.Applied.HasRun, std.specs.Prelude.{◌≡◌, length}}
 use Rattle.mg_journal.proofs.applying.gather.Given as goal
 
 abbrev pub invariant-loop-j : goal.invariant-loop-j

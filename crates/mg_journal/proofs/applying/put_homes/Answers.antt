@@ -1,11 +1,6 @@
-use Rattle.std.proofs.Common.{rules, ◌≡◌, ◌∙◌, ℕ, List, ap, arith, option_map, true}
-use Rattle.std.proofs.lemmas.List.{take_all}
-use Rattle.mg_model.specs.Replay.{written}
-use Rattle.mg_disk.specs.Disk.{Image, InRange, SameBut}
-use Rattle.mg_disk.specs.Runs.{torn_at}
-use Rattle.mg_journal.specs.Applied.{filled, nth_home}
-use Rattle.mg_journal.specs.Contents.{names}
-use Rattle.mg_journal.proofs.ApplyRuns.{named_row, row_applied, row_fits, torn_more}
+use Rattle.{mg_disk.specs.{Disk.{Image, InRange, SameBut}, Runs.torn_at}, mg_journal.proofs.ApplyRuns.{named_row, row_applied, row_fits, torn_more}}
+use Rattle.{mg_journal.specs.{Applied.{filled, nth_home}, Contents.names}, mg_model.specs.Replay.written, std.proofs.Common.{rules, ◌≡◌, ◌∙◌, ℕ}}
+use Rattle.std.proofs.{Common.{List, ap, arith, option_map, true}, lemmas.List.take_all}
 use Rattle.mg_journal.proofs.applying.put_homes.Goals as goal
 
 pub returns-in_err-write_blocks-clause-tracks : goal.returns-in_err-write_blocks-clause-tracks

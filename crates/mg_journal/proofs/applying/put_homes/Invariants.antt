@@ -1,11 +1,5 @@
-use Rattle.std.proofs.Common.{◌≡◌, ◌≤◌, ◌-◌, length, option_map, take, true}
-use Rattle.std.specs.Option.{ForSome}
-use Rattle.mg_disk.specs.Disk.{SameBut}
-use Rattle.mg_disk.specs.Runs.{Tracks}
-use Rattle.mg_disk.specs.Stops.{Becomes, CountGoes, NothingPending}
-use Rattle.mg_model.specs.Replay.{written}
-use Rattle.mg_journal.specs.Applied.{filled}
-use Rattle.mg_journal.specs.Contents.{names}
+use Rattle.{mg_disk.specs.{Disk.SameBut, Runs.Tracks, Stops.{Becomes, CountGoes, NothingPending}}, mg_journal.specs.{Applied.filled, Contents.names}}
+use Rattle.{mg_model.specs.Replay.written, std.{proofs.Common.{◌≡◌, ◌≤◌, ◌-◌, length, option_map, take, true}, specs.Option.ForSome}}
 use Rattle.mg_journal.proofs.applying.put_homes.Given as goal
 
 -- the bodies up to this one are at their homes, and only homes differ, both in what reads give and in what a stop leaves

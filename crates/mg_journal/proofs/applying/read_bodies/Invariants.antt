@@ -1,7 +1,5 @@
-use Rattle.std.specs.Prelude.{◌≡◌, ◌+◌, ◌*◌, ◌<◌, length}
-use Rattle.std.specs.Option.{ForSome}
-use Rattle.mg_disk.specs.Stops.{CountGoes, WritesNothing}
-use Rattle.mg_journal.specs.Applied.{HasBodies}
+use Rattle.{mg_disk.specs.Stops.{CountGoes, WritesNothing}, mg_journal.specs.Applied.HasBodies, std.specs.{Option.ForSome, Prelude.{◌≡◌, ◌+◌, ◌*◌}}}
+use Rattle.std.specs.Prelude.{◌<◌, length}
 use Rattle.mg_journal.proofs.applying.read_bodies.Given as goal
 
 -- the bodies before this segment are read

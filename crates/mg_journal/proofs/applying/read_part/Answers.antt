@@ -1,6 +1,4 @@
-use Rattle.std.proofs.Common.{◌≡◌, ◌≤◌, ◌-◌, arith, length, rules}
-use Rattle.std.proofs.lemmas.Result.{on_ok_weaker}
-use Rattle.mg_journal.proofs.ApplyRuns.{part_read}
+use Rattle.{mg_journal.proofs.ApplyRuns.part_read, std.proofs.{Common.{◌≡◌, ◌≤◌, ◌-◌, arith, length, rules}, lemmas.Result.on_ok_weaker}}
 use Rattle.mg_journal.proofs.applying.read_part.Goals as goal
 
 pub returns-clause-read : goal.returns-clause-read

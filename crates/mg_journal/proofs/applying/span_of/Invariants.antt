@@ -1,5 +1,4 @@
-use Rattle.std.specs.Prelude.{◌≤◌, ◌<◌, ℕ}
-use Rattle.mg_journal.specs.Applied.{nth_body}
+use Rattle.{mg_journal.specs.Applied.nth_body, std.specs.Prelude.{◌≤◌, ◌<◌, ℕ}}
 use Rattle.mg_journal.proofs.applying.span_of.Given as goal
 
 -- the bodies of the places before this one

@@ -1,13 +1,7 @@
-use Rattle.std.proofs.Common.{◌≡◌, ◌+◌, ◌*◌, ◌++◌, ◌∷◌, [], ℕ, suc, List, All, append_assoc, ap, arith, subst, sym, ◌∙◌}
-use Rattle.std.proofs.lemmas.List.Elements.{All-push}
-use Rattle.mg_disk.specs.Disk.{Image, block_at}
-use Rattle.mg_model.specs.Bytes.{number_at}
-use Rattle.mg_model.specs.Layout.{segment_body, segment_index}
-use Rattle.mg_model.specs.Replay.{body_count, home_of}
-use Rattle.mg_journal.specs.Newest.{HasLast}
-use Rattle.mg_journal.specs.Places.{IsPlace, places_from}
-use Rattle.mg_journal.proofs.Tables.{last-more, takes-none}
-use Rattle.mg_journal.proofs.Bodies.{bodies_are-fit, home-place, home-unfit, is_home, places_from-last, too_many-unfit}
+use Rattle.{mg_disk.specs.Disk.{Image, block_at}, mg_journal.proofs.Bodies.{bodies_are-fit, home-place, home-unfit, is_home, places_from-last}}
+use Rattle.mg_journal.{proofs.{Bodies.too_many-unfit, Tables.{last-more, takes-none}}, specs.{Newest.HasLast, Places.{IsPlace, places_from}}}
+use Rattle.{mg_model.specs.{Bytes.number_at, Layout.{segment_body, segment_index}, Replay.{body_count, home_of}}, std.proofs.Common.{◌≡◌, ◌+◌, ◌*◌}}
+use Rattle.std.proofs.{Common.{◌++◌, ◌∷◌, [], ℕ, suc, List, All, append_assoc, ap, arith, subst, sym, ◌∙◌}, lemmas.List.Elements.All-push}
 use Rattle.mg_journal.proofs.reading.add_bodies.Goals as goal
 
 one_more : (items : List (ℕ × ℕ)) (image : Image) (s k home body : ℕ) → home ≡ home_of image s k → body ≡ segment_body s k → (items ++ places_from image s 0 k) ++ (home, body) ∷ [] ≡ items ++ places_from image s 0 (k + 1)

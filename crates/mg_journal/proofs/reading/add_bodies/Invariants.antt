@@ -1,8 +1,5 @@
-use Rattle.std.proofs.Common.{◌≡◌, ◌≤◌, ◌+◌, All, length}
-use Rattle.mg_disk.specs.Disk.{Image, block_at}
-use Rattle.mg_model.specs.Layout.{segment_index}
-use Rattle.mg_journal.specs.Newest.{TakesIn}
-use Rattle.mg_journal.specs.Places.{IsPlace, places_from}
+use Rattle.{mg_disk.specs.Disk.{Image, block_at}, mg_journal.specs.{Newest.TakesIn, Places.{IsPlace, places_from}}}
+use Rattle.{mg_model.specs.Layout.segment_index, std.proofs.Common.{◌≡◌, ◌≤◌, ◌+◌, All, length}}
 use Rattle.mg_journal.proofs.reading.add_bodies.Given as goal
 
 -- the places of the bodies so far are in the table, and each is one

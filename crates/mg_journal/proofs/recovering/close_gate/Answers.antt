@@ -1,8 +1,5 @@
+use Rattle.{mg_disk.specs.{Runs.still_seen, Stops.WritesNothing}, mg_journal.{proofs.AfterReads.{after_reads, of_reads}, specs.Recovery.MayCloseOne}}
 use Rattle.std.proofs.Common.{refl, inl}
-use Rattle.mg_disk.specs.Runs.{still_seen}
-use Rattle.mg_disk.specs.Stops.{WritesNothing}
-use Rattle.mg_journal.proofs.AfterReads.{after_reads, of_reads}
-use Rattle.mg_journal.specs.Recovery.{MayCloseOne}
 use Rattle.mg_journal.proofs.recovering.close_gate.Goals as goal
 
 pub returns-then-is_opened-clause-any_moment : goal.returns-then-is_opened-clause-any_moment

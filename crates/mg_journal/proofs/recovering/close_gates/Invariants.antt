@@ -1,8 +1,5 @@
-use Rattle.std.proofs.Common.{◌≡◌, ℕ, Some}
-use Rattle.std.specs.Option.{ForSome}
-use Rattle.mg_disk.specs.Stops.{Becomes, CountGoes, Leaves, NothingPending}
-use Rattle.mg_model.specs.Replay.{replay}
-use Rattle.mg_journal.specs.Recovery.{AreOpen, ClosesUpTo, IsStill}
+use Rattle.{mg_disk.specs.Stops.{Becomes, CountGoes, Leaves, NothingPending}, mg_journal.specs.Recovery.{AreOpen, ClosesUpTo, IsStill}}
+use Rattle.{mg_model.specs.Replay.replay, std.{proofs.Common.{◌≡◌, ℕ, Some}, specs.Option.ForSome}}
 use Rattle.mg_journal.proofs.recovering.close_gates.Given as goal
 
 -- the segments before this one are closed

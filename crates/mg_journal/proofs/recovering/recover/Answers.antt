@@ -1,13 +1,7 @@
-use Rattle.std.proofs.Common.{◌≡◌, ◌∙◌, ap, option_map, true}
-use Rattle.std.proofs.lemmas.Result.{on_ok_weaker}
-use Rattle.mg_disk.specs.BecomesLemmas.{becomes-wider}
-use Rattle.mg_disk.specs.Disk.{SameBut}
-use Rattle.mg_disk.specs.Runs.{leaves_then, leaves_wider}
-use Rattle.mg_model.specs.Replay.{written}
-use Rattle.mg_journal.specs.Applied.{filled}
-use Rattle.mg_journal.specs.Contents.{SameContents, names}
-use Rattle.mg_journal.proofs.NewestSteps.{table_settles}
+use Rattle.{mg_disk.specs.{BecomesLemmas.becomes-wider, Disk.SameBut, Runs.{leaves_then, leaves_wider}}, mg_journal.proofs.NewestSteps.table_settles}
 use Rattle.mg_journal.proofs.RecoverSteps.{contents_stay, homed, of_changed, open_behind, own, recovered_from, while_applied, while_closed}
+use Rattle.{mg_journal.specs.{Applied.filled, Contents.{SameContents, names}}, mg_model.specs.Replay.written, std.proofs.Common.{◌≡◌, ◌∙◌, ap}}
+use Rattle.std.proofs.{Common.{option_map, true}, lemmas.Result.on_ok_weaker}
 use Rattle.mg_journal.proofs.recovering.recover.Goals as goal
 
 pub returns-in_err-write_homes-clause-any_moment : goal.returns-in_err-write_homes-clause-any_moment

@@ -1,6 +1,4 @@
-use Rattle.std.proofs.Common.{rules}
-use Rattle.std.proofs.lemmas.Result.{on_ok_weaker}
-use Rattle.mg_journal.proofs.PhaseSteps.{wrote_all}
+use Rattle.{mg_journal.proofs.PhaseSteps.wrote_all, std.proofs.{Common.rules, lemmas.Result.on_ok_weaker}}
 use Rattle.mg_journal.proofs.segment.write_segment.Goals as goal
 
 pub returns-clause-written : goal.returns-clause-written

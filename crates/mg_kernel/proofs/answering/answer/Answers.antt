@@ -1,17 +1,8 @@
-use Rattle.std.proofs.Common.{ap, arith, rules, subst, sym, ◌∙◌}
-use Rattle.mg_access.specs.Served.{CallServes, of_line}
-use Rattle.mg_kernel.proofs.Counted.{gone-line, held-gone, of-thread}
-use Rattle.mg_kernel.proofs.Served.{lives-line, serves_as}
-use Rattle.mg_kernel.proofs.Threads.{by-thread, gone}
-use Rattle.mg_kernel.proofs.Turned.{row-lives, row-thread, unmapped}
-use Rattle.mg_kernel.specs.Calls.{of_living}
+use Rattle.{mg_access.specs.Served.{CallServes, of_line}, mg_kernel.proofs.{Counted.{gone-line, held-gone, of-thread}, Served.lives-line}}
+use Rattle.mg_kernel.{proofs.{Served.serves_as, Threads.{by-thread, gone}, Turned.{row-lives, row-thread, unmapped}}, specs.Calls.of_living}
+use Rattle.{mg_model.specs.{Backed.{KeepsBacked, by_each}, Refused.Answer, Turn.thread_call}, mg_vcache.specs.SeatLemmas.drops_backed}
+use Rattle.{mg_vcache.specs.Seats.is_kept, mg_volume.specs.Meaning.now_of, std.proofs.Common.{ap, arith, rules, subst, sym, ◌∙◌}}
 use Rattle.mg_model.specs.declared.calls.Call.TheVariants as call
-use Rattle.mg_model.specs.Backed.{KeepsBacked, by_each}
-use Rattle.mg_model.specs.Refused.{Answer}
-use Rattle.mg_model.specs.Turn.{thread_call}
-use Rattle.mg_vcache.specs.Seats.{is_kept}
-use Rattle.mg_vcache.specs.SeatLemmas.{drops_backed}
-use Rattle.mg_volume.specs.Meaning.{now_of}
 use Rattle.mg_kernel.proofs.answering.answer.Goals as goal
 
 pub dispatch-requires-clause-lives : goal.dispatch-requires-clause-lives

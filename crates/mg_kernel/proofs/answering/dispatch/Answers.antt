@@ -1,12 +1,6 @@
-use Rattle.std.specs.Prelude.{◌≡◌, true}
-use Rattle.std.proofs.Common.{arith, rules}
-use Rattle.mg_access.specs.Served.{of_call}
-use Rattle.mg_calls_obj.specs.Door.{is_on_object}
-use Rattle.mg_kernel.proofs.Quiet.{unasked-serves}
-use Rattle.mg_kernel.proofs.Served.{object-lives, serves_as}
-use Rattle.mg_kernel.specs.Calls.{of_living}
-use Rattle.mg_kernel.specs.Unasked.{asks_nothing}
-use Rattle.mg_volume.specs.Meaning.{now_of}
+use Rattle.{mg_access.specs.Served.of_call, mg_calls_obj.specs.Door.is_on_object, mg_kernel.proofs.{Quiet.unasked-serves, Served.object-lives}}
+use Rattle.{mg_kernel.{proofs.Served.serves_as, specs.{Calls.of_living, Unasked.asks_nothing}}, mg_volume.specs.Meaning.now_of}
+use Rattle.std.{proofs.Common.{arith, rules}, specs.Prelude.{◌≡◌, true}}
 use Rattle.mg_kernel.proofs.answering.dispatch.Goals as goal
 
 pub returns-in-Delete : goal.returns-in-Delete

@@ -1,6 +1,4 @@
-use Rattle.std.proofs.Common.{ap, List, Option}
-use Rattle.mg_model.specs.declared.seats.Seat.{Seat}
-use Rattle.mg_kernel.specs.declared.kernel.Kernel.{Kernel}
+use Rattle.{mg_kernel.specs.declared.kernel.Kernel.Kernel, mg_model.specs.declared.seats.Seat.Seat, std.proofs.Common.{ap, List, Option}}
 use Rattle.mg_kernel.proofs.kernel.with_cache.Goals as goal
 
 pub returns-in-Ok-clause-kernel : goal.returns-in-Ok-clause-kernel

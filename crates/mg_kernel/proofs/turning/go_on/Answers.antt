@@ -1,9 +1,6 @@
-use Rattle.std.specs.Prelude.{◌==◌, find}
-use Rattle.std.proofs.Common.{sym}
-use Rattle.mg_kernel.proofs.Turned.{after-change, after-none, changes-alike, no-change, row-lives, row-told, unmapped}
-use Rattle.mg_model.specs.State.{Thread, ThreadRow}
-use Rattle.mg_script.specs.Effects.{resumed, stood}
-use Rattle.mg_volume.specs.Meaning.{now_of, threads_in}
+use Rattle.{mg_kernel.proofs.Turned.{after-change, after-none, changes-alike, no-change, row-lives, row-told, unmapped}, mg_model.specs.State.Thread}
+use Rattle.{mg_model.specs.State.ThreadRow, mg_script.specs.Effects.{resumed, stood}, mg_volume.specs.Meaning.{now_of, threads_in}}
+use Rattle.std.{proofs.Common.sym, specs.Prelude.{◌==◌, find}}
 use Rattle.mg_kernel.proofs.turning.go_on.Goals as goal
 
 pub move_thread-requires-clause-lives : goal.move_thread-requires-clause-lives

@@ -1,10 +1,6 @@
-use Rattle.std.specs.Prelude.{◌==◌, find}
-use Rattle.std.proofs.Common.{ap, ◌∙◌}
-use Rattle.mg_kernel.proofs.Turned.{after-change, after-none, changes-row, no-change, row-lives, row-told, unmapped}
-use Rattle.mg_model.specs.State.{Thread, ThreadRow}
-use Rattle.mg_model.specs.Turn.{as_after}
-use Rattle.mg_script.specs.Effects.{resumed}
-use Rattle.mg_volume.specs.Meaning.{now_of, threads_in}
+use Rattle.{mg_kernel.proofs.Turned.{after-change, after-none, changes-row, no-change, row-lives, row-told, unmapped}, mg_model.specs.State.Thread}
+use Rattle.{mg_model.specs.{State.ThreadRow, Turn.as_after}, mg_script.specs.Effects.resumed, mg_volume.specs.Meaning.{now_of, threads_in}}
+use Rattle.std.{proofs.Common.{ap, ◌∙◌}, specs.Prelude.{◌==◌, find}}
 use Rattle.mg_kernel.proofs.turning.go_on_whole.Goals as goal
 
 pub change_thread-requires-clause-lives : goal.change_thread-requires-clause-lives

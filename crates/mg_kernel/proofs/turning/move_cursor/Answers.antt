@@ -1,7 +1,4 @@
-use Rattle.std.proofs.Common.{ap, sym, ◌∙◌}
-use Rattle.mg_model.specs.State.{Counters}
-use Rattle.mg_volume.specs.StateLemmas.{now_counters}
-use Rattle.mg_volume.specs.Meaning.{now_of}
+use Rattle.{mg_model.specs.State.Counters, mg_volume.specs.{Meaning.now_of, StateLemmas.now_counters}, std.proofs.Common.{ap, sym, ◌∙◌}}
 use Rattle.mg_kernel.proofs.turning.move_cursor.Goals as goal
 
 pub returns-clause-now : goal.returns-clause-now

@@ -1,9 +1,5 @@
-use Rattle.std.proofs.Common.{rules}
-use Rattle.mg_kernel.proofs.NextTurn.{cursor-backed, next-runs, picked-held, picked-row, picks}
-use Rattle.mg_kernel.proofs.TurnCounts.{next-line, next-within}
-use Rattle.mg_kernel.proofs.Turned.{row-lives, row-told}
-use Rattle.mg_vcache.specs.Seats.{is_kept}
-use Rattle.mg_volume.specs.Meaning.{now_of}
+use Rattle.mg_kernel.proofs.{NextTurn.{cursor-backed, next-runs, picked-held, picked-row, picks}, TurnCounts.{next-line, next-within}}
+use Rattle.{mg_kernel.proofs.Turned.{row-lives, row-told}, mg_vcache.specs.Seats.is_kept, mg_volume.specs.Meaning.now_of, std.proofs.Common.rules}
 use Rattle.mg_kernel.proofs.turning.next.Goals as goal
 
 pub unreachable-requires : goal.unreachable-requires

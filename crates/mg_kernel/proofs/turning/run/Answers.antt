@@ -1,20 +1,9 @@
-use Rattle.std.specs.Prelude.{◌≡◌, ◌≤◌, ◌+◌, if◌then◌else◌, Some, None}
-use Rattle.std.specs.Option.{ForSome}
-use Rattle.std.proofs.Common.{ap, arith, subst, sym, ◌∙◌, rules}
-use Rattle.mg_calls_dom.specs.Fetching.{Fetches, fetch_limit}
-use Rattle.mg_kernel.proofs.TurnCounts.{fetch-call, fetch-failed, fetch-within}
-use Rattle.mg_kernel.proofs.Turned.{asked-by, living-row, ready-row, row-lives, row-still, row-thread, row-told, serves-stages, turned-backed, turned-state}
-use Rattle.mg_kernel.specs.Calls.{IsRowOf, KeepsCall, KeepsTurn, call_limit}
-use Rattle.mg_model.specs.declared.rights.Right.TheVariants.{X}
-use Rattle.mg_model.specs.Access.{allowed}
-use Rattle.mg_model.specs.Objects.{word_at}
-use Rattle.mg_model.specs.State.{ThreadRow}
-use Rattle.mg_model.specs.Turn.{thread_call}
-use Rattle.mg_script.specs.Effects.{begun}
-use Rattle.mg_script.specs.Turns.{turn_call}
-use Rattle.mg_vcache.specs.Seats.{is_kept}
-use Rattle.mg_volume.specs.Meaning.{now_of}
-use Rattle.mg_volume.specs.RunLemmas.{serves_wider, then_serves}
+use Rattle.{mg_calls_dom.specs.Fetching.{Fetches, fetch_limit}, mg_kernel.proofs.TurnCounts.{fetch-call, fetch-failed, fetch-within}}
+use Rattle.mg_kernel.proofs.Turned.{asked-by, living-row, ready-row, row-lives, row-still, row-thread, row-told, serves-stages, turned-backed}
+use Rattle.{mg_kernel.{proofs.Turned.turned-state, specs.Calls.{IsRowOf, KeepsCall, KeepsTurn, call_limit}}, mg_model.specs.Access.allowed}
+use Rattle.{mg_model.specs.{Objects.word_at, State.ThreadRow, Turn.thread_call, declared.rights.Right.TheVariants.X}, mg_script.specs.Effects.begun}
+use Rattle.{mg_script.specs.Turns.turn_call, mg_vcache.specs.Seats.is_kept, mg_volume.specs.{Meaning.now_of, RunLemmas.{serves_wider, then_serves}}}
+use Rattle.std.{proofs.Common.{ap, arith, subst, sym, ◌∙◌, rules}, specs.{Option.ForSome, Prelude.{◌≡◌, ◌≤◌, ◌+◌, if◌then◌else◌, Some, None}}}
 use Rattle.mg_kernel.proofs.turning.run.Goals as goal
 
 pub dispatch-requires-clause-backed : goal.dispatch-requires-clause-backed

@@ -1,13 +1,7 @@
-use Rattle.std.specs.Prelude.{◌==◌, find}
-use Rattle.std.proofs.Common.{refl, sym, ◌∙◌, rules}
-use Rattle.mg_kernel.proofs.Threads.{gone}
-use Rattle.mg_kernel.proofs.TurnCounts.{gone-turn, row-found, turn-line, turn-within, unready-turn}
-use Rattle.mg_kernel.proofs.Turned.{row-lives, row-ready, row-thread, row-told, turn-ready, turn-refused, unmapped}
-use Rattle.mg_model.specs.State.{Thread}
-use Rattle.mg_model.specs.Turn.{turn}
-use Rattle.mg_vcache.specs.Seats.{is_kept}
-use Rattle.mg_volume.specs.Meaning.{now_of, threads_in}
-use Rattle.mg_volume.specs.RunLemmas.{told_thread}
+use Rattle.mg_kernel.proofs.{Threads.gone, TurnCounts.{gone-turn, row-found, turn-line, turn-within, unready-turn}, Turned.{row-lives, row-ready}}
+use Rattle.{mg_kernel.proofs.Turned.{row-thread, row-told, turn-ready, turn-refused, unmapped}, mg_model.specs.{State.Thread, Turn.turn}}
+use Rattle.{mg_vcache.specs.Seats.is_kept, mg_volume.specs.{Meaning.{now_of, threads_in}, RunLemmas.told_thread}, std.proofs.Common.{refl, sym, ◌∙◌}}
+use Rattle.std.{proofs.Common.rules, specs.Prelude.{◌==◌, find}}
 use Rattle.mg_kernel.proofs.turning.turn.Goals as goal
 
 pub run-requires-clause-ready : goal.run-requires-clause-ready

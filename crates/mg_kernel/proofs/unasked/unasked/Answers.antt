@@ -1,11 +1,5 @@
-use Rattle.std.specs.Prelude.{◌≡◌, ◌≤◌, ℕ}
-use Rattle.std.proofs.Common.{arith, subst, sym}
-use Rattle.mg_model.specs.declared.calls.Call.{Call}
-use Rattle.mg_model.specs.declared.replies.Reply.{Reply}
-use Rattle.mg_model.specs.Turn.{thread_call}
-use Rattle.mg_volume.specs.Calls.{Answers, CallStages}
-use Rattle.mg_volume.specs.Held.{VolumeHeld}
-use Rattle.mg_volume.specs.RunLemmas.{call_wider}
+use Rattle.{mg_model.specs.{Turn.thread_call, declared.{calls.Call.Call, replies.Reply.Reply}}, mg_volume.specs.Calls.{Answers, CallStages}}
+use Rattle.{mg_volume.specs.{Held.VolumeHeld, RunLemmas.call_wider}, std.{proofs.Common.{arith, subst, sym}, specs.Prelude.{◌≡◌, ◌≤◌, ℕ}}}
 use Rattle.mg_kernel.proofs.unasked.unasked.Goals as goal
 
 -- the call that was made

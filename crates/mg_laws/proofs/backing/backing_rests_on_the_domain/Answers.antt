@@ -1,5 +1,4 @@
-use Rattle.mg_laws.proofs.Backs.{rests-backed}
-use Rattle.mg_laws.proofs.BacksThreads.{frames-backed}
+use Rattle.mg_laws.proofs.{Backs.rests-backed, BacksThreads.frames-backed}
 use Rattle.mg_laws.proofs.backing.backing_rests_on_the_domain.Goals as goal
 
 pub returns-clause-rests : goal.returns-clause-rests

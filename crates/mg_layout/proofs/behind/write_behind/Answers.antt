@@ -1,9 +1,5 @@
-use Rattle.std.proofs.Common.{◌+◌, ◌≤◌, ◌∙◌, ap, rules, arith, option_map}
-use Rattle.mg_disk.specs.Disk.{only_place}
-use Rattle.mg_disk.specs.PlaceLemmas.{same_as}
-use Rattle.mg_disk.specs.Runs.{from_yet, torn_more}
-use Rattle.mg_layout.proofs.FormatSteps.{map_more, map_none}
-use Rattle.mg_layout.specs.FreshBelow.{with_block}
+use Rattle.{mg_disk.specs.{Disk.only_place, PlaceLemmas.same_as, Runs.{from_yet, torn_more}}, mg_layout.proofs.FormatSteps.{map_more, map_none}}
+use Rattle.{mg_layout.specs.FreshBelow.with_block, std.proofs.Common.{◌+◌, ◌≤◌, ◌∙◌, ap, rules, arith, option_map}}
 use Rattle.mg_layout.proofs.behind.write_behind.Goals as goal
 
 pub loop-i-init : goal.loop-i-init

@@ -1,7 +1,5 @@
-use Rattle.std.proofs.Common.{◌≡◌, ◌≤◌, option_map}
-use Rattle.mg_disk.specs.Disk.{TornAt}
-use Rattle.mg_disk.specs.Stops.{CountGoes, Leaves, MightHaveLeft}
-use Rattle.mg_layout.specs.FreshBelow.{fresh_until}
+use Rattle.{mg_disk.specs.{Disk.TornAt, Stops.{CountGoes, Leaves, MightHaveLeft}}, mg_layout.specs.FreshBelow.fresh_until, std.proofs.Common.◌≡◌}
+use Rattle.std.proofs.Common.{◌≤◌, option_map}
 use Rattle.mg_layout.proofs.behind.write_behind.Given as goal
 
 -- the blocks up to this one are written, and only blocks after the gate differ

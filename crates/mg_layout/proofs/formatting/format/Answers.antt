@@ -1,10 +1,5 @@
-use Rattle.mg_disk.specs.Disk.{only_place}
-use Rattle.std.proofs.Common.{refl}
-use Rattle.mg_disk.specs.PlaceLemmas.{same_as}
-use Rattle.mg_disk.specs.Runs.{from_yet}
-use Rattle.mg_layout.specs.MayFormat.{MayFormat}
-use Rattle.mg_layout.proofs.FormatSteps.{close_may}
-use Rattle.mg_model.specs.Layout.{gate_block}
+use Rattle.{mg_disk.specs.{Disk.only_place, PlaceLemmas.same_as, Runs.from_yet}, mg_layout.{proofs.FormatSteps.close_may, specs.MayFormat.MayFormat}}
+use Rattle.{mg_model.specs.Layout.gate_block, std.proofs.Common.refl}
 use Rattle.mg_layout.proofs.formatting.format.Goals as goal
 
 pub returns-then-have-need-clause-any_moment : goal.returns-then-have-need-clause-any_moment

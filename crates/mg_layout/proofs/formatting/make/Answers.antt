@@ -1,8 +1,5 @@
-use Rattle.std.proofs.Common.{◌∙◌, arith}
-use Rattle.std.proofs.lemmas.Result.{on_ok_weaker}
-use Rattle.mg_model.specs.Fresh.{fresh}
-use Rattle.mg_layout.proofs.FreshBlocks.{at_gate}
-use Rattle.mg_layout.proofs.FormatSteps.{all_made, first_phase, rest_of, second_phase, third_phase}
+use Rattle.mg_layout.proofs.{FormatSteps.{all_made, first_phase, rest_of, second_phase, third_phase}, FreshBlocks.at_gate}
+use Rattle.{mg_model.specs.Fresh.fresh, std.proofs.{Common.{◌∙◌, arith}, lemmas.Result.on_ok_weaker}}
 use Rattle.mg_layout.proofs.formatting.make.Goals as goal
 
 pub returns-in_err-write_firmly-clause-any_moment : goal.returns-in_err-write_firmly-clause-any_moment

@@ -1,8 +1,5 @@
-use Rattle.std.proofs.Common.{rules}
-use Rattle.std.proofs.Common.{◌≡◌, ℕ, List, sym, subst, arith}
-use Rattle.mg_model.specs.Settings.{Settings}
 use Rattle.mg_layout.proofs.FreshBlocks.{at_accounts, at_frame, at_gate, at_globals, at_objects, at_other, at_super, at_table, at_threads}
-use Rattle.mg_layout.specs.FreshImage.{fresh_bytes}
+use Rattle.{mg_layout.specs.FreshImage.fresh_bytes, mg_model.specs.Settings.Settings, std.proofs.Common.{rules, ◌≡◌, ℕ, List, sym, subst, arith}}
 use Rattle.mg_layout.proofs.fresh.fresh_block.Goals as goal
 
 -- the bytes of block i, if i is this number

@@ -1,6 +1,5 @@
+use Rattle.mg_layout.proofs.{ChangedImages.{later_version, old_version, overfull}, FreshVolume.fresh_volume}
 use Rattle.mg_model.specs.VolumeLemmas.{volume-closed}
-use Rattle.mg_layout.proofs.ChangedImages.{later_version, old_version, overfull}
-use Rattle.mg_layout.proofs.FreshVolume.{fresh_volume}
 use Rattle.mg_layout.proofs.laws.images_are_read.Goals as goal
 
 pub returns : goal.returns

@@ -1,12 +1,6 @@
-use Rattle.std.proofs.Common.{arith}
-use Rattle.std.proofs.lemmas.Bool.Decides.{nat_tests}
-use Rattle.std.proofs.Common.{◌≡◌, ℕ, List, if◌then◌else◌, Some, None, ◌∙◌}
-use Rattle.std.proofs.Math.Bool.{and-true}
-use Rattle.std.proofs.lemmas.Bool.{and_right}
-use Rattle.mg_model.specs.Settings.{Settings, within_limits}
-use Rattle.mg_model.specs.Spelling.{are_settings, super_fields}
-use Rattle.mg_model.specs.SuperblockLemmas.{settings_same}
-use Rattle.mg_model.specs.Tariff.{is_tariff}
+use Rattle.mg_model.specs.{Settings.{Settings, within_limits}, Spelling.{are_settings, super_fields}, SuperblockLemmas.settings_same}
+use Rattle.{mg_model.specs.Tariff.is_tariff, std.proofs.{Common.{arith, ◌≡◌, ℕ, List, if◌then◌else◌, Some, None, ◌∙◌}, Math.Bool.and-true}}
+use Rattle.std.proofs.lemmas.Bool.{and_right, Decides.nat_tests}
 use Rattle.mg_layout.proofs.superblock.fields.Goals as goal
 
 -- with a tariff that keeps its rule

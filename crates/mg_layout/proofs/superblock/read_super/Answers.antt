@@ -1,14 +1,9 @@
-use Rattle.std.proofs.lemmas.Bool.Decides.{nat_tests}
-use Rattle.std.proofs.Common.{◌≡◌, ◌≤◌, ℕ, List, true, false, Some, None, if◌then◌else◌, sym, ap, subst, ◌∙◌, ⊎_elim, arith}
-use Rattle.std.proofs.lemmas.Bool.{and_left, and_right, cases_Bool, not-true, not-false}
-use Rattle.mg_model.specs.Bytes.{bytes_at, number_at}
-use Rattle.mg_model.specs.Layout.{magic, version}
-use Rattle.mg_model.specs.Settings.{Settings}
-use Rattle.mg_model.specs.Spelling.{are_settings, super_bytes, super_fields, super_read, BadSuper, Spells}
-use Rattle.mg_model.specs.SuperblockLemmas.{super_read-bad, super_read-not, super_read-old, super_read-spells}
-use Rattle.mg_model.specs.Words.{same_bytes}
+use Rattle.{mg_layout.proofs.superblock.read_super.Goals.Else-number_at-lt-VERSION, mg_model.specs.{Bytes.{bytes_at, number_at}, Layout.magic}}
+use Rattle.mg_model.specs.{Layout.version, Settings.Settings, Spelling.{are_settings, super_bytes, super_fields, super_read, BadSuper, Spells}}
+use Rattle.mg_model.specs.{SuperblockLemmas.{super_read-bad, super_read-not, super_read-old, super_read-spells}, Words.same_bytes}
+use Rattle.std.proofs.{Common.{◌≡◌, ◌≤◌, ℕ, List, true, false, Some, None, if◌then◌else◌, sym, ap, subst, ◌∙◌, ⊎_elim, arith}, lemmas.Bool.and_left}
+use Rattle.std.proofs.lemmas.Bool.{and_right, cases_Bool, not-true, not-false, Decides.nat_tests}
 use Rattle.mg_layout.proofs.superblock.read_super.Goals as goal
-use Rattle.mg_layout.proofs.superblock.read_super.Goals.{Else-number_at-lt-VERSION}
 
 -- it begins with the eight bytes, and its version is not below 2
 record IsRecent (bytes : List ℕ) : Type 0 where

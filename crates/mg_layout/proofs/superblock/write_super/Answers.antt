@@ -1,10 +1,6 @@
-use Rattle.std.proofs.Common.{rules, ◌≡◌, IsTrue, length, List, ℕ, ap, sym, subst, ◌∙◌, arith}
-use Rattle.std.proofs.lemmas.Bool.Decides.{nat_tests}
-use Rattle.mg_model.specs.Bytes.{padded_to}
-use Rattle.mg_model.specs.Settings.{within_limits}
-use Rattle.mg_model.specs.Spelling.{super_bytes, super_read}
-use Rattle.mg_model.specs.SuperblockLemmas.{super_bytes-parts, super_read-back}
-use Rattle.mg_model.specs.Tariff.{is_tariff}
+use Rattle.mg_model.specs.{Bytes.padded_to, Settings.within_limits, Spelling.{super_bytes, super_read}, SuperblockLemmas.super_bytes-parts}
+use Rattle.{mg_model.specs.{SuperblockLemmas.super_read-back, Tariff.is_tariff}, std.proofs.Common.{rules, ◌≡◌, IsTrue, length, List, ℕ, ap, sym}}
+use Rattle.std.proofs.{Common.{subst, ◌∙◌, arith}, lemmas.Bool.Decides.nat_tests}
 use Rattle.mg_layout.proofs.superblock.write_super.Goals as goal
 
 keeps_rule : (c : goal.After-whole) → IsTrue (is_tariff c.args.params.now.tariff)

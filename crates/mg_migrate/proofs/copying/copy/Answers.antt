@@ -1,12 +1,7 @@
-use Rattle.std.proofs.Common.{◌≡◌, ◌≤◌, length, arith, Some}
+use Rattle.{mg_disk.specs.{Disk.{Image, SeenBut, only_place}, Stops.NothingPending}, mg_journal.specs.ResultLemmas.on_ok_both}
+use Rattle.{mg_migrate.proofs.CopySteps.{all_made, first_phase, second_phase, stands_closed, third_phase}, mg_model.specs.Layout.gate_block}
+use Rattle.{mg_model.specs.{Layout.gate_open, Volume.gate_byte}, std.proofs.{Common.{◌≡◌, ◌≤◌, length, arith, Some}, lemmas.Result.on_ok_weaker}}
 use Rattle.std.specs.Option.{ForSome}
-use Rattle.std.proofs.lemmas.Result.{on_ok_weaker}
-use Rattle.mg_disk.specs.Disk.{Image, SeenBut, only_place}
-use Rattle.mg_disk.specs.Stops.{NothingPending}
-use Rattle.mg_journal.specs.ResultLemmas.{on_ok_both}
-use Rattle.mg_migrate.proofs.CopySteps.{all_made, first_phase, second_phase, stands_closed, third_phase}
-use Rattle.mg_model.specs.Layout.{gate_block, gate_open}
-use Rattle.mg_model.specs.Volume.{gate_byte}
 use Rattle.mg_migrate.proofs.copying.copy.Goals as goal
 
 pub returns-in_err-write_gate-clause-any_moment : goal.returns-in_err-write_gate-clause-any_moment

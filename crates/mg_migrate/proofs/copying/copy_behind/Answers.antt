@@ -1,12 +1,8 @@
-use Rattle.std.proofs.lemmas.Grind.{common_steps}
-use Rattle.std.proofs.Common.{◌+◌, ◌<◌, ◌≤◌, ◌∙◌, ℕ, Option, ap, arith, length, rules, take}
-use Rattle.mg_disk.specs.Disk.{Image, InRange, TornAt}
-use Rattle.mg_disk.specs.Runs.{torn_more}
-use Rattle.mg_disk.specs.Stops.{MightHaveLeft}
-use Rattle.mg_migrate.proofs.CopySteps.{copied_more, synced}
-use Rattle.mg_model.specs.Words.{and_then}
-use Rattle.mg_migrate.proofs.copying.copy_behind.Goals as goal
+use Rattle.{mg_disk.specs.{Disk.{Image, InRange, TornAt}, Runs.torn_more, Stops.MightHaveLeft}, mg_migrate.proofs.CopySteps.{copied_more, synced}}
 use Rattle.mg_migrate.proofs.copying.copy_behind.Goals.{else-loop-first-test, then-loop-first-test+in_ok-copy_blocks+else-total-first-gt32}
+use Rattle.{mg_model.specs.Words.and_then, std.proofs.Common.{◌+◌, ◌<◌, ◌≤◌, ◌∙◌, ℕ, Option, ap, arith, length, rules, take}}
+use Rattle.std.proofs.lemmas.Grind.{common_steps}
+use Rattle.mg_migrate.proofs.copying.copy_behind.Goals as goal
 
 pub returns-in-Ok-clause-any_moment : goal.returns-in-Ok-clause-any_moment
 returns-in-Ok-clause-any_moment g c =

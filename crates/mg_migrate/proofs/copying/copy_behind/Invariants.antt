@@ -1,9 +1,5 @@
-use Rattle.std.proofs.Common.{◌≡◌, ◌≤◌, ◌-◌}
-use Rattle.std.specs.Option.{ForSome}
-use Rattle.mg_check.specs.Reads.{contents}
-use Rattle.mg_disk.specs.Disk.{SeenBut, TornAt}
-use Rattle.mg_disk.specs.Stops.{CountGoes, Leaves, MightHaveLeft, OnlyRead}
-use Rattle.mg_migrate.proofs.CopySteps.{AreBefore}
+use Rattle.{mg_check.specs.Reads.contents, mg_disk.specs.{Disk.{SeenBut, TornAt}, Stops.{CountGoes, Leaves, MightHaveLeft, OnlyRead}}}
+use Rattle.{mg_migrate.proofs.CopySteps.AreBefore, std.{proofs.Common.{◌≡◌, ◌≤◌, ◌-◌}, specs.Option.ForSome}}
 use Rattle.mg_migrate.proofs.copying.copy_behind.Given as goal
 
 -- the blocks before this one are copied, and only blocks after the gate differ

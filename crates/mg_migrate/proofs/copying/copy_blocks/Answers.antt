@@ -1,6 +1,4 @@
-use Rattle.std.proofs.Common.{length}
-use Rattle.mg_disk.specs.Disk.{HasBlocks}
-use Rattle.mg_migrate.proofs.CopySteps.{of_contents, same_blocks}
+use Rattle.{mg_disk.specs.Disk.HasBlocks, mg_migrate.proofs.CopySteps.{of_contents, same_blocks}, std.proofs.Common.length}
 use Rattle.mg_migrate.proofs.copying.copy_blocks.Goals as goal
 
 pub returns-in-Ok-write_blocks-clause-copied : goal.returns-in-Ok-write_blocks-clause-copied

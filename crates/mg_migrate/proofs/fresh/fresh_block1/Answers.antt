@@ -1,5 +1,4 @@
-use Rattle.std.proofs.Common.{sym, ◌∙◌}
-use Rattle.mg_migrate.proofs.FreshBlocks1.{fresh_before, fresh_behind, fresh_objects, fresh_super}
+use Rattle.{mg_migrate.proofs.FreshBlocks1.{fresh_before, fresh_behind, fresh_objects, fresh_super}, std.proofs.Common.{sym, ◌∙◌}}
 use Rattle.mg_migrate.proofs.fresh.fresh_block1.Goals as goal
 
 pub returns-then-i-eq-SUPER_BLOCK : goal.returns-then-i-eq-SUPER_BLOCK

@@ -1,6 +1,4 @@
-use Rattle.mg_migrate.proofs.LiftedBlocks.{keeps-places, replay-lifted}
-use Rattle.mg_migrate.proofs.LiftedState.{replayed-lifted}
-use Rattle.mg_migrate.proofs.LiftedVolume.{volume-lifted}
+use Rattle.mg_migrate.proofs.{LiftedBlocks.{keeps-places, replay-lifted}, LiftedState.replayed-lifted, LiftedVolume.volume-lifted}
 use Rattle.mg_migrate.proofs.Volume1Reads.{replayed1-is}
 use Rattle.mg_migrate.proofs.laws.lifted_images_spell_the_lifted_state.Goals as goal
 

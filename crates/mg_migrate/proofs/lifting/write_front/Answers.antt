@@ -1,6 +1,4 @@
-use Rattle.std.proofs.Common.{sym, ◌∙◌, arith}
-use Rattle.mg_migrate.proofs.LiftedBlocks.{at_closed}
-use Rattle.mg_migrate.proofs.LiftedReads.{super_at}
+use Rattle.{mg_migrate.proofs.{LiftedBlocks.at_closed, LiftedReads.super_at}, std.proofs.Common.{sym, ◌∙◌, arith}}
 use Rattle.mg_migrate.proofs.lifting.write_front.Goals as goal
 
 pub returns-then-i-eq-SUPER_BLOCK : goal.returns-then-i-eq-SUPER_BLOCK

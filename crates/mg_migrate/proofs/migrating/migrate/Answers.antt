@@ -1,13 +1,7 @@
+use Rattle.{mg_disk.specs.Runs.from_wider, mg_migrate.proofs.LiftedCopy.{contents-are, copy-may, left-lifts, reads-migrated, tells-done}}
+use Rattle.mg_migrate.{proofs.LiftedCopy.{tells-enough, tells-small, untouched_may}, specs.{Copied.MayCopy, Layout1.total1_blocks, Lifted.lifted}}
+use Rattle.{mg_migrate.specs.{LiftedView.LiftedView, Migrated.{IsMigrated, MayMigrate}, Version1.volume1}, mg_model.specs.Layout.total_blocks}
 use Rattle.std.proofs.Common.{rules, sym, ap, subst, ◌∙◌, ◌≡◌, arith, inr}
-use Rattle.mg_disk.specs.Runs.{from_wider}
-use Rattle.mg_migrate.proofs.LiftedCopy.{contents-are, copy-may, left-lifts, reads-migrated, tells-done, tells-enough, tells-small, untouched_may}
-use Rattle.mg_migrate.specs.Copied.{MayCopy}
-use Rattle.mg_migrate.specs.Layout1.{total1_blocks}
-use Rattle.mg_migrate.specs.Lifted.{lifted}
-use Rattle.mg_migrate.specs.LiftedView.{LiftedView}
-use Rattle.mg_migrate.specs.Migrated.{IsMigrated, MayMigrate}
-use Rattle.mg_migrate.specs.Version1.{volume1}
-use Rattle.mg_model.specs.Layout.{total_blocks}
 use Rattle.mg_migrate.proofs.migrating.migrate.Goals as goal
 
 pub returns-then-have-need-clause-told : goal.returns-then-have-need-clause-told

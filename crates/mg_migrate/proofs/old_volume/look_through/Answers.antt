@@ -1,8 +1,5 @@
-use Rattle.std.proofs.Common.{Err, ap, subst, sym, IsSome, ◌≡◌, ◌∙◌, arith}
-use Rattle.mg_check.specs.ReadRuns.{caused, only_by}
-use Rattle.mg_model.specs.Replay.{replay}
-use Rattle.mg_migrate.specs.Layout1.{total1_blocks}
-use Rattle.mg_migrate.proofs.OldReads.{is_seen, not_replayed, too_short}
+use Rattle.{mg_check.specs.ReadRuns.{caused, only_by}, mg_migrate.{proofs.OldReads.{is_seen, not_replayed, too_short}, specs.Layout1.total1_blocks}}
+use Rattle.{mg_model.specs.Replay.replay, std.proofs.Common.{Err, ap, subst, sym, IsSome, ◌≡◌, ◌∙◌, arith}}
 use Rattle.mg_migrate.proofs.old_volume.look_through.Goals as goal
 
 pub returns-then-blocks-total-clause-none : goal.returns-then-blocks-total-clause-none

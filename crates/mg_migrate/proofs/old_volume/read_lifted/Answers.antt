@@ -1,5 +1,4 @@
-use Rattle.std.proofs.Common.{Err, ap, ◌∙◌}
-use Rattle.mg_migrate.proofs.OldReads.{lifted_contents, read_so, without_state}
+use Rattle.{mg_migrate.proofs.OldReads.{lifted_contents, read_so, without_state}, std.proofs.Common.{Err, ap, ◌∙◌}}
 use Rattle.mg_migrate.proofs.old_volume.read_lifted.Goals as goal
 
 pub read_rows-requires-clause-can : goal.read_rows-requires-clause-can

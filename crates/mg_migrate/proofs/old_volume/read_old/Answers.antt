@@ -1,6 +1,5 @@
+use Rattle.{mg_check.specs.ReadRuns.{by_then, only_by, only_then}, mg_migrate.specs.declared.migrating.MigrateFault.MigrateFault}
 use Rattle.std.proofs.Common.{◌≡◌, ◌∙◌, sym, Result, Err}
-use Rattle.mg_check.specs.ReadRuns.{by_then, only_by, only_then}
-use Rattle.mg_migrate.specs.declared.migrating.MigrateFault.{MigrateFault}
 use Rattle.mg_migrate.proofs.old_volume.read_old.Goals as goal
 
 same_error : {T U : Type 0} (x y : MigrateFault) → ◌≡◌ {A = Result T MigrateFault} (Err x) (Err y) → ◌≡◌ {A = Result U MigrateFault} (Err x) (Err y)

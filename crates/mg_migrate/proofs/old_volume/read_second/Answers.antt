@@ -1,6 +1,4 @@
-use Rattle.std.proofs.Common.{subst}
-use Rattle.mg_migrate.specs.Spelling1.{super1_read}
-use Rattle.mg_migrate.specs.Super1.{IsSuper1}
+use Rattle.{mg_migrate.specs.{Spelling1.super1_read, Super1.IsSuper1}, std.proofs.Common.subst}
 use Rattle.mg_migrate.proofs.old_volume.read_second.Goals as goal
 
 pub returns-in-Ok-clause-spelled : goal.returns-in-Ok-clause-spelled

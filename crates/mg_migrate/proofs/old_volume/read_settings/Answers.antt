@@ -1,12 +1,6 @@
-use Rattle.std.proofs.Common.{subst, ◌∙◌, arith}
-use Rattle.std.proofs.lemmas.Bool.{eqb-false}
-use Rattle.mg_model.specs.Layout.{gate_open, super_block}
-use Rattle.mg_model.specs.Replay.{block_of}
-use Rattle.mg_model.specs.Volume.{gate_byte}
-use Rattle.mg_migrate.specs.Spelling1.{BadSuper1, NewSuper1, NotSuper1, OldSuper1, super1_read}
-use Rattle.mg_migrate.specs.Super1.{IsSuper1}
-use Rattle.mg_migrate.proofs.OldReads.{behind, opened-by}
-use Rattle.mg_migrate.proofs.Volume1Reads.{volume1-closed, volume1-short}
+use Rattle.mg_migrate.{proofs.{OldReads.{behind, opened-by}, Volume1Reads.{volume1-closed, volume1-short}}, specs.Spelling1.{BadSuper1, NewSuper1}}
+use Rattle.{mg_migrate.specs.{Spelling1.{NotSuper1, OldSuper1, super1_read}, Super1.IsSuper1}, mg_model.specs.Layout.{gate_open, super_block}}
+use Rattle.{mg_model.specs.{Replay.block_of, Volume.gate_byte}, std.proofs.{Common.{subst, ◌∙◌, arith}, lemmas.Bool.eqb-false}}
 use Rattle.mg_migrate.proofs.old_volume.read_settings.Goals as goal
 
 pub returns-then-blocks-lt2-clause-none : goal.returns-then-blocks-lt2-clause-none

@@ -1,6 +1,4 @@
-use Rattle.std.proofs.Common.{◌≡◌, ◌+◌, ◌*◌, ◌++◌, length, replicate}
-use Rattle.mg_model.specs.Bytes.{words_bytes}
-use Rattle.mg_model.specs.Limits.{never}
+use Rattle.{mg_model.specs.{Bytes.words_bytes, Limits.never}, std.proofs.Common.{◌≡◌, ◌+◌, ◌*◌, ◌++◌, length, replicate}}
 use Rattle.mg_migrate.proofs.rows.add_untils.Given as goal
 
 abbrev pub invariant-loop : goal.invariant-loop

@@ -1,6 +1,4 @@
-use Rattle.std.proofs.Common.{ap, ◌∙◌}
-use Rattle.std.proofs.lemmas.List.{take_rest}
-use Rattle.mg_model.specs.Bytes.{are_zeros}
+use Rattle.{mg_model.specs.Bytes.are_zeros, std.proofs.{Common.{ap, ◌∙◌}, lemmas.List.take_rest}}
 use Rattle.mg_migrate.proofs.rows.ends.Goals as goal
 
 pub returns : goal.returns

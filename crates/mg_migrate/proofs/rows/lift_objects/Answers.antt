@@ -1,5 +1,4 @@
-use Rattle.std.proofs.Common.{◌≡◌, ◌++◌, length, ap, ◌∙◌, arith}
-use Rattle.mg_migrate.proofs.LiftedBlocks.{four-rows}
+use Rattle.{mg_migrate.proofs.LiftedBlocks.four-rows, std.proofs.Common.{◌≡◌, ◌++◌, length, ap, ◌∙◌, arith}}
 use Rattle.mg_migrate.proofs.rows.lift_objects.Goals as goal
 
 pub returns : goal.returns

@@ -1,7 +1,5 @@
+use Rattle.{mg_migrate.{proofs.LiftedRows.{lifted-none, lifted-some}, specs.Lifted.object1_bytes_in}, mg_rows.specs.Answers.row_in}
 use Rattle.std.proofs.Common.{◌∙◌}
-use Rattle.mg_migrate.proofs.LiftedRows.{lifted-none, lifted-some}
-use Rattle.mg_migrate.specs.Lifted.{object1_bytes_in}
-use Rattle.mg_rows.specs.Answers.{row_in}
 use Rattle.mg_migrate.proofs.rows.lifted_row.Goals as goal
 
 pub returns-in-Some-clause-value : goal.returns-in-Some-clause-value

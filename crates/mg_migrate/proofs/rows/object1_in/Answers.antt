@@ -1,5 +1,4 @@
-use Rattle.std.proofs.Common.{◌≡◌, ◌*◌, ◌+◌, ◌-◌, drop, take, ap, ◌∙◌, arith}
-use Rattle.mg_migrate.specs.Spelling1.{lift_read, object1_read}
+use Rattle.{mg_migrate.specs.Spelling1.{lift_read, object1_read}, std.proofs.Common.{◌≡◌, ◌*◌, ◌+◌, ◌-◌, drop, take, ap, ◌∙◌, arith}}
 use Rattle.mg_migrate.proofs.rows.object1_in.Goals as goal
 
 pub returns : goal.returns

@@ -1,8 +1,5 @@
-use Rattle.std.proofs.Common.{◌≡◌, false, ap, sym, ◌∙◌}
-use Rattle.mg_model.specs.Bytes.{are_zeros}
-use Rattle.mg_model.specs.Spelling.{object_read}
-use Rattle.mg_migrate.proofs.LiftedRows.{unwidened-none, widened-read}
-use Rattle.mg_migrate.specs.Spelling1.{lift_read}
+use Rattle.{mg_migrate.{proofs.LiftedRows.{unwidened-none, widened-read}, specs.Spelling1.lift_read}, mg_model.specs.Bytes.are_zeros}
+use Rattle.{mg_model.specs.Spelling.object_read, std.proofs.Common.{◌≡◌, false, ap, sym, ◌∙◌}}
 use Rattle.mg_migrate.proofs.rows.read_row.Goals as goal
 
 pub returns-then-may_widen : goal.returns-then-may_widen

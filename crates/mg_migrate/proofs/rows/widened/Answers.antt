@@ -1,7 +1,5 @@
-use Rattle.std.proofs.Common.{◌≡◌, ◌++◌, length, replicate, ap, ◌∙◌, arith}
-use Rattle.mg_model.specs.Bytes.{bytes_at}
-use Rattle.mg_migrate.proofs.MovedParts.{filled-up, parts}
-use Rattle.mg_migrate.specs.Widened.{untils}
+use Rattle.{mg_migrate.{proofs.MovedParts.{filled-up, parts}, specs.Widened.untils}, mg_model.specs.Bytes.bytes_at, std.proofs.Common.{◌≡◌, ◌++◌}}
+use Rattle.std.proofs.Common.{length, replicate, ap, ◌∙◌, arith}
 use Rattle.mg_migrate.proofs.rows.widened.Goals as goal
 
 pub returns-clause-value : goal.returns-clause-value

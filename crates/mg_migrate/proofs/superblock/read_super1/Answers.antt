@@ -1,9 +1,5 @@
-use Rattle.std.proofs.Common.{◌≡◌, sym, ◌∙◌, arith}
-use Rattle.std.proofs.lemmas.Bool.{not-false}
-use Rattle.mg_model.specs.Bytes.{bytes_at, number_at}
-use Rattle.mg_model.specs.Layout.{magic}
-use Rattle.mg_model.specs.Words.{same_bytes}
-use Rattle.mg_migrate.proofs.SuperBlocks.{super1-bad, super1-is, super1-new, super1-old}
+use Rattle.{mg_migrate.proofs.SuperBlocks.{super1-bad, super1-is, super1-new, super1-old}, mg_model.specs.{Bytes.{bytes_at, number_at}, Layout.magic}}
+use Rattle.{mg_model.specs.Words.same_bytes, std.proofs.{Common.{◌≡◌, sym, ◌∙◌, arith}, lemmas.Bool.not-false}}
 use Rattle.mg_migrate.proofs.superblock.read_super1.Goals as goal
 
 pub returns-then-version : goal.returns-then-version

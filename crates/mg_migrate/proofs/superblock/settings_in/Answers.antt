@@ -1,6 +1,5 @@
-use Rattle.std.proofs.Common.{◌≡◌, sym, ◌∙◌}
-use Rattle.mg_model.specs.Spelling.{BadSuper, NotSuper, OldSuper, Spells}
-use Rattle.mg_migrate.proofs.SuperBlocks.{first-byte, settings1-none, settings1-some}
+use Rattle.{mg_migrate.proofs.SuperBlocks.{first-byte, settings1-none, settings1-some}, mg_model.specs.Spelling.{BadSuper, NotSuper, OldSuper}}
+use Rattle.{mg_model.specs.Spelling.Spells, std.proofs.Common.{◌≡◌, sym, ◌∙◌}}
 use Rattle.mg_migrate.proofs.superblock.settings_in.Goals as goal
 
 pub returns-in-Is : goal.returns-in-Is

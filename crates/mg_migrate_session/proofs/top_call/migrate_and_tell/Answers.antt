@@ -1,9 +1,5 @@
-use Rattle.std.proofs.Common.{inl, refl, ⊎_elim}
-use Rattle.mg_migrate.specs.MigratedLemmas.{blocks-now, state-now}
-use Rattle.mg_migrate.specs.Version1.{volume1}
-use Rattle.mg_migrate_session.proofs.Endings.{every_state1, migrated, told_keeps}
-use Rattle.mg_migrate_session.proofs.Faults.{fault_keeps}
-use Rattle.mg_commands.specs.Unopened.{summary_line}
+use Rattle.{mg_commands.specs.Unopened.summary_line, mg_migrate.specs.{MigratedLemmas.{blocks-now, state-now}, Version1.volume1}}
+use Rattle.{mg_migrate_session.proofs.{Endings.{every_state1, migrated, told_keeps}, Faults.fault_keeps}, std.proofs.Common.{inl, refl, ⊎_elim}}
 use Rattle.mg_serve.specs.declared.status.Status.TheVariants as status
 use Rattle.mg_migrate_session.proofs.top_call.migrate_and_tell.Goals as goal
 

@@ -1,10 +1,6 @@
+use Rattle.{mg_disk.specs.{Disk.HasBlocks, Runs.leaves_quiet}, mg_mirror.proofs.Copied.{after_all, torn_behind}, std.proofs.Common.{◌-◌, subst, take}}
+use Rattle.std.proofs.{Common.{arith, drop, length, refl, rules, []}, lemmas.{Grind.get_or_after_one, List.{length-drop, take_rest}}}
 use Rattle.std.specs.Option.{ForSome}
-use Rattle.mg_disk.specs.Disk.{HasBlocks}
-use Rattle.std.proofs.Common.{◌-◌, subst, take, arith, drop, length, refl, rules, []}
-use Rattle.std.proofs.lemmas.Grind.{get_or_after_one}
-use Rattle.std.proofs.lemmas.List.{length-drop, take_rest}
-use Rattle.mg_disk.specs.Runs.{leaves_quiet}
-use Rattle.mg_mirror.proofs.Copied.{after_all, torn_behind}
 use Rattle.mg_mirror.proofs.copy.copy_after.Goals as goal
 
 pub returns-clause-copied : goal.returns-clause-copied

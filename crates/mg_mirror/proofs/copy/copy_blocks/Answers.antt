@@ -1,5 +1,4 @@
-use Rattle.std.proofs.Common.{rules}
-use Rattle.mg_mirror.proofs.Copied.{copies_since}
+use Rattle.{mg_mirror.proofs.Copied.copies_since, std.proofs.Common.rules}
 use Rattle.mg_mirror.proofs.copy.copy_blocks.Goals as goal
 
 pub returns : goal.returns

@@ -1,9 +1,6 @@
-use Rattle.std.specs.Option.{ForSome}
-use Rattle.std.proofs.Common.{◌≡◌, ◌∙◌, ◌≤◌, Some, arith, length, option_map, refl, rules, slice_set}
-use Rattle.mg_disk.specs.Disk.{Image, block_at, only_place}
-use Rattle.mg_disk.specs.Stops.{NothingPending}
-use Rattle.mg_mirror.specs.Copy.{AreFrom, first_byte}
-use Rattle.mg_mirror.proofs.Copied.{all_copied, first_phase, second_phase, steps_then, steps_to, still_told, third_phase}
+use Rattle.{mg_disk.specs.{Disk.{Image, block_at, only_place}, Stops.NothingPending}, mg_mirror.proofs.Copied.{all_copied, first_phase, second_phase}}
+use Rattle.{mg_mirror.{proofs.Copied.{steps_then, steps_to, still_told, third_phase}, specs.Copy.{AreFrom, first_byte}}, std.proofs.Common.{◌≡◌, ◌∙◌}}
+use Rattle.std.{proofs.Common.{◌≤◌, Some, arith, length, option_map, refl, rules, slice_set}, specs.Option.ForSome}
 use Rattle.mg_mirror.proofs.copy.copy_gated.Goals as goal
 
 pub returns-then-is_err : goal.returns-then-is_err

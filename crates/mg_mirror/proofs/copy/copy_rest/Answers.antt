@@ -1,6 +1,5 @@
-use Rattle.std.proofs.Common.{◌≡◌, ◌+◌, ◌≤◌, arith, length, min, rules, take}
-use Rattle.mg_disk.specs.Disk.{InRange}
-use Rattle.mg_mirror.proofs.Copied.{before_more, seen_more, steps_then, torn_more}
+use Rattle.{mg_disk.specs.Disk.InRange, mg_mirror.proofs.Copied.{before_more, seen_more, steps_then, torn_more}, std.proofs.Common.{◌≡◌, ◌+◌, ◌≤◌}}
+use Rattle.std.proofs.Common.{arith, length, min, rules, take}
 use Rattle.mg_mirror.proofs.copy.copy_rest.Goals as goal
 
 pub loop-next-preserved : goal.loop-next-preserved

@@ -1,9 +1,5 @@
-use Rattle.std.proofs.Common.{◌≤◌, ◌-◌}
-use Rattle.std.specs.Option.{ForSome}
-use Rattle.mg_disk.specs.Disk.{SeenBut, TornAt}
-use Rattle.mg_disk.specs.Stops.{TimeGoes}
-use Rattle.mg_mirror.specs.Copy.{CopySteps}
-use Rattle.mg_mirror.proofs.Copied.{AreBefore}
+use Rattle.{mg_disk.specs.{Disk.{SeenBut, TornAt}, Stops.TimeGoes}, mg_mirror.{proofs.Copied.AreBefore, specs.Copy.CopySteps}, std.proofs.Common.◌≤◌}
+use Rattle.std.{proofs.Common.◌-◌, specs.Option.ForSome}
 use Rattle.mg_mirror.proofs.copy.copy_rest.Given as goal
 
 -- the blocks before this one are copied, and only those from the start on differ

@@ -1,5 +1,4 @@
-use Rattle.std.proofs.Common.{length, rules}
-use Rattle.mg_mirror.proofs.Copied.{same_blocks}
+use Rattle.{mg_mirror.proofs.Copied.same_blocks, std.proofs.Common.{length, rules}}
 use Rattle.mg_mirror.proofs.copy.copy_run.Goals as goal
 
 pub returns-clause-copied : goal.returns-clause-copied

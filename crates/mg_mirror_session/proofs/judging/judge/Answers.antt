@@ -1,11 +1,6 @@
-use Rattle.std.proofs.Common.{refl, rules, subst}
-use Rattle.std.specs.Prelude.{None, Some}
-use Rattle.mg_layout.specs.SuperBlock.{IsSuper}
-use Rattle.mg_model.specs.Layout.{super_block}
-use Rattle.mg_model.specs.Replay.{block_of}
-use Rattle.mg_model.specs.Spelling.{BadSuper, NotSuper, OldSuper, Spells, super_read}
-use Rattle.mg_model.specs.Volume.{Damaged, NotVolume, OldVolume}
-use Rattle.mg_mirror_session.proofs.FirstFault.{fault-closed, fault-short, said-spelled}
+use Rattle.{mg_layout.specs.SuperBlock.IsSuper, mg_mirror_session.proofs.FirstFault.{fault-closed, fault-short, said-spelled}}
+use Rattle.mg_model.specs.{Layout.super_block, Replay.block_of, Spelling.{BadSuper, NotSuper, OldSuper, Spells, super_read}, Volume.Damaged}
+use Rattle.{mg_model.specs.Volume.{NotVolume, OldVolume}, std.{proofs.Common.{refl, rules, subst}, specs.Prelude.{None, Some}}}
 use Rattle.mg_mirror_session.proofs.judging.judge.Goals as goal
 
 pub returns-then-first-lt2 : goal.returns-then-first-lt2

@@ -1,11 +1,7 @@
+use Rattle.{mg_mirror.specs.Opened.{BothRose, RoseFrom}, mg_mirror_session.proofs.{Opening.{opened_from, opened_since}, Refusing.left_copied}}
+use Rattle.mg_mirror_session.proofs.Refusing.{no_fault, not_opened, not_read, read_left, read_right, refused, right_copied, side_judged}
+use Rattle.{mg_mirror_session.{proofs.RunsOnMirror.mirror_keeps, specs.{Mirrored.Two, Ran.as_two}}, std.proofs.Common.{refl, rules, subst, sym}}
 use Rattle.std.specs.Prelude.{◌≡◌, None, Ok, Some, length, min}
-use Rattle.std.proofs.Common.{refl, rules, subst, sym}
-use Rattle.mg_mirror.specs.Opened.{BothRose, RoseFrom}
-use Rattle.mg_mirror_session.proofs.Opening.{opened_from, opened_since}
-use Rattle.mg_mirror_session.proofs.RunsOnMirror.{mirror_keeps}
-use Rattle.mg_mirror_session.proofs.Refusing.{left_copied, no_fault, not_opened, not_read, read_left, read_right, refused, right_copied, side_judged}
-use Rattle.mg_mirror_session.specs.Mirrored.{Two}
-use Rattle.mg_mirror_session.specs.Ran.{as_two}
 use Rattle.mg_mirror_session.proofs.top_call.run_on_mirror.Goals as goal
 
 pub returns-in-Ok-Some : goal.returns-in-Ok-Some

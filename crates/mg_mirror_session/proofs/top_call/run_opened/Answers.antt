@@ -1,13 +1,6 @@
-use Rattle.std.specs.Option.{ForSome}
-use Rattle.std.specs.Prelude.{◌≡◌}
-use Rattle.std.proofs.Common.{subst, sym, ◌∙◌}
-use Rattle.mg_mirror.specs.Opened.{BothRose, RoseFrom}
-use Rattle.mg_mirror_session.proofs.Copying.{left_stayed, right_stayed}
-use Rattle.mg_mirror_session.proofs.Through.{through}
-use Rattle.mg_mirror_session.specs.Mirrored.{Two, mirror}
-use Rattle.mg_mirror_session.specs.Ran.{as_two}
-use Rattle.mg_serve.specs.Sessions.{use_of}
-use Rattle.mg_commands.specs.Headline.{RunKeeps, session_of}
+use Rattle.{mg_commands.specs.Headline.{RunKeeps, session_of}, mg_mirror.specs.Opened.{BothRose, RoseFrom}}
+use Rattle.mg_mirror_session.{proofs.{Copying.{left_stayed, right_stayed}, Through.through}, specs.{Mirrored.{Two, mirror}, Ran.as_two}}
+use Rattle.{mg_serve.specs.Sessions.use_of, std.{proofs.Common.{subst, sym, ◌∙◌}, specs.{Option.ForSome, Prelude.◌≡◌}}}
 use Rattle.mg_mirror_session.proofs.top_call.run_opened.Goals as goal
 
 pub returns : goal.returns

@@ -1,5 +1,4 @@
-use Rattle.std.proofs.Common.{◌≡◌, ◌≤◌, length, not, filter, take}
-use Rattle.mg_model.specs.ObjectCalls.{has_password}
+use Rattle.{mg_model.specs.ObjectCalls.has_password, std.proofs.Common.{◌≡◌, ◌≤◌, length, not, filter, take}}
 use Rattle.mg_model.proofs.objects.without.Given as goal
 
 abbrev pub invariant-loop-pw : goal.invariant-loop-pw

@@ -1,9 +1,5 @@
-use Rattle.std.proofs.Common.{◌-◌, ℕ, ap, arith, length}
-use Rattle.std.proofs.lemmas.List.{length-map}
-use Rattle.std.proofs.lemmas.List.Sorted.{all_adjacent_more}
-use Rattle.mg_model.specs.State.{ObjectRow}
-use Rattle.mg_objects.specs.Held.{IsBefore, key_of, objects_in}
-use Rattle.mg_objects.proofs.Apart.{apart-next}
+use Rattle.{mg_model.specs.State.ObjectRow, mg_objects.{proofs.Apart.apart-next, specs.Held.{IsBefore, key_of, objects_in}}, std.proofs.Common.◌-◌}
+use Rattle.std.proofs.{Common.{ℕ, ap, arith, length}, lemmas.List.{length-map, Sorted.all_adjacent_more}}
 use Rattle.mg_objects.proofs.table.are_apart.Goals as goal
 
 pub returns-then-base-pages-clause-meet : goal.returns-then-base-pages-clause-meet

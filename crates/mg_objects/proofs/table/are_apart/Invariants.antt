@@ -1,5 +1,4 @@
-use Rattle.std.specs.List.{AllAdjacentBelow}
-use Rattle.mg_objects.specs.Held.{IsBefore, objects_in}
+use Rattle.{mg_objects.specs.Held.{IsBefore, objects_in}, std.specs.List.AllAdjacentBelow}
 use Rattle.mg_objects.proofs.table.are_apart.Given as goal
 
 -- each object so far ends before the next begins

@@ -1,11 +1,6 @@
-use Rattle.std.proofs.Common.{◌≡◌, All, List, None, Option, arith, replicate, rules, slice_index_or, subst}
-use Rattle.std.specs.Option.{ForSome}
-use Rattle.std.proofs.lemmas.List.{take_all}
-use Rattle.std.proofs.lemmas.List.Elements.{All-more}
-use Rattle.mg_model.specs.Ranges.{IsObjectRow}
-use Rattle.mg_model.specs.State.{ObjectRow}
-use Rattle.mg_objects.specs.Held.{AreBases}
-use Rattle.mg_objects.proofs.Keys.{bases-more, bases-none}
+use Rattle.{mg_model.specs.{Ranges.IsObjectRow, State.ObjectRow}, mg_objects.{proofs.Keys.{bases-more, bases-none}, specs.Held.AreBases}}
+use Rattle.std.proofs.{Common.{◌≡◌, All, List, None, Option, arith, replicate, rules, slice_index_or, subst}, lemmas.List.take_all}
+use Rattle.std.{proofs.lemmas.List.Elements.All-more, specs.Option.ForSome}
 use Rattle.mg_objects.proofs.table.bases_of.Goals as goal
 
 abbrev IsGood : Option ObjectRow → Type 0

@@ -1,7 +1,5 @@
-use Rattle.std.proofs.Common.{All, None, slice_index_or, take}
+use Rattle.{mg_model.specs.Ranges.IsObjectRow, mg_objects.specs.Held.AreBases, std.proofs.Common.{All, None, slice_index_or, take}}
 use Rattle.std.specs.Option.{ForSome}
-use Rattle.mg_model.specs.Ranges.{IsObjectRow}
-use Rattle.mg_objects.specs.Held.{AreBases}
 use Rattle.mg_objects.proofs.table.bases_of.Given as goal
 
 -- the bases of the places so far, whose rows keep their ranges

@@ -1,5 +1,4 @@
-use Rattle.std.proofs.Common.{Some, arith}
-use Rattle.mg_objects.proofs.Rows.{push-put, set-put}
+use Rattle.{mg_objects.proofs.Rows.{push-put, set-put}, std.proofs.Common.{Some, arith}}
 use Rattle.mg_objects.proofs.table.put_row.Goals as goal
 
 pub returns-then-place-len-clause-put : goal.returns-then-place-len-clause-put

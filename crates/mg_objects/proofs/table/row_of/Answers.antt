@@ -1,6 +1,4 @@
-use Rattle.std.proofs.Common.{◌≡◌, ◌∙◌, Some, arith, get_or, sym}
-use Rattle.mg_objects.specs.Held.{objects_in}
-use Rattle.mg_objects.proofs.Apart.{listed-row, listed-within}
+use Rattle.{mg_objects.{proofs.Apart.{listed-row, listed-within}, specs.Held.objects_in}, std.proofs.Common.{◌≡◌, ◌∙◌, Some, arith, get_or, sym}}
 use Rattle.mg_objects.proofs.table.row_of.Goals as goal
 
 pub offset_bounds-table-place : goal.offset_bounds-table-place

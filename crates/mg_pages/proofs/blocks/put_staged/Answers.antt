@@ -1,10 +1,6 @@
-use Rattle.std.proofs.Common.{◌≡◌, ◌+◌, ◌*◌, List, ℕ, Option, Some, None, IfSome, MatchOption, length, slice_set}
-use Rattle.std.specs.List.{splice}
-use Rattle.mg_journal.specs.Staged.{staged, waiting}
-use Rattle.mg_model.specs.Abbreviations.{word_bytes}
-use Rattle.mg_model.specs.Bytes.{block_words}
-use Rattle.mg_pages.specs.Parts.{StagesBlock}
-use Rattle.mg_pages.proofs.Spliced.{words-spliced}
+use Rattle.{mg_journal.specs.Staged.{staged, waiting}, mg_model.specs.{Abbreviations.word_bytes, Bytes.block_words}}
+use Rattle.{mg_pages.{proofs.Spliced.words-spliced, specs.Parts.StagesBlock}, std.proofs.Common.{◌≡◌, ◌+◌, ◌*◌, List, ℕ, Option, Some, None, IfSome}}
+use Rattle.std.{proofs.Common.{MatchOption, length, slice_set}, specs.List.splice}
 use Rattle.mg_pages.proofs.blocks.put_staged.Goals as goal
 
 stages : (old new : List (ℕ × List ℕ)) (block : ℕ) (f : List ℕ → List ℕ) (is : List ℕ → List ℕ → Type 0) (o : Option (List ℕ)) → MatchOption o (new ≡ old) (λ bytes. new ≡ staged old block (f bytes))

@@ -1,17 +1,7 @@
-use Rattle.std.proofs.Common.{◌≡◌, ◌+◌, ◌≤◌, ◌*◌, ◌∙◌, ℕ, ap, arith, length, slice_index, sym}
-use Rattle.std.proofs.lemmas.List.{get_or-replicate}
-use Rattle.std.proofs.lemmas.Result.{IfOk-weaker}
-use Rattle.std.specs.Option.{ForSome}
-use Rattle.mg_disk.specs.Disk.{block_at}
-use Rattle.mg_journal.specs.Standing.{total_of}
-use Rattle.mg_model.specs.Bytes.{block_words, number_at}
-use Rattle.mg_model.specs.Layout.{first_frame}
-use Rattle.mg_model.specs.Volume.{page_words}
-use Rattle.mg_pages.proofs.Numbers.{block-word}
-use Rattle.mg_pages.proofs.PageWords.{page-in, page-none}
-use Rattle.mg_pages.specs.Kept.{AreKept}
-use Rattle.mg_pages.specs.Meaning.{replayed}
-use Rattle.mg_pages.specs.Parts.{coming_of}
+use Rattle.{mg_disk.specs.Disk.block_at, mg_journal.specs.Standing.total_of, mg_model.specs.{Bytes.{block_words, number_at}, Layout.first_frame}}
+use Rattle.{mg_model.specs.Volume.page_words, mg_pages.{proofs.{Numbers.block-word, PageWords.{page-in, page-none}}, specs.Kept.AreKept}}
+use Rattle.{mg_pages.specs.{Meaning.replayed, Parts.coming_of}, std.proofs.Common.{◌≡◌, ◌+◌, ◌≤◌, ◌*◌, ◌∙◌, ℕ, ap, arith, length, slice_index, sym}}
+use Rattle.std.{proofs.lemmas.{List.get_or-replicate, Result.IfOk-weaker}, specs.Option.ForSome}
 use Rattle.mg_pages.proofs.coming.page_word.Goals as goal
 
 pub returns-in-Some-clause-word : goal.returns-in-Some-clause-word

@@ -1,9 +1,8 @@
-use Rattle.std.proofs.Common.{◌≤◌, ◌<◌, ◌+◌, ◌∙◌, arith, drop, length, subst, sym, ap}
-use Rattle.mg_journal.specs.Staged.{bytes_of, waiting}
-use Rattle.mg_pages.proofs.KeptWrites.{AreKeptUpTo, goes-somewhere, kept-begun, kept-less, kept-more, kept-through}
-use Rattle.mg_pages.specs.Kept.{KeepsThis}
+use Rattle.{mg_journal.specs.Staged.{bytes_of, waiting}, mg_pages.proofs.KeptWrites.{AreKeptUpTo, goes-somewhere, kept-begun, kept-less, kept-more}}
+use Rattle.mg_pages.proofs.{KeptWrites.kept-through, kept.keep_others.Goals.{then-first-block+then-is_none, else-first-block}}
+use Rattle.mg_pages.proofs.kept.keep_others.Goals.{else-first-block-via-then-first-block+else-is_none, else-first-block-via-else-first-block}
+use Rattle.{mg_pages.specs.Kept.KeepsThis, std.proofs.Common.{◌≤◌, ◌<◌, ◌+◌, ◌∙◌, arith, drop, length, subst, sym, ap}}
 use Rattle.mg_pages.proofs.kept.keep_others.Goals as goal
-use Rattle.mg_pages.proofs.kept.keep_others.Goals.{then-first-block+then-is_none, else-first-block, else-first-block-via-then-first-block+else-is_none, else-first-block-via-else-first-block}
 
 pub loop-k-init : goal.loop-k-init
 loop-k-init c r are = kept-begun c.args.first r c.args.last.now c.args.writes.now c.args.cache.now are

@@ -1,7 +1,4 @@
-use Rattle.std.proofs.Common.{drop, ◌++◌}
-use Rattle.mg_disk.specs.Disk.{Image}
-use Rattle.mg_pages.proofs.KeptWrites.{AreKeptUpTo}
-use Rattle.mg_pages.specs.Kept.{AreKept}
+use Rattle.{mg_disk.specs.Disk.Image, mg_pages.{proofs.KeptWrites.AreKeptUpTo, specs.Kept.AreKept}, std.proofs.Common.{drop, ◌++◌}}
 use Rattle.mg_pages.proofs.kept.keep_others.Given as goal
 
 -- those up to this one are kept

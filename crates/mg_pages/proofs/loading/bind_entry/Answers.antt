@@ -1,5 +1,4 @@
-use Rattle.std.proofs.Common.{◌==◌, ◌∙◌, sym}
-use Rattle.mg_frames.specs.Places.{nowhere_any}
+use Rattle.{mg_frames.specs.Places.nowhere_any, std.proofs.Common.{◌==◌, ◌∙◌, sym}}
 use Rattle.mg_pages.proofs.loading.bind_entry.Goals as goal
 
 pub put-requires-clause-unbound : goal.put-requires-clause-unbound

@@ -1,5 +1,4 @@
-use Rattle.std.proofs.Common.{subst}
-use Rattle.mg_pages.specs.Loading.{LoadsBlock}
+use Rattle.{mg_pages.specs.Loading.LoadsBlock, std.proofs.Common.subst}
 use Rattle.mg_pages.proofs.loading.load_block.Goals as goal
 
 pub returns-in-Ok-clause-loads : goal.returns-in-Ok-clause-loads

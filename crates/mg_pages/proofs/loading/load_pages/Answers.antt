@@ -1,9 +1,5 @@
-use Rattle.std.proofs.Common.{◌≡◌, ◌<◌, ◌∙◌, ap, arith, length, sym}
-use Rattle.mg_disk.specs.Runs.{nothing_then}
-use Rattle.mg_faults.specs.Faults.{count_then}
-use Rattle.mg_model.specs.Layout.{table_blocks}
-use Rattle.mg_pages.proofs.Loaded.{loaded-first, loaded-table}
-use Rattle.mg_pages.specs.Meaning.{replayed}
+use Rattle.{mg_disk.specs.Runs.nothing_then, mg_faults.specs.Faults.count_then, mg_model.specs.Layout.table_blocks}
+use Rattle.{mg_pages.{proofs.Loaded.{loaded-first, loaded-table}, specs.Meaning.replayed}, std.proofs.Common.{◌≡◌, ◌<◌, ◌∙◌, ap, arith, length, sym}}
 use Rattle.mg_pages.proofs.loading.load_pages.Goals as goal
 
 pub loop-k-preserved : goal.loop-k-preserved

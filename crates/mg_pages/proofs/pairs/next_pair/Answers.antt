@@ -1,6 +1,5 @@
-use Rattle.std.proofs.Common.{◌≡◌, ◌+◌, ◌-◌, ◌*◌, ◌∙◌, arith, sym}
-use Rattle.mg_model.specs.Bytes.{block_words}
-use Rattle.mg_pages.proofs.PairSteps.{count-more, none-more, word-there}
+use Rattle.{mg_model.specs.Bytes.block_words, mg_pages.proofs.PairSteps.{count-more, none-more, word-there}, std.proofs.Common.{◌≡◌, ◌+◌, ◌-◌, ◌*◌}}
+use Rattle.std.proofs.Common.{◌∙◌, arith, sym}
 use Rattle.mg_pages.proofs.pairs.next_pair.Goals as goal
 
 pub returns-then-counted_word-first-clause-found : goal.returns-then-counted_word-first-clause-found

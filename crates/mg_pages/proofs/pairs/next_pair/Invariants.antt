@@ -1,5 +1,4 @@
-use Rattle.std.proofs.Common.{◌≡◌, ◌≢◌, ◌≤◌, ◌<◌, ◌+◌, ◌-◌, ◌*◌, ◌%◌, ◌^◌, ℕ, slice_index}
-use Rattle.mg_model.specs.Bytes.{block_words}
+use Rattle.{mg_model.specs.Bytes.block_words, std.proofs.Common.{◌≡◌, ◌≢◌, ◌≤◌, ◌<◌, ◌+◌, ◌-◌, ◌*◌, ◌%◌, ◌^◌, ℕ, slice_index}}
 use Rattle.mg_pages.proofs.pairs.next_pair.Given as goal
 
 -- no pair before this one has the word, and each first word before it is counted

@@ -1,5 +1,4 @@
-use Rattle.std.proofs.Common.{◌≡◌, ◌<◌, ◌/◌, ℕ, false, true, get_or, slice_index_or}
-use Rattle.mg_frames.specs.Words.{is_within}
+use Rattle.{mg_frames.specs.Words.is_within, std.proofs.Common.{◌≡◌, ◌<◌, ◌/◌, ℕ, false, true, get_or, slice_index_or}}
 use Rattle.mg_pages.proofs.releasing.blocks_with.Given as goal
 
 -- the blocks of the frames up to this one

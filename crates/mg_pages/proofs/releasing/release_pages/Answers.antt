@@ -1,15 +1,9 @@
-use Rattle.std.proofs.Common.{List, ℕ, ◌≡◌, ◌<◌, ◌+◌, ◌∙◌, ap, arith, false, true, length, map, rules, slice_index, slice_index_or, subst, sym}
+use Rattle.{mg_frames.specs.Words.{is_within, unless_within}, mg_journal.specs.Staged.staged, mg_model.specs.Layout.table_block}
+use Rattle.mg_pages.proofs.{StagedTables.{more-same, more-staged, same-entries}, releasing.release_pages.Goals.{then-changed-k, else-changed-k}}
+use Rattle.{mg_pages.specs.{Entries.HoldsEntries, Held.with_writes, Parts.StagesTable, declared.blocks.Blocks.Blocks}, std.proofs.Common.{List, ℕ}}
+use Rattle.std.proofs.Common.{◌≡◌, ◌<◌, ◌+◌, ◌∙◌, ap, arith, false, true, length, map, rules, slice_index, slice_index_or, subst, sym}
 use Rattle.std.proofs.lemmas.List.{get_or_default, length-map}
-use Rattle.mg_frames.specs.Words.{is_within, unless_within}
-use Rattle.mg_journal.specs.Staged.{staged}
-use Rattle.mg_model.specs.Layout.{table_block}
-use Rattle.mg_pages.proofs.StagedTables.{more-same, more-staged, same-entries}
-use Rattle.mg_pages.specs.Entries.{HoldsEntries}
-use Rattle.mg_pages.specs.declared.blocks.Blocks.{Blocks}
-use Rattle.mg_pages.specs.Held.{with_writes}
-use Rattle.mg_pages.specs.Parts.{StagesTable}
 use Rattle.mg_pages.proofs.releasing.release_pages.Goals as goal
-use Rattle.mg_pages.proofs.releasing.release_pages.Goals.{then-changed-k, else-changed-k}
 
 abbrev After : Blocks → List ℕ → List ℕ → ℕ → Blocks → Type 0
 After was old new k b = record {

@@ -1,7 +1,4 @@
-use Rattle.std.proofs.Common.{◌≡◌, map}
-use Rattle.mg_frames.specs.Words.{unless_within}
-use Rattle.mg_pages.specs.Held.{with_writes}
-use Rattle.mg_pages.specs.Parts.{StagesTable}
+use Rattle.{mg_frames.specs.Words.unless_within, mg_pages.specs.{Held.with_writes, Parts.StagesTable}, std.proofs.Common.{◌≡◌, map}}
 use Rattle.mg_pages.proofs.releasing.release_pages.Given as goal
 
 -- the blocks of the frame table before this one are staged if they change, and nothing else is done

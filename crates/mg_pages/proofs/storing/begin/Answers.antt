@@ -1,11 +1,6 @@
-use Rattle.std.proofs.Common.{refl, ◌+◌, ◌/◌, ◌∙◌, ap, length, replicate, slice_set, subst}
-use Rattle.std.proofs.lemmas.List.{length-set}
-use Rattle.mg_journal.specs.Staged.{staged}
-use Rattle.mg_model.specs.Layout.{first_frame, table_block}
-use Rattle.mg_model.specs.RowLemmas.{block_words-zeros}
-use Rattle.mg_pages.proofs.Numbers.{block-set}
-use Rattle.mg_pages.specs.Entries.{HoldsEntries}
-use Rattle.mg_pages.specs.declared.blocks.Blocks.{Blocks}
+use Rattle.{mg_journal.specs.Staged.staged, mg_model.specs.{Layout.{first_frame, table_block}, RowLemmas.block_words-zeros}}
+use Rattle.{mg_pages.{proofs.Numbers.block-set, specs.{Entries.HoldsEntries, declared.blocks.Blocks.Blocks}}, std.proofs.Common.{refl, ◌+◌, ◌/◌, ◌∙◌}}
+use Rattle.std.proofs.{Common.{ap, length, replicate, slice_set, subst}, lemmas.List.length-set}
 use Rattle.mg_pages.proofs.storing.begin.Goals as goal
 
 pub returns-clause-begins : goal.returns-clause-begins

@@ -1,12 +1,6 @@
-use Rattle.std.proofs.Common.{◌≡◌, ◌==◌, ◌+◌, ◌∙◌, arith, length, ⊎_elim, ap, inl, inr, refl, rules, sym}
-use Rattle.std.proofs.lemmas.Bool.{both_ways}
-use Rattle.std.proofs.lemmas.Result.{on_ok_weaker}
-use Rattle.std.specs.List.{list_any}
-use Rattle.mg_disk.specs.Runs.{nothing_none}
-use Rattle.mg_frames.specs.Places.{nowhere_any}
-use Rattle.mg_model.specs.Layout.{first_frame}
-use Rattle.mg_pages.proofs.BlocksKept.{keeps-writes}
-use Rattle.mg_pages.proofs.Stored.{changes-word}
+use Rattle.{mg_disk.specs.Runs.nothing_none, mg_frames.specs.Places.nowhere_any, mg_model.specs.Layout.first_frame}
+use Rattle.{mg_pages.proofs.{BlocksKept.keeps-writes, Stored.changes-word}, std.proofs.Common.{◌≡◌, ◌==◌, ◌+◌, ◌∙◌, arith, length, ⊎_elim, ap, inl}}
+use Rattle.std.{proofs.{Common.{inr, refl, rules, sym}, lemmas.{Bool.both_ways, Result.on_ok_weaker}}, specs.List.list_any}
 use Rattle.mg_pages.proofs.storing.store_word.Goals as goal
 
 pub begin-requires-clause-unbound : goal.begin-requires-clause-unbound

@@ -1,6 +1,4 @@
-use Rattle.std.proofs.Common.{◌+◌, ◌*◌, ◌∙◌, ⊎_elim, ap, arith, get_or, sym}
-use Rattle.std.proofs.lemmas.Bool.{cases_eq}
-use Rattle.mg_model.specs.Bytes.{number_at}
+use Rattle.{mg_model.specs.Bytes.number_at, std.proofs.{Common.{◌+◌, ◌*◌, ◌∙◌, ⊎_elim, ap, arith, get_or, sym}, lemmas.Bool.cases_eq}}
 use Rattle.mg_pages.proofs.table.entries_block.Goals as goal
 
 pub loop-j-preserved : goal.loop-j-preserved

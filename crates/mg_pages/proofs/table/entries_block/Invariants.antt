@@ -1,5 +1,4 @@
-use Rattle.std.proofs.Common.{◌≡◌, ◌<◌, ◌+◌, ◌*◌, ℕ, get_or}
-use Rattle.mg_model.specs.Bytes.{number_at}
+use Rattle.{mg_model.specs.Bytes.number_at, std.proofs.Common.{◌≡◌, ◌<◌, ◌+◌, ◌*◌, ℕ, get_or}}
 use Rattle.mg_pages.proofs.table.entries_block.Given as goal
 
 -- the entries so far are there

@@ -1,5 +1,4 @@
-use Rattle.std.proofs.Common.{◌*◌, arith, ⊎_elim, inl, inr}
-use Rattle.std.proofs.lemmas.Bool.{cases_lt}
+use Rattle.std.proofs.{Common.{◌*◌, arith, ⊎_elim, inl, inr}, lemmas.Bool.cases_lt}
 use Rattle.mg_pages.proofs.words.put_word.Goals as goal
 
 pub returns-clause-others : goal.returns-clause-others

@@ -1,10 +1,5 @@
-use Rattle.std.specs.Prelude.{◌≡◌, ◌∷◌, Bool, false, List, [], cond, filter, not}
-use Rattle.std.specs.List.{list_any}
-use Rattle.std.proofs.Common.{ap, refl, sym, ◌∙◌}
-use Rattle.std.proofs.lemmas.Bool.{or_parts}
-use Rattle.mg_model.specs.declared.slots.Pw.{Pw}
-use Rattle.mg_model.specs.ObjectCalls.{has_password}
-use Rattle.mg_model.specs.State.{ObjectRow}
+use Rattle.{mg_model.specs.{ObjectCalls.has_password, State.ObjectRow, declared.slots.Pw.Pw}, std.proofs.Common.{ap, refl, sym, ◌∙◌}}
+use Rattle.std.{proofs.lemmas.Bool.or_parts, specs.{List.list_any, Prelude.{◌≡◌, ◌∷◌, Bool, false, List, [], cond, filter, not}}}
 use Rattle.mg_passwords.proofs.list.remove.Goals as goal
 
 -- when no element passes, all are kept

@@ -1,7 +1,5 @@
-use Rattle.std.proofs.Common.{ℕ, get_or, leb, rules}
-use Rattle.std.proofs.lemmas.Bool.{leb-false, leb-true}
+use Rattle.{mg_ranges.proofs.Lists.no-falls, std.proofs.{Common.{ℕ, get_or, leb, rules}, lemmas.Bool.{leb-false, leb-true}}}
 use Rattle.std.proofs.lemmas.List.Sorted.{IsPartitionPoint-from_clause, IsPartitionedBy-leb}
-use Rattle.mg_ranges.proofs.Lists.{no-falls}
 use Rattle.mg_ranges.proofs.gaps.count_to.Goals as goal
 
 pub returns-clause-below : goal.returns-clause-below

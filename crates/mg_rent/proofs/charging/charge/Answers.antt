@@ -1,7 +1,5 @@
-use Rattle.std.proofs.Common.{ap, sym, ◌∙◌, length, arith}
-use Rattle.std.proofs.lemmas.List.{length-set}
-use Rattle.mg_bank.specs.Bank.{credits_of}
-use Rattle.mg_rent.proofs.Charged.{charge-moves, charged-where, paid-where}
+use Rattle.{mg_bank.specs.Bank.credits_of, mg_rent.proofs.Charged.{charge-moves, charged-where, paid-where}, std.proofs.Common.{ap, sym, ◌∙◌, length}}
+use Rattle.std.proofs.{Common.arith, lemmas.List.length-set}
 use Rattle.mg_rent.proofs.charging.charge.Goals as goal
 
 pub set-requires-clause-credits : goal.set-requires-clause-credits

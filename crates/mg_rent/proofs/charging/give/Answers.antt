@@ -1,6 +1,4 @@
-use Rattle.std.proofs.Common.{ap, sym, ◌∙◌, arith}
-use Rattle.mg_bank.specs.Bank.{credits_of}
-use Rattle.mg_rent.proofs.Charged.{balance-le, give-moves}
+use Rattle.{mg_bank.specs.Bank.credits_of, mg_rent.proofs.Charged.{balance-le, give-moves}, std.proofs.Common.{ap, sym, ◌∙◌, arith}}
 use Rattle.mg_rent.proofs.charging.give.Goals as goal
 
 pub overflow_add-more : goal.overflow_add-more

@@ -1,7 +1,6 @@
-use Rattle.std.proofs.Common.{◌≡◌, ◌+◌, ◌*◌, ◌^◌, ap, sym, ◌∙◌, arith}
-use Rattle.mg_model.specs.Bank.{pages_of}
-use Rattle.mg_rent.proofs.Charged.{AllCharged, bare, bare-pages, charged-all, charged-more, charged-of, debts-grow, due-at, kept-at, next-owes, received}
-use Rattle.mg_rent.specs.Charging.{OweAtMost}
+use Rattle.{mg_model.specs.Bank.pages_of, mg_rent.proofs.Charged.{AllCharged, bare, bare-pages, charged-all, charged-more, charged-of, debts-grow}}
+use Rattle.{mg_rent.{proofs.Charged.{due-at, kept-at, next-owes, received}, specs.Charging.OweAtMost}, std.proofs.Common.{◌≡◌, ◌+◌, ◌*◌, ◌^◌, ap}}
+use Rattle.std.proofs.Common.{sym, ◌∙◌, arith}
 use Rattle.mg_rent.proofs.collecting.collect_rent.Goals as goal
 
 pub loop-i-preserved : goal.loop-i-preserved

@@ -1,7 +1,5 @@
-use Rattle.std.proofs.Common.{◌≡◌, ◌+◌, ◌^◌, length}
-use Rattle.mg_bank.specs.Bank.{credits_of}
-use Rattle.mg_rent.proofs.Charged.{AreCharged, bare}
-use Rattle.mg_rent.specs.Charging.{OweAtMost}
+use Rattle.{mg_bank.specs.Bank.credits_of, mg_rent.{proofs.Charged.{AreCharged, bare}, specs.Charging.OweAtMost}, std.proofs.Common.{◌≡◌, ◌+◌, ◌^◌}}
+use Rattle.std.proofs.Common.{length}
 use Rattle.mg_rent.proofs.collecting.collect_rent.Given as goal
 
 abbrev pub invariant-loop-i : goal.invariant-loop-i

@@ -1,7 +1,5 @@
-use Rattle.std.proofs.Common.{◌≡◌, ◌<◌, ℕ, List, true, nat_le, length, get_or, subst, sym, arith}
-use Rattle.mg_model.specs.StepwiseLemmas.{rate_from}
-use Rattle.mg_model.specs.Tariff.{is_tariff}
-use Rattle.mg_rent.proofs.Steps.{AreSteps, rate-found, step-few, step-taken, tariff-steps}
+use Rattle.{mg_model.specs.{StepwiseLemmas.rate_from, Tariff.is_tariff}, mg_rent.proofs.Steps.{AreSteps, rate-found, step-few, step-taken}}
+use Rattle.{mg_rent.proofs.Steps.tariff-steps, std.proofs.Common.{◌≡◌, ◌<◌, ℕ, List, true, nat_le, length, get_or, subst, sym, arith}}
 use Rattle.mg_rent.proofs.rates.rate.Goals as goal
 
 pub loop-step-preserved : goal.loop-step-preserved

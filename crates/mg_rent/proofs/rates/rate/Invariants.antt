@@ -1,6 +1,4 @@
-use Rattle.std.proofs.Common.{◌≡◌, ◌≤◌, drop}
-use Rattle.mg_model.specs.StepwiseLemmas.{rate_from}
-use Rattle.mg_model.specs.Limits.{step_limit}
+use Rattle.{mg_model.specs.{Limits.step_limit, StepwiseLemmas.rate_from}, std.proofs.Common.{◌≡◌, ◌≤◌, drop}}
 use Rattle.mg_rent.proofs.rates.rate.Given as goal
 
 -- the steps so far gave this rate

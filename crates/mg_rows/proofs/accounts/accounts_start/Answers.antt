@@ -1,7 +1,5 @@
+use Rattle.{mg_model.specs.Bytes.padded_to, mg_rows.{proofs.AccountStarts.{AreRows, row_more, rows_padded}, specs.Blocks.account_in}}
 use Rattle.std.proofs.Common.{◌+◌, ap, sym, subst, ◌∙◌, arith, rules}
-use Rattle.mg_model.specs.Bytes.{padded_to}
-use Rattle.mg_rows.specs.Blocks.{account_in}
-use Rattle.mg_rows.proofs.AccountStarts.{AreRows, row_more, rows_padded}
 use Rattle.mg_rows.proofs.accounts.accounts_start.Goals as goal
 
 pub loop-j-preserved : goal.loop-j-preserved

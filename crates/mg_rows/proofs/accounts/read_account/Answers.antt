@@ -1,7 +1,5 @@
-use Rattle.std.proofs.Common.{◌≡◌, Some, true, ap, sym, ◌∙◌}
-use Rattle.mg_model.specs.declared.accounts.AccRow.{AccRow}
-use Rattle.mg_model.specs.Spelling.{account_bytes, account_fields}
-use Rattle.mg_rows.proofs.ThreadReads.{row-other, row-some}
+use Rattle.{mg_model.specs.{Spelling.{account_bytes, account_fields}, declared.accounts.AccRow.AccRow}, mg_rows.proofs.ThreadReads.row-other}
+use Rattle.{mg_rows.proofs.ThreadReads.row-some, std.proofs.Common.{◌≡◌, Some, true, ap, sym, ◌∙◌}}
 use Rattle.mg_rows.proofs.accounts.read_account.Goals as goal
 
 pub returns-then-eq : goal.returns-then-eq

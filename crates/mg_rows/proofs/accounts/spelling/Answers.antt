@@ -1,8 +1,5 @@
-use Rattle.std.proofs.Common.{rules, ◌≡◌, [], ◌∷◌, ap, ◌∙◌, arith}
-use Rattle.std.proofs.lemmas.List.Elements.{All-head, All-tail}
-use Rattle.mg_model.specs.Ranges.{IsWord}
-use Rattle.mg_model.specs.Spelling.{account_bytes, account_read}
-use Rattle.mg_rows.proofs.Reading.{account-back}
+use Rattle.{mg_model.specs.{Ranges.IsWord, Spelling.{account_bytes, account_read}}, mg_rows.proofs.Reading.account-back, std.proofs.Common.rules}
+use Rattle.std.proofs.{Common.{◌≡◌, [], ◌∷◌, ap, ◌∙◌, arith}, lemmas.List.Elements.{All-head, All-tail}}
 use Rattle.mg_rows.proofs.accounts.spelling.Goals as goal
 
 pub returns-clause-read_back : goal.returns-clause-read_back

@@ -1,5 +1,4 @@
-use Rattle.std.proofs.Common.{◌≡◌, ◌*◌, ◌+◌, ◌-◌, drop, take, ap, ◌∙◌, arith}
-use Rattle.mg_model.specs.Spelling.{account_read}
+use Rattle.{mg_model.specs.Spelling.account_read, std.proofs.Common.{◌≡◌, ◌*◌, ◌+◌, ◌-◌, drop, take, ap, ◌∙◌, arith}}
 use Rattle.mg_rows.proofs.blocks.account_in.Goals as goal
 
 pub returns : goal.returns

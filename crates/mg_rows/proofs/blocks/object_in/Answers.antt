@@ -1,5 +1,4 @@
-use Rattle.std.proofs.Common.{◌≡◌, ◌*◌, ◌+◌, ◌-◌, drop, take, ap, ◌∙◌, arith}
-use Rattle.mg_model.specs.Spelling.{object_read}
+use Rattle.{mg_model.specs.Spelling.object_read, std.proofs.Common.{◌≡◌, ◌*◌, ◌+◌, ◌-◌, drop, take, ap, ◌∙◌, arith}}
 use Rattle.mg_rows.proofs.blocks.object_in.Goals as goal
 
 pub returns : goal.returns

@@ -1,7 +1,5 @@
-use Rattle.std.proofs.Common.{rules, ◌≡◌, ◌+◌, ◌-◌, ◌*◌, length, ap, ◌∙◌, ⊎_elim, inl, inr, arith}
-use Rattle.std.proofs.lemmas.Bool.{cases_lt}
-use Rattle.mg_model.specs.Spelling.{account_read}
-use Rattle.mg_rows.proofs.BlockParts.{beside, there}
+use Rattle.{mg_model.specs.Spelling.account_read, mg_rows.proofs.BlockParts.{beside, there}, std.proofs.Common.{rules, ◌≡◌, ◌+◌, ◌-◌, ◌*◌, length}}
+use Rattle.std.proofs.{Common.{ap, ◌∙◌, ⊎_elim, inl, inr, arith}, lemmas.Bool.cases_lt}
 use Rattle.mg_rows.proofs.blocks.put_account.Goals as goal
 
 pub returns-clause-here : goal.returns-clause-here

@@ -1,7 +1,5 @@
-use Rattle.std.proofs.Common.{rules, ◌≡◌, ◌+◌, ◌-◌, ◌*◌, length, ap, ◌∙◌, ⊎_elim, inl, inr, arith}
-use Rattle.std.proofs.lemmas.Bool.{cases_lt}
-use Rattle.mg_model.specs.Spelling.{object_read}
-use Rattle.mg_rows.proofs.BlockParts.{beside, there}
+use Rattle.{mg_model.specs.Spelling.object_read, mg_rows.proofs.BlockParts.{beside, there}, std.proofs.Common.{rules, ◌≡◌, ◌+◌, ◌-◌, ◌*◌, length, ap}}
+use Rattle.std.proofs.{Common.{◌∙◌, ⊎_elim, inl, inr, arith}, lemmas.Bool.cases_lt}
 use Rattle.mg_rows.proofs.blocks.put_object.Goals as goal
 
 pub returns-clause-here : goal.returns-clause-here

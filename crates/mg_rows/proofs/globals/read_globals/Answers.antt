@@ -1,6 +1,4 @@
-use Rattle.std.proofs.Common.{◌≡◌, sym}
-use Rattle.mg_model.specs.Spelling.{globals_fields}
-use Rattle.mg_rows.proofs.Reading.{globals-none}
+use Rattle.{mg_model.specs.Spelling.globals_fields, mg_rows.proofs.Reading.globals-none, std.proofs.Common.{◌≡◌, sym}}
 use Rattle.mg_rows.proofs.globals.read_globals.Goals as goal
 
 pub returns-else-eq : goal.returns-else-eq

@@ -1,7 +1,5 @@
-use Rattle.std.proofs.Common.{◌≡◌, ap, ◌∙◌}
-use Rattle.mg_model.specs.Bytes.{padded_to}
-use Rattle.mg_model.specs.Spelling.{globals_bytes, globals_read}
-use Rattle.mg_rows.proofs.Reading.{globals-back}
+use Rattle.{mg_model.specs.{Bytes.padded_to, Spelling.{globals_bytes, globals_read}}, mg_rows.proofs.Reading.globals-back, std.proofs.Common.◌≡◌}
+use Rattle.std.proofs.Common.{ap, ◌∙◌}
 use Rattle.mg_rows.proofs.globals.spelling.Goals as goal
 
 pub returns : goal.returns

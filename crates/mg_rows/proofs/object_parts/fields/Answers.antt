@@ -1,5 +1,4 @@
-use Rattle.std.proofs.Common.{refl, ◌∙◌}
-use Rattle.mg_rows.proofs.ObjectWhole.{all_read, bare_of_entries, not_entered, not_extended, not_opened, not_placed}
+use Rattle.{mg_rows.proofs.ObjectWhole.{all_read, bare_of_entries, not_entered, not_extended, not_opened, not_placed}, std.proofs.Common.{refl, ◌∙◌}}
 use Rattle.mg_rows.proofs.object_parts.fields.Goals as goal
 
 pub returns-in_err-row : goal.returns-in_err-row

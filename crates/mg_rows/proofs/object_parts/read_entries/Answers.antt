@@ -1,11 +1,8 @@
-use Rattle.std.proofs.Common.{◌≡◌, ◌+◌, ◌*◌, true, false, ap, sym, not, length, ◌==◌, ◌∙◌, arith}
-use Rattle.std.specs.List.{list_all, list_any}
-use Rattle.std.proofs.lemmas.Bool.{and_parts, not-true}
-use Rattle.mg_model.specs.Bytes.{number_at, numbers_at}
-use Rattle.mg_model.specs.State.{ObjectRow}
-use Rattle.mg_model.specs.Tests.{all_distinct, is_entry_of}
-use Rattle.mg_rows.specs.ObjectParts.{are_entries, entries_in}
-use Rattle.mg_rows.proofs.ObjectLists.{all-more, bad_entry, distinct-more, entry-added, good_entries, is_next, length-numbers_at, next-test, none_tells, numbers-more, too_many_entries}
+use Rattle.{mg_model.specs.{Bytes.{number_at, numbers_at}, State.ObjectRow, Tests.{all_distinct, is_entry_of}}, mg_rows.proofs.ObjectLists.all-more}
+use Rattle.mg_rows.proofs.ObjectLists.{bad_entry, distinct-more, entry-added, good_entries, is_next, length-numbers_at, next-test, none_tells}
+use Rattle.{mg_rows.{proofs.ObjectLists.{numbers-more, too_many_entries}, specs.ObjectParts.{are_entries, entries_in}}, std.proofs.Common.{◌≡◌, ◌+◌}}
+use Rattle.std.{proofs.{Common.{◌*◌, true, false, ap, sym, not, length, ◌==◌, ◌∙◌, arith}, lemmas.Bool.{and_parts, not-true}}, specs.List.list_all}
+use Rattle.std.specs.List.{list_any}
 use Rattle.mg_rows.proofs.object_parts.read_entries.Goals as goal
 
 pub returns-then-count-gt-ENTRY_LIMIT-clause-kept : goal.returns-then-count-gt-ENTRY_LIMIT-clause-kept

@@ -1,7 +1,4 @@
-use Rattle.std.proofs.Common.{◌≡◌, true}
-use Rattle.std.specs.List.{list_all}
-use Rattle.mg_model.specs.Bytes.{numbers_at}
-use Rattle.mg_model.specs.Tests.{all_distinct, is_entry_of}
+use Rattle.{mg_model.specs.{Bytes.numbers_at, Tests.{all_distinct, is_entry_of}}, std.{proofs.Common.{◌≡◌, true}, specs.List.list_all}}
 use Rattle.mg_rows.proofs.object_parts.read_entries.Given as goal
 
 abbrev pub invariant-loop-k : goal.invariant-loop-k

@@ -1,10 +1,7 @@
-use Rattle.std.proofs.Common.{◌≡◌, ◌+◌, ap, sym, ◌∙◌, length, arith}
-use Rattle.std.specs.List.{list_all}
-use Rattle.mg_model.specs.Abbreviations.{passwords_at}
-use Rattle.mg_model.specs.State.{ObjectRow}
-use Rattle.mg_model.specs.Tests.{is_password}
-use Rattle.mg_rows.specs.ObjectParts.{are_passwords, password_at, passwords_in}
-use Rattle.mg_rows.proofs.ObjectLists.{all-more, bad_password, good_passwords, length-passwords_at, none_tells, password-added, passwords-more, some_tells, too_many_passwords}
+use Rattle.{mg_model.specs.{Abbreviations.passwords_at, State.ObjectRow, Tests.is_password}, mg_rows.proofs.ObjectLists.{all-more, bad_password}}
+use Rattle.mg_rows.proofs.ObjectLists.{good_passwords, length-passwords_at, none_tells, password-added, passwords-more, some_tells}
+use Rattle.{mg_rows.{proofs.ObjectLists.too_many_passwords, specs.ObjectParts.{are_passwords, password_at, passwords_in}}, std.proofs.Common.◌≡◌}
+use Rattle.std.{proofs.Common.{◌+◌, ap, sym, ◌∙◌, length, arith}, specs.List.list_all}
 use Rattle.mg_rows.proofs.object_parts.read_passwords.Goals as goal
 
 pub returns-then-count-gt-PASSWORD_LIMIT-clause-kept : goal.returns-then-count-gt-PASSWORD_LIMIT-clause-kept

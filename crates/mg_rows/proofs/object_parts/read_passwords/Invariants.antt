@@ -1,7 +1,4 @@
-use Rattle.std.proofs.Common.{◌≡◌, true}
-use Rattle.std.specs.List.{list_all}
-use Rattle.mg_model.specs.Abbreviations.{passwords_at}
-use Rattle.mg_model.specs.Tests.{is_password}
+use Rattle.{mg_model.specs.{Abbreviations.passwords_at, Tests.is_password}, std.{proofs.Common.{◌≡◌, true}, specs.List.list_all}}
 use Rattle.mg_rows.proofs.object_parts.read_passwords.Given as goal
 
 abbrev pub invariant-loop-k : goal.invariant-loop-k

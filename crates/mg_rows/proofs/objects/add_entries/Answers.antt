@@ -1,6 +1,4 @@
-use Rattle.mg_model.specs.Bytes.{words_bytes}
-use Rattle.mg_model.specs.BytesLemmas.{length-words_bytes}
-use Rattle.mg_rows.proofs.ObjectRows.{padded}
+use Rattle.{mg_model.specs.{Bytes.words_bytes, BytesLemmas.length-words_bytes}, mg_rows.proofs.ObjectRows.padded}
 use Rattle.mg_rows.proofs.objects.add_entries.Goals as goal
 
 pub returns-clause-value : goal.returns-clause-value

@@ -1,5 +1,4 @@
-use Rattle.std.proofs.Common.{◌∙◌}
-use Rattle.mg_rows.proofs.ObjectRows.{head-spelled}
+use Rattle.{mg_rows.proofs.ObjectRows.head-spelled, std.proofs.Common.◌∙◌}
 use Rattle.mg_rows.proofs.objects.add_head.Goals as goal
 
 pub returns-clause-spelled : goal.returns-clause-spelled

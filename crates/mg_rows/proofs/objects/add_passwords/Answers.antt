@@ -1,8 +1,5 @@
-use Rattle.std.proofs.Common.{◌≡◌, ◌++◌, List, map, ap, ◌∙◌}
-use Rattle.std.proofs.lemmas.List.{take_all}
-use Rattle.mg_model.specs.declared.slots.Pw.{Pw}
-use Rattle.mg_model.specs.Bytes.{words_bytes}
-use Rattle.mg_rows.proofs.ObjectRows.{length-words, padded}
+use Rattle.{mg_model.specs.{Bytes.words_bytes, declared.slots.Pw.Pw}, mg_rows.proofs.ObjectRows.{length-words, padded}, std.proofs.Common.{◌≡◌, ◌++◌}}
+use Rattle.std.proofs.{Common.{List, map, ap, ◌∙◌}, lemmas.List.take_all}
 use Rattle.mg_rows.proofs.objects.add_passwords.Goals as goal
 
 pub returns-clause-value : goal.returns-clause-value

@@ -1,8 +1,5 @@
-use Rattle.std.proofs.Common.{◌≡◌, ◌++◌, List, map, ap, ◌∙◌}
-use Rattle.std.proofs.lemmas.List.{take_all}
-use Rattle.std.proofs.lemmas.List.{length-map}
-use Rattle.mg_model.specs.declared.slots.Pw.{Pw}
-use Rattle.mg_rows.proofs.ObjectRows.{padded}
+use Rattle.{mg_model.specs.declared.slots.Pw.Pw, mg_rows.proofs.ObjectRows.padded, std.proofs.Common.{◌≡◌, ◌++◌, List, map, ap, ◌∙◌}}
+use Rattle.std.proofs.lemmas.List.{take_all, length-map}
 use Rattle.mg_rows.proofs.objects.add_rights.Goals as goal
 
 pub returns-clause-value : goal.returns-clause-value

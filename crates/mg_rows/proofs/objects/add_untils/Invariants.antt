@@ -1,6 +1,4 @@
-use Rattle.std.proofs.Common.{◌≡◌, ◌+◌, ◌*◌, ◌++◌, length, map, take}
-use Rattle.mg_model.specs.declared.slots.Pw.{Pw}
-use Rattle.mg_model.specs.Bytes.{words_bytes}
+use Rattle.{mg_model.specs.{Bytes.words_bytes, declared.slots.Pw.Pw}, std.proofs.Common.{◌≡◌, ◌+◌, ◌*◌, ◌++◌, length, map, take}}
 use Rattle.mg_rows.proofs.objects.add_untils.Given as goal
 
 abbrev pub invariant-loop-pw : goal.invariant-loop-pw

@@ -1,7 +1,5 @@
+use Rattle.{mg_model.specs.{Spelling.{object_bytes, object_fields}, Tests.is_object_row}, mg_rows.proofs.ThreadReads.{row-none, row-other, row-some}}
 use Rattle.std.proofs.Common.{sym, ◌∙◌}
-use Rattle.mg_model.specs.Spelling.{object_bytes, object_fields}
-use Rattle.mg_model.specs.Tests.{is_object_row}
-use Rattle.mg_rows.proofs.ThreadReads.{row-none, row-other, row-some}
 use Rattle.mg_rows.proofs.objects.read_object.Goals as goal
 
 pub returns-then-is_spelling : goal.returns-then-is_spelling

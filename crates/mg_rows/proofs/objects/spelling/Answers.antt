@@ -1,7 +1,5 @@
+use Rattle.{mg_model.specs.Spelling.{object_bytes, object_read}, mg_rows.proofs.{ObjectFields.object-written, ObjectRows.{filled-up, object-spelled}}}
 use Rattle.std.proofs.Common.{◌≡◌, length, refl, ap, ◌∙◌, arith}
-use Rattle.mg_model.specs.Spelling.{object_bytes, object_read}
-use Rattle.mg_rows.proofs.ObjectFields.{object-written}
-use Rattle.mg_rows.proofs.ObjectRows.{filled-up, object-spelled}
 use Rattle.mg_rows.proofs.objects.spelling.Goals as goal
 
 pub returns : goal.returns

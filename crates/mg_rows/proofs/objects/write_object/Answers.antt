@@ -1,6 +1,4 @@
-use Rattle.std.proofs.Common.{ap, ◌∙◌}
-use Rattle.mg_model.specs.Spelling.{object_read}
-use Rattle.mg_rows.proofs.ObjectFields.{zeros-free}
+use Rattle.{mg_model.specs.Spelling.object_read, mg_rows.proofs.ObjectFields.zeros-free, std.proofs.Common.{ap, ◌∙◌}}
 use Rattle.mg_rows.proofs.objects.write_object.Goals as goal
 
 pub returns-in-None : goal.returns-in-None

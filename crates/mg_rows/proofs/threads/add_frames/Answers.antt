@@ -1,6 +1,4 @@
-use Rattle.std.proofs.Common.{arith}
-use Rattle.mg_model.specs.Spelling.{frame_bytes}
-use Rattle.mg_rows.proofs.ThreadRows.{added}
+use Rattle.{mg_model.specs.Spelling.frame_bytes, mg_rows.proofs.ThreadRows.added, std.proofs.Common.arith}
 use Rattle.mg_rows.proofs.threads.add_frames.Goals as goal
 
 pub loop-frame-preserved : goal.loop-frame-preserved

@@ -1,5 +1,4 @@
-use Rattle.std.proofs.Common.{◌≡◌, ◌+◌, ◌*◌, ◌++◌, flat_map, length, take}
-use Rattle.mg_model.specs.Spelling.{frame_bytes}
+use Rattle.{mg_model.specs.Spelling.frame_bytes, std.proofs.Common.{◌≡◌, ◌+◌, ◌*◌, ◌++◌, flat_map, length, take}}
 use Rattle.mg_rows.proofs.threads.add_frames.Given as goal
 
 -- the frames so far are there

@@ -1,6 +1,4 @@
-use Rattle.std.proofs.Common.{◌≡◌, ◌+◌, ◌*◌, ◌++◌, flat_map, length, take}
-use Rattle.mg_model.specs.Bytes.{words_bytes}
-use Rattle.mg_model.specs.Abbreviations.{slot_words}
+use Rattle.{mg_model.specs.{Abbreviations.slot_words, Bytes.words_bytes}, std.proofs.Common.{◌≡◌, ◌+◌, ◌*◌, ◌++◌, flat_map, length, take}}
 use Rattle.mg_rows.proofs.threads.add_slots.Given as goal
 
 -- the slots so far are there

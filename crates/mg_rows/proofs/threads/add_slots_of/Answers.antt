@@ -1,5 +1,4 @@
-use Rattle.std.proofs.Common.{◌≡◌, ◌+◌, ◌*◌, length, ap, ◌∙◌, refl, arith}
-use Rattle.mg_rows.proofs.ThreadReads.{frame-more, length-slots_at}
+use Rattle.{mg_rows.proofs.ThreadReads.{frame-more, length-slots_at}, std.proofs.Common.{◌≡◌, ◌+◌, ◌*◌, length, ap, ◌∙◌, refl, arith}}
 use Rattle.mg_rows.proofs.threads.add_slots_of.Goals as goal
 
 pub add-requires : goal.add-requires

@@ -1,5 +1,4 @@
-use Rattle.std.proofs.Common.{◌≡◌}
-use Rattle.mg_model.specs.Spelling.{slots_at}
+use Rattle.{mg_model.specs.Spelling.slots_at, std.proofs.Common.◌≡◌}
 use Rattle.mg_rows.proofs.threads.add_slots_of.Given as goal
 
 -- the slots so far are those of the bytes

@@ -1,12 +1,9 @@
+use Rattle.{mg_model.specs.{Abbreviations.is_call_frame, Bytes.number_at, Spelling.frame_at, State.CallFrame}, mg_rows.proofs.ThreadReads.Are}
+use Rattle.mg_rows.proofs.ThreadReads.{begins-all, begins-back, begins-creator, begins-frame, begins-pc, none-if, none-is, row-begun, some-are}
+use Rattle.mg_rows.proofs.{ThreadReads.some-if, threads.begun.Goals.then-creator-birth-via-then-creator-birth}
+use Rattle.mg_rows.{proofs.threads.begun.Goals.then-creator-birth-via-else-creator-birth+then-pc-ne0, specs.ThreadParts.{begins, with_frames}}
 use Rattle.std.proofs.Common.{◌≡◌, ◌%◌, ◌==◌, sym, ap, ◌∙◌, arith}
-use Rattle.mg_model.specs.Abbreviations.{is_call_frame}
-use Rattle.mg_model.specs.Bytes.{number_at}
-use Rattle.mg_model.specs.Spelling.{frame_at}
-use Rattle.mg_model.specs.State.{CallFrame}
-use Rattle.mg_rows.specs.ThreadParts.{begins, with_frames}
-use Rattle.mg_rows.proofs.ThreadReads.{Are, begins-all, begins-back, begins-creator, begins-frame, begins-pc, none-if, none-is, row-begun, some-are, some-if}
 use Rattle.mg_rows.proofs.threads.begun.Goals as goal
-use Rattle.mg_rows.proofs.threads.begun.Goals.{then-creator-birth-via-then-creator-birth, then-creator-birth-via-else-creator-birth+then-pc-ne0}
 
 pub returns-then-creator-birth : goal.returns-then-creator-birth
 returns-then-creator-birth c =

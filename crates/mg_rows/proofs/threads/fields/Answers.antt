@@ -1,14 +1,9 @@
-use Rattle.std.proofs.Common.{◌≡◌, min, nat_le, ◌∙◌, arith}
-use Rattle.std.specs.List.{list_all}
-use Rattle.std.proofs.lemmas.Bool.{and_left, and_right, lt-leb}
-use Rattle.mg_model.specs.Abbreviations.{frames_at, is_call_frame}
-use Rattle.mg_model.specs.Bytes.{number_at}
-use Rattle.mg_model.specs.Spelling.{thread_fields}
-use Rattle.mg_model.specs.Tests.{is_thread_row}
-use Rattle.mg_rows.specs.ThreadParts.{begins, with_frames}
+use Rattle.mg_model.specs.{Abbreviations.{frames_at, is_call_frame}, Bytes.number_at, Spelling.thread_fields, Tests.is_thread_row}
 use Rattle.mg_rows.proofs.ThreadReads.{begins-first, count-broken, fields-found, none-if, none-is, rule-of, some-are}
-use Rattle.mg_rows.proofs.threads.fields.Goals as goal
 use Rattle.mg_rows.proofs.threads.fields.Goals.{then-count-lt1-via-then-count-lt1, then-count-lt1-via-else-count-lt1+then-count-gt-MOST_FRAMES}
+use Rattle.{mg_rows.specs.ThreadParts.{begins, with_frames}, std.proofs.{Common.{◌≡◌, min, nat_le, ◌∙◌, arith}, lemmas.Bool.{and_left, and_right}}}
+use Rattle.std.{proofs.lemmas.Bool.lt-leb, specs.List.list_all}
+use Rattle.mg_rows.proofs.threads.fields.Goals as goal
 
 pub returns-then-count-lt1 : goal.returns-then-count-lt1
 returns-then-count-lt1 c =

@@ -1,8 +1,5 @@
-use Rattle.std.proofs.Common.{◌≡◌, ◌≤◌, ◌+◌, ◌%◌, sym, ap, ◌∙◌, arith}
-use Rattle.mg_model.specs.Abbreviations.{is_call_frame}
-use Rattle.mg_model.specs.Bytes.{number_at}
-use Rattle.mg_model.specs.Spelling.{frame_at}
-use Rattle.mg_rows.proofs.ThreadReads.{frame-kept, frame-same, some-if}
+use Rattle.{mg_model.specs.{Abbreviations.is_call_frame, Bytes.number_at, Spelling.frame_at}, mg_rows.proofs.ThreadReads.{frame-kept, frame-same}}
+use Rattle.{mg_rows.proofs.ThreadReads.some-if, std.proofs.Common.{◌≡◌, ◌≤◌, ◌+◌, ◌%◌, sym, ap, ◌∙◌, arith}}
 use Rattle.mg_rows.proofs.threads.frame_in.Goals as goal
 
 pub returns : goal.returns

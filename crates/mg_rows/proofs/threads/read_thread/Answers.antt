@@ -1,7 +1,5 @@
+use Rattle.{mg_model.specs.{Spelling.{thread_bytes, thread_fields}, Tests.is_thread_row}, mg_rows.proofs.ThreadReads.{row-none, row-other, row-some}}
 use Rattle.std.proofs.Common.{sym, ◌∙◌}
-use Rattle.mg_model.specs.Spelling.{thread_bytes, thread_fields}
-use Rattle.mg_model.specs.Tests.{is_thread_row}
-use Rattle.mg_rows.proofs.ThreadReads.{row-none, row-other, row-some}
 use Rattle.mg_rows.proofs.threads.read_thread.Goals as goal
 
 pub returns-then-is_spelling : goal.returns-then-is_spelling

@@ -1,5 +1,4 @@
-use Rattle.std.proofs.Common.{arith}
-use Rattle.mg_rows.proofs.ThreadReads.{row-more, row-registers}
+use Rattle.{mg_rows.proofs.ThreadReads.{row-more, row-registers}, std.proofs.Common.arith}
 use Rattle.mg_rows.proofs.threads.set_registers.Goals as goal
 
 pub loop-place-preserved : goal.loop-place-preserved

@@ -1,5 +1,4 @@
-use Rattle.std.proofs.Common.{◌≡◌, ◌++◌, drop}
-use Rattle.mg_model.specs.Bytes.{numbers_at}
+use Rattle.{mg_model.specs.Bytes.numbers_at, std.proofs.Common.{◌≡◌, ◌++◌, drop}}
 use Rattle.mg_rows.proofs.threads.set_registers.Given as goal
 
 -- the registers so far are those of the bytes, and the others are as they were

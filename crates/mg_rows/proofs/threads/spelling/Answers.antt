@@ -1,6 +1,5 @@
-use Rattle.std.proofs.Common.{◌≡◌, ap, ◌∙◌}
-use Rattle.mg_model.specs.Spelling.{thread_bytes, thread_read}
-use Rattle.mg_rows.proofs.ThreadRows.{thread-back, thread-spelled}
+use Rattle.{mg_model.specs.Spelling.{thread_bytes, thread_read}, mg_rows.proofs.ThreadRows.{thread-back, thread-spelled}, std.proofs.Common.{◌≡◌, ap}}
+use Rattle.std.proofs.Common.{◌∙◌}
 use Rattle.mg_rows.proofs.threads.spelling.Goals as goal
 
 pub returns : goal.returns

@@ -1,8 +1,5 @@
-use Rattle.std.proofs.Common.{◌≡◌, ap, refl, ◌∙◌, arith, rules}
-use Rattle.mg_model.specs.Bytes.{padded_to}
-use Rattle.mg_model.specs.Spelling.{thread_bytes, thread_read}
-use Rattle.mg_rows.proofs.Padded.{padded_twice}
-use Rattle.mg_rows.proofs.ThreadRows.{thread-back, thread-spelled}
+use Rattle.{mg_model.specs.{Bytes.padded_to, Spelling.{thread_bytes, thread_read}}, mg_rows.proofs.{Padded.padded_twice, ThreadRows.thread-back}}
+use Rattle.{mg_rows.proofs.ThreadRows.thread-spelled, std.proofs.Common.{◌≡◌, ap, refl, ◌∙◌, arith, rules}}
 use Rattle.mg_rows.proofs.threads.thread_start.Goals as goal
 
 pub returns : goal.returns

@@ -1,11 +1,7 @@
-use Rattle.std.proofs.Common.{◌≡◌, ◌+◌, ◌*◌, true, length, refl, sym, ap, ◌∙◌, arith}
+use Rattle.{mg_model.specs.{Abbreviations.{frames_at, is_call_frame}, Spelling.frame_at, State.ThreadRow}, mg_rows.proofs.ThreadReads.Are}
+use Rattle.mg_rows.proofs.ThreadReads.{frames-broken, frames-kept, length-frames_at, none-if, none-is, some-are, some-if, thread-more}
+use Rattle.{mg_rows.specs.ThreadParts.with_frames, std.proofs.{Common.{◌≡◌, ◌+◌, ◌*◌, true, length, refl, sym, ap, ◌∙◌, arith}, lemmas.Bool.and_from}}
 use Rattle.std.specs.List.{list_all}
-use Rattle.std.proofs.lemmas.Bool.{and_from}
-use Rattle.mg_model.specs.Abbreviations.{frames_at, is_call_frame}
-use Rattle.mg_model.specs.Spelling.{frame_at}
-use Rattle.mg_model.specs.State.{ThreadRow}
-use Rattle.mg_rows.specs.ThreadParts.{with_frames}
-use Rattle.mg_rows.proofs.ThreadReads.{Are, frames-broken, frames-kept, length-frames_at, none-if, none-is, some-are, some-if, thread-more}
 use Rattle.mg_rows.proofs.threads.with_frames.Goals as goal
 
 pub loop-place-init : goal.loop-place-init

@@ -1,7 +1,5 @@
-use Rattle.std.proofs.Common.{◌≡◌, true}
+use Rattle.{mg_model.specs.Abbreviations.{frames_at, is_call_frame}, mg_rows.specs.ThreadParts.with_frames, std.proofs.Common.{◌≡◌, true}}
 use Rattle.std.specs.List.{list_all}
-use Rattle.mg_model.specs.Abbreviations.{frames_at, is_call_frame}
-use Rattle.mg_rows.specs.ThreadParts.{with_frames}
 use Rattle.mg_rows.proofs.threads.with_frames.Given as goal
 
 -- the frames so far are those of the bytes, and each keeps its rule

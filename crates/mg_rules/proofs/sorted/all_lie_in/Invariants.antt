@@ -1,6 +1,4 @@
-use Rattle.std.proofs.Common.{◌≡◌, drop}
-use Rattle.std.specs.List.{list_all, list_any}
-use Rattle.mg_rules.specs.Spans.{IsWithin, is_in}
+use Rattle.{mg_rules.specs.Spans.{IsWithin, is_in}, std.{proofs.Common.{◌≡◌, drop}, specs.List.{list_all, list_any}}}
 use Rattle.mg_rules.proofs.sorted.all_lie_in.Given as goal
 
 -- what is left decides; the last run is within the others

@@ -1,5 +1,4 @@
-use Rattle.std.proofs.Common.{◌≡◌, drop}
-use Rattle.mg_rules.specs.Spans.{apart_from}
+use Rattle.{mg_rules.specs.Spans.apart_from, std.proofs.Common.{◌≡◌, drop}}
 use Rattle.mg_rules.proofs.sorted.are_apart.Given as goal
 
 -- what is left decides

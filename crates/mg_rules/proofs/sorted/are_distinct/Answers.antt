@@ -1,5 +1,4 @@
-use Rattle.std.proofs.Common.{arith}
-use Rattle.mg_rules.proofs.Apart.{distinct-same, sorted-numbers}
+use Rattle.{mg_rules.proofs.Apart.{distinct-same, sorted-numbers}, std.proofs.Common.arith}
 use Rattle.mg_rules.proofs.sorted.are_distinct.Goals as goal
 
 pub returns : goal.returns

@@ -1,11 +1,7 @@
-use Rattle.std.proofs.Common.{◌≡◌, ◌&&◌, ℕ, sym, ap, ◌∙◌}
-use Rattle.std.specs.List.{list_all, list_any}
-use Rattle.mg_rules.specs.Spans.{is_in, rises_from}
-use Rattle.mg_rules.proofs.Apart.{distinct-same, sorted-numbers}
-use Rattle.mg_rules.proofs.Covered.{all-permuted}
-use Rattle.mg_model.specs.Tests.{all_distinct}
+use Rattle.{mg_model.specs.Tests.all_distinct, mg_rules.proofs.{Apart.{distinct-same, sorted-numbers}, Covered.all-permuted}}
+use Rattle.mg_rules.{proofs.sorted.are_distinct_within.Goals.{then-all_lie_in, else-all_lie_in}, specs.Spans.{is_in, rises_from}}
+use Rattle.std.{proofs.Common.{◌≡◌, ◌&&◌, ℕ, sym, ap, ◌∙◌}, specs.List.{list_all, list_any}}
 use Rattle.mg_rules.proofs.sorted.are_distinct_within.Goals as goal
-use Rattle.mg_rules.proofs.sorted.are_distinct_within.Goals.{then-all_lie_in, else-all_lie_in}
 
 pub returns : goal.returns
 returns c =

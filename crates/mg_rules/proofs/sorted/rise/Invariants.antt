@@ -1,5 +1,4 @@
-use Rattle.std.proofs.Common.{◌≡◌, ◌≤◌, ◌^◌, drop}
-use Rattle.mg_rules.specs.Spans.{rises_from}
+use Rattle.{mg_rules.specs.Spans.rises_from, std.proofs.Common.{◌≡◌, ◌≤◌, ◌^◌, drop}}
 use Rattle.mg_rules.proofs.sorted.rise.Given as goal
 
 -- what is left decides

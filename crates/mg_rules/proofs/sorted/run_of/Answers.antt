@@ -1,8 +1,6 @@
-use Rattle.std.proofs.Common.{rules, sym, ap, ◌∙◌, arith}
-use Rattle.std.specs.Prelude.{ℕ, nat_le, nat_lt, ◌-◌, slice_index_or}
-use Rattle.std.proofs.lemmas.Bool.{le-ltb, lt-ltb}
-use Rattle.std.proofs.lemmas.List.Sorted.{IsPartitionPoint-from_clause, IsPartitionedBy-leb}
-use Rattle.mg_rules.proofs.Covered.{begins_rise, last_decides, none_before, within-there}
+use Rattle.{mg_rules.proofs.Covered.{begins_rise, last_decides, none_before, within-there}, std.proofs.Common.{rules, sym, ap, ◌∙◌, arith}}
+use Rattle.std.{proofs.lemmas.{Bool.{le-ltb, lt-ltb}, List.Sorted.{IsPartitionPoint-from_clause, IsPartitionedBy-leb}}, specs.Prelude.{ℕ, nat_le}}
+use Rattle.std.specs.Prelude.{nat_lt, ◌-◌, slice_index_or}
 use Rattle.mg_rules.proofs.sorted.run_of.Goals as goal
 
 pub returns-then-place-eq0 : goal.returns-then-place-eq0

@@ -1,11 +1,7 @@
-use Rattle.std.proofs.Common.{rules, ◌≡◌, ◌&&◌, ap, sym, ◌∙◌}
-use Rattle.std.specs.Prelude.{nat_le, sum_by}
-use Rattle.std.specs.List.{list_all}
-use Rattle.mg_rules.specs.Spans.{apart_from}
-use Rattle.mg_rules.specs.Tables.{is_paid, pages_in}
-use Rattle.mg_rules.proofs.StateFits.{objects-fit-table}
+use Rattle.mg_rules.{proofs.{StateFits.objects-fit-table, soundness.objects_fit.Goals.{then-are_apart, else-are_apart}}, specs.Spans.apart_from}
+use Rattle.{mg_rules.specs.Tables.{is_paid, pages_in}, std.{proofs.Common.{rules, ◌≡◌, ◌&&◌, ap, sym, ◌∙◌}, specs.{List.list_all, Prelude.nat_le}}}
+use Rattle.std.specs.Prelude.{sum_by}
 use Rattle.mg_rules.proofs.soundness.objects_fit.Goals as goal
-use Rattle.mg_rules.proofs.soundness.objects_fit.Goals.{then-are_apart, else-are_apart}
 
 pub returns-then-are_paid-clause-fit : goal.returns-then-are_paid-clause-fit
 returns-then-are_paid-clause-fit c replayed table =

@@ -1,8 +1,5 @@
+use Rattle.mg_rules.{proofs.{Apart.sorted-pairs, ObjectOrder.spans-are}, specs.{LiveTableLemmas.live-places, RowsRead.live_from}}
 use Rattle.std.proofs.Common.{◌∙◌}
-use Rattle.mg_rules.specs.RowsRead.{live_from}
-use Rattle.mg_rules.proofs.Apart.{sorted-pairs}
-use Rattle.mg_rules.specs.LiveTableLemmas.{live-places}
-use Rattle.mg_rules.proofs.ObjectOrder.{spans-are}
 use Rattle.mg_rules.proofs.soundness.spans.Goals as goal
 
 pub returns : goal.returns

@@ -1,6 +1,4 @@
-use Rattle.std.proofs.Common.{◌≡◌, ◌+◌, take}
-use Rattle.std.specs.Prelude.{sum_by}
-use Rattle.mg_model.specs.declared.accounts.AccRow.{AccRow}
+use Rattle.{mg_model.specs.declared.accounts.AccRow.AccRow, std.{proofs.Common.{◌≡◌, ◌+◌, take}, specs.Prelude.sum_by}}
 use Rattle.mg_rules.proofs.soundness.sum_to.Given as goal
 
 -- the balances so far are taken off

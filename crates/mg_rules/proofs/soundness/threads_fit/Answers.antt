@@ -1,5 +1,4 @@
-use Rattle.std.proofs.Common.{arith}
-use Rattle.mg_rules.proofs.StateFits.{threads-fit}
+use Rattle.{mg_rules.proofs.StateFits.threads-fit, std.proofs.Common.arith}
 use Rattle.mg_rules.proofs.soundness.threads_fit.Goals as goal
 
 pub returns-then-not-begin_with_first : goal.returns-then-not-begin_with_first

@@ -1,8 +1,5 @@
-use Rattle.std.proofs.Common.{ap, sym, subst, ◌∙◌}
-use Rattle.mg_model.specs.Abbreviations.{advanced}
-use Rattle.mg_script.specs.declared.actions.Action.{Action}
-use Rattle.mg_script.specs.Actions.{HasRegister, OnlyMoves, carried_out}
-use Rattle.mg_script.proofs.Whole.{whole-moves, whole-register, whole-turn}
+use Rattle.{mg_model.specs.Abbreviations.advanced, mg_script.{proofs.Whole.{whole-moves, whole-register, whole-turn}, specs.Actions.HasRegister}}
+use Rattle.{mg_script.specs.{Actions.{OnlyMoves, carried_out}, declared.actions.Action.Action}, std.proofs.Common.{ap, sym, subst, ◌∙◌}}
 use Rattle.mg_script.proofs.actions.execute.Goals as goal
 
 pub returns-clause-turn : goal.returns-clause-turn

@@ -1,12 +1,7 @@
-use Rattle.std.proofs.Common.{ℕ, ◌≡◌, ◌+◌, ◌%◌, ◌==◌, Bool, true, false, if◌then◌else◌, refl, ap, sym, ◌∙◌}
-use Rattle.mg_model.specs.declared.instructions.Instr.{Instr}
-use Rattle.mg_model.specs.Abbreviations.{advanced}
-use Rattle.mg_model.specs.Script.{jump_by, jumped, register, word_end}
-use Rattle.mg_model.specs.State.{State, ThreadRow}
-use Rattle.mg_model.specs.Turn.{put_row, run}
-use Rattle.mg_script.specs.declared.effects.Effect.{Effect}
-use Rattle.mg_script.specs.declared.effects.Effect.TheVariants.{Next}
-use Rattle.mg_script.specs.Effects.{finished, standing}
+use Rattle.mg_model.specs.{Abbreviations.advanced, Script.{jump_by, jumped, register, word_end}, State.{State, ThreadRow}, Turn.{put_row, run}}
+use Rattle.{mg_model.specs.declared.instructions.Instr.Instr, mg_script.specs.{Effects.{finished, standing}, declared.effects.Effect.Effect}}
+use Rattle.{mg_script.specs.declared.effects.Effect.TheVariants.Next, std.proofs.Common.{ℕ, ◌≡◌, ◌+◌, ◌%◌, ◌==◌, Bool, true, false, if◌then◌else◌}}
+use Rattle.std.proofs.Common.{refl, ap, sym, ◌∙◌}
 use Rattle.mg_script.proofs.effects.effect_of.Goals as goal
 
 -- the effect of a jump that is taken

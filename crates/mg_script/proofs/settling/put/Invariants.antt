@@ -1,5 +1,4 @@
-use Rattle.std.proofs.Common.{◌≡◌, drop}
-use Rattle.mg_model.specs.Turn.{with_registers}
+use Rattle.{mg_model.specs.Turn.with_registers, std.proofs.Common.{◌≡◌, drop}}
 use Rattle.mg_script.proofs.settling.put.Given as goal
 
 -- the values so far are in the registers, and those to come go after them

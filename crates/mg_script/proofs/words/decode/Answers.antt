@@ -1,7 +1,5 @@
-use Rattle.std.proofs.Common.{◌≡◌, IfSome, Option, sym, subst}
-use Rattle.mg_model.specs.declared.instructions.Instr.{Instr}
-use Rattle.mg_script.specs.Encoded.{HasRegisters, encoded}
-use Rattle.mg_script.specs.DecodedLemmas.{decoded-registers, decoded-word}
+use Rattle.{mg_model.specs.declared.instructions.Instr.Instr, mg_script.specs.{DecodedLemmas.{decoded-registers, decoded-word}, Encoded.HasRegisters}}
+use Rattle.{mg_script.specs.Encoded.encoded, std.proofs.Common.{◌≡◌, IfSome, Option, sym, subst}}
 use Rattle.mg_script.proofs.words.decode.Goals as goal
 
 pub returns-clause-registers : goal.returns-clause-registers

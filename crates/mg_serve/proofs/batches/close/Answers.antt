@@ -1,7 +1,5 @@
-use Rattle.std.proofs.Common.{List, ℕ, subst}
-use Rattle.std.specs.Io.KnownBytes.{Appends}
-use Rattle.mg_io.specs.Known.{AppendsPrefix}
-use Rattle.mg_serve.proofs.SessionSteps.{Broken-commit, Broken-put, Session-closes}
+use Rattle.{mg_io.specs.Known.AppendsPrefix, mg_serve.proofs.SessionSteps.{Broken-commit, Broken-put, Session-closes}, std.proofs.Common.{List, ℕ}}
+use Rattle.std.{proofs.Common.subst, specs.Io.KnownBytes.Appends}
 use Rattle.mg_serve.proofs.batches.close.Goals as goal
 
 pub returns-in-Err-clause-halts : goal.returns-in-Err-clause-halts

@@ -1,11 +1,6 @@
-use Rattle.std.proofs.Common.{ℕ, ◌≤◌, [], ◌∷◌, ◌++◌, ap, arith}
-use Rattle.std.proofs.lemmas.Result.{IfErr-weaker, on_ok_weaker}
-use Rattle.mg_faults.specs.Faults.{count_none}
-use Rattle.mg_serve.specs.Machines.{FailsToClose, Halts}
-use Rattle.mg_serve.specs.Serving.{Broken, Session}
-use Rattle.mg_serve.specs.Waiting.{Waiting}
-use Rattle.mg_serve.proofs.IncomingSteps.{keeps_then, serving_on}
-use Rattle.mg_serve.proofs.SessionSteps.{Broken-step, Session-line}
+use Rattle.{mg_faults.specs.Faults.count_none, mg_serve.proofs.{IncomingSteps.{keeps_then, serving_on}, SessionSteps.{Broken-step, Session-line}}}
+use Rattle.{mg_serve.specs.{Machines.{FailsToClose, Halts}, Serving.{Broken, Session}, Waiting.Waiting}, std.proofs.Common.{ℕ, ◌≤◌, [], ◌∷◌, ◌++◌}}
+use Rattle.std.proofs.{Common.{ap, arith}, lemmas.Result.{IfErr-weaker, on_ok_weaker}}
 use Rattle.mg_serve.proofs.batches.take_line.Goals as goal
 
 pub returns-in-Err-clause-halts : goal.returns-in-Err-clause-halts

@@ -1,8 +1,5 @@
-use Rattle.std.proofs.Common.{◌==◌, length, not, sym, arith}
-use Rattle.std.specs.Prelude.{slice_index}
-use Rattle.std.proofs.lemmas.List.Sums.{prefix_len_is}
-use Rattle.mg_serve.proofs.NextLines.{fails, stays}
-use Rattle.mg_model.specs.Words.{is_newline}
+use Rattle.{mg_model.specs.Words.is_newline, mg_serve.proofs.NextLines.{fails, stays}, std.proofs.Common.{◌==◌, length, not, sym, arith}}
+use Rattle.std.{proofs.lemmas.List.Sums.prefix_len_is, specs.Prelude.slice_index}
 use Rattle.mg_serve.proofs.incoming.before_newline.Goals as goal
 
 pub returns-in-Some-clause-count : goal.returns-in-Some-clause-count

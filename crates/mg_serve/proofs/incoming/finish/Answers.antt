@@ -1,9 +1,6 @@
-use Rattle.std.proofs.Common.{ℕ, ◌≤◌, [], ◌∷◌, ◌++◌, arith, sym}
-use Rattle.std.proofs.lemmas.Result.{IfErr-weaker, on_ok_weaker}
-use Rattle.mg_model.specs.Lines.{lines}
-use Rattle.mg_serve.specs.Machines.{FailsToClose, Halts}
-use Rattle.mg_serve.specs.Serving.{Broken, Session}
-use Rattle.mg_serve.proofs.IncomingSteps.{Halts-last, Halts-note, Runs-last, Runs-note, counts_none, counts_then, keeps_then}
+use Rattle.{mg_model.specs.Lines.lines, mg_serve.proofs.IncomingSteps.{Halts-last, Halts-note, Runs-last, Runs-note, counts_none, counts_then}}
+use Rattle.{mg_serve.{proofs.IncomingSteps.keeps_then, specs.{Machines.{FailsToClose, Halts}, Serving.{Broken, Session}}}, std.proofs.Common.{ℕ, ◌≤◌}}
+use Rattle.std.proofs.{Common.{[], ◌∷◌, ◌++◌, arith, sym}, lemmas.Result.{IfErr-weaker, on_ok_weaker}}
 use Rattle.mg_serve.proofs.incoming.finish.Goals as goal
 
 pub returns-in-None-clause-steps : goal.returns-in-None-clause-steps

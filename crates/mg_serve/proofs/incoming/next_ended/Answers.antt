@@ -1,6 +1,5 @@
-use Rattle.std.proofs.Common.{◌≡◌, ◌∷◌, ◌++◌, ◌+◌, ◌-◌, [], List, ℕ, ap, sym, ◌∙◌, arith, length, take, drop}
-use Rattle.std.proofs.lemmas.List.{length-drop, take_all}
-use Rattle.mg_serve.proofs.NextLines.{newline-before, newline-none, newline-split}
+use Rattle.{mg_serve.proofs.NextLines.{newline-before, newline-none, newline-split}, std.proofs.Common.{◌≡◌, ◌∷◌, ◌++◌, ◌+◌, ◌-◌, [], List, ℕ, ap}}
+use Rattle.std.proofs.{Common.{sym, ◌∙◌, arith, length, take, drop}, lemmas.List.{length-drop, take_all}}
 use Rattle.mg_serve.proofs.incoming.next_ended.Goals as goal
 
 pub returns-then-count-bytes-clause-line : goal.returns-then-count-bytes-clause-line

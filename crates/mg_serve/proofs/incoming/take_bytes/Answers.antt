@@ -1,6 +1,5 @@
-use Rattle.std.proofs.Common.{◌∷◌, ◌++◌, [], List, ℕ, refl, sym, ap, ◌∙◌, append_assoc}
-use Rattle.mg_serve.specs.Serving.{Broken, Session}
-use Rattle.mg_serve.proofs.IncomingSteps.{Breaks-next, Goes-all, Goes-none, Goes-then, counts_none, counts_then, keeps_then}
+use Rattle.mg_serve.{proofs.IncomingSteps.{Breaks-next, Goes-all, Goes-none, Goes-then, counts_none, counts_then, keeps_then}, specs.Serving.Broken}
+use Rattle.{mg_serve.specs.Serving.Session, std.proofs.Common.{◌∷◌, ◌++◌, [], List, ℕ, refl, sym, ap, ◌∙◌, append_assoc}}
 use Rattle.mg_serve.proofs.incoming.take_bytes.Goals as goal
 
 pub loop-part-init : goal.loop-part-init

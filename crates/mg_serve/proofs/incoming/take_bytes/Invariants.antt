@@ -1,9 +1,5 @@
-use Rattle.std.proofs.Common.{◌≡◌, ◌++◌, ℕ, List, false, length}
-use Rattle.std.specs.List.{list_any}
-use Rattle.mg_model.specs.Words.{is_newline}
-use Rattle.mg_serve.specs.Incoming.{Goes}
-use Rattle.mg_serve.proofs.IncomingSteps.{CountsOn}
-use Rattle.mg_serve.specs.Serving.{IsServing, Session}
+use Rattle.{mg_model.specs.Words.is_newline, mg_serve.{proofs.IncomingSteps.CountsOn, specs.{Incoming.Goes, Serving.{IsServing, Session}}}}
+use Rattle.std.{proofs.Common.{◌≡◌, ◌++◌, ℕ, List, false, length}, specs.List.list_any}
 use Rattle.mg_serve.proofs.incoming.take_bytes.Given as goal
 
 abbrev pub invariant-loop-part : goal.invariant-loop-part

@@ -1,9 +1,5 @@
-use Rattle.std.proofs.Common.{[], ◌∷◌, ◌++◌}
-use Rattle.std.proofs.lemmas.Result.{IfErr-weaker, on_ok_weaker}
-use Rattle.mg_serve.specs.Incoming.{Breaks}
-use Rattle.mg_serve.specs.Machines.{Halts}
-use Rattle.mg_serve.specs.Serving.{Broken, Session}
-use Rattle.mg_serve.proofs.IncomingSteps.{Breaks-line, Goes-line, Goes-on}
+use Rattle.mg_serve.{proofs.IncomingSteps.{Breaks-line, Goes-line, Goes-on}, specs.{Incoming.Breaks, Machines.Halts, Serving.{Broken, Session}}}
+use Rattle.std.proofs.{Common.{[], ◌∷◌, ◌++◌}, lemmas.Result.{IfErr-weaker, on_ok_weaker}}
 use Rattle.mg_serve.proofs.incoming.take_ended.Goals as goal
 
 pub returns-in-None-clause-goes : goal.returns-in-None-clause-goes

@@ -1,15 +1,8 @@
-use Rattle.std.proofs.Common.{◌≡◌, ◌+◌, ◌-◌, ap, arith, subst, take, ℕ}
-use Rattle.mg_faults.specs.Faults.{count_none, count_then}
-use Rattle.mg_model.specs.Lines.{lines}
-use Rattle.mg_serve.specs.Incoming.{Goes}
-use Rattle.mg_serve.specs.Readings.{Stops}
-use Rattle.mg_serve.specs.Machines.{Halts, IsInside}
-use Rattle.mg_serve.specs.Waiting.{Waiting}
-use Rattle.mg_serve.proofs.IncomingSteps.{counts_none, counts_then, keeps_then, on_end}
-use Rattle.mg_serve.proofs.ReadingSteps.{Finishes-last, Reading-more, Reading-none, Stops-bytes, Stops-last, Stops-source, Stops-too_long}
-use Rattle.mg_serve.proofs.Results.{if_err_both, on_ok_both}
-use Rattle.mg_serve.specs.Serving.{Broken, Session}
-use Rattle.mg_serve.proofs.SessionSteps.{Broken-source, Broken-too_long, Session-begins}
+use Rattle.{mg_faults.specs.Faults.{count_none, count_then}, mg_model.specs.Lines.lines, mg_serve.proofs.IncomingSteps.{counts_none, counts_then}}
+use Rattle.mg_serve.proofs.{IncomingSteps.{keeps_then, on_end}, ReadingSteps.{Finishes-last, Reading-more, Reading-none, Stops-bytes, Stops-last}}
+use Rattle.mg_serve.proofs.{ReadingSteps.{Stops-source, Stops-too_long}, Results.{if_err_both, on_ok_both}, SessionSteps.Broken-source}
+use Rattle.mg_serve.{proofs.SessionSteps.{Broken-too_long, Session-begins}, specs.{Incoming.Goes, Machines.{Halts, IsInside}, Readings.Stops}}
+use Rattle.{mg_serve.specs.{Serving.{Broken, Session}, Waiting.Waiting}, std.proofs.Common.{◌≡◌, ◌+◌, ◌-◌, ap, arith, subst, take, ℕ}}
 use Rattle.mg_serve.proofs.reading.serve_lines.Goals as goal
 
 pub pieces-init : goal.pieces-init

@@ -1,8 +1,5 @@
+use Rattle.{mg_faults.specs.Faults.CountGoesOn, mg_serve.{proofs.IncomingSteps.CountsOn, specs.{Readings.Reading, Serving.{IsServing, Session}}}}
 use Rattle.std.proofs.Common.{◌≡◌, ◌-◌, ◌≤◌, length}
-use Rattle.mg_faults.specs.Faults.{CountGoesOn}
-use Rattle.mg_serve.specs.Readings.{Reading}
-use Rattle.mg_serve.proofs.IncomingSteps.{CountsOn}
-use Rattle.mg_serve.specs.Serving.{IsServing, Session}
 use Rattle.mg_serve.proofs.reading.serve_lines.Given as goal
 
 abbrev pub invariant-pieces : goal.invariant-pieces

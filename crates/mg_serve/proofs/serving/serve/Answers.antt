@@ -1,5 +1,4 @@
-use Rattle.mg_serve.specs.Sessions.{use_of}
-use Rattle.mg_serve.proofs.Endings.{session_at_disk, session_done, session_serves}
+use Rattle.mg_serve.{proofs.Endings.{session_at_disk, session_done, session_serves}, specs.Sessions.use_of}
 use Rattle.mg_serve.proofs.serving.serve.Goals as goal
 
 pub returns-clause-serves : goal.returns-clause-serves

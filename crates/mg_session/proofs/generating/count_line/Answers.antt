@@ -1,6 +1,4 @@
-use Rattle.std.proofs.Common.{[], ◌∷◌, ◌++◌}
-use Rattle.std.proofs.lemmas.Result.{on_ok_weaker}
-use Rattle.mg_session.proofs.GeneratedSteps.{Counted-commit, Counted-line}
+use Rattle.{mg_session.proofs.GeneratedSteps.{Counted-commit, Counted-line}, std.proofs.{Common.{[], ◌∷◌, ◌++◌}, lemmas.Result.on_ok_weaker}}
 use Rattle.mg_session.proofs.generating.count_line.Goals as goal
 
 pub returns-then-staged-le-STAGED_LIMIT-clause-counts : goal.returns-then-staged-le-STAGED_LIMIT-clause-counts

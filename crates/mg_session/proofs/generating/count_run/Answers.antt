@@ -1,9 +1,5 @@
-use Rattle.std.proofs.Common.{ap, subst, ◌∙◌, ◌≤◌, ◌+◌}
-use Rattle.mg_gen.specs.Tallies.{tally_of}
-use Rattle.mg_model.specs.Fresh.{fresh}
-use Rattle.mg_model.specs.Warmth.{cost}
-use Rattle.mg_commands.specs.Headline.{replies_from, run_lines}
-use Rattle.mg_commands.specs.GeneratedLemmas.{run_keeps}
+use Rattle.{mg_commands.specs.{GeneratedLemmas.run_keeps, Headline.{replies_from, run_lines}}, mg_gen.specs.Tallies.tally_of}
+use Rattle.{mg_model.specs.{Fresh.fresh, Warmth.cost}, std.proofs.Common.{ap, subst, ◌∙◌, ◌≤◌, ◌+◌}}
 use Rattle.mg_session.proofs.generating.count_run.Goals as goal
 
 pub returns : goal.returns

@@ -1,9 +1,6 @@
-use Rattle.std.proofs.Common.{◌≡◌, Some, arith, refl, subst, ◌∙◌}
-use Rattle.mg_faults.specs.Faults.{count_none, count_then}
-use Rattle.mg_kernel.specs.Meaning.{now_of}
-use Rattle.mg_model.specs.declared.calls.Line.{Line}
-use Rattle.mg_session.specs.Generating.{Counts}
-use Rattle.mg_session.proofs.GeneratedSteps.{Counted-more, Counted-none}
+use Rattle.{mg_faults.specs.Faults.{count_none, count_then}, mg_kernel.specs.Meaning.now_of, mg_model.specs.declared.calls.Line.Line}
+use Rattle.{mg_session.{proofs.GeneratedSteps.{Counted-more, Counted-none}, specs.Generating.Counts}, std.proofs.Common.{◌≡◌, Some, arith, refl}}
+use Rattle.std.proofs.Common.{subst, ◌∙◌}
 use Rattle.mg_session.proofs.generating.tally_lines.Goals as goal
 
 pub loop-k-init : goal.loop-k-init

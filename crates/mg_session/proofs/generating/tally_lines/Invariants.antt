@@ -1,10 +1,5 @@
-use Rattle.std.proofs.Common.{◌≡◌, ◌≤◌}
-use Rattle.std.specs.Prelude.{IsTrue}
-use Rattle.std.specs.Option.{ForSome}
-use Rattle.mg_disk.specs.Stops.{CountGoes}
-use Rattle.mg_kernel.specs.Meaning.{StandsOn, is_live, now_of, staged_of}
-use Rattle.mg_session.specs.Generating.{Counted}
-use Rattle.mg_commands.specs.Headline.{run_lines}
+use Rattle.{mg_commands.specs.Headline.run_lines, mg_disk.specs.Stops.CountGoes, mg_kernel.specs.Meaning.{StandsOn, is_live, now_of, staged_of}}
+use Rattle.{mg_session.specs.Generating.Counted, std.{proofs.Common.{◌≡◌, ◌≤◌}, specs.{Option.ForSome, Prelude.IsTrue}}}
 use Rattle.mg_session.proofs.generating.tally_lines.Given as goal
 
 abbrev pub invariant-loop-k : goal.invariant-loop-k

@@ -1,13 +1,7 @@
-use Rattle.std.specs.Prelude.{Err}
-use Rattle.std.proofs.Common.{ap, refl, subst}
-use Rattle.mg_disk.specs.Stops.{WritesNothing}
-use Rattle.mg_kernel.specs.Meaning.{now_of}
-use Rattle.mg_layout.specs.MayFormat.{IsNoState}
-use Rattle.mg_model.specs.Print.{replies_text}
-use Rattle.mg_model.specs.Step.{after}
-use Rattle.mg_commands.specs.Headline.{IsWithinCost}
-use Rattle.mg_commands.specs.OpeningLemmas.{fault_tells, lines_opened, lines_unopened, no_volume, none_spent, opened_then, traced_cost, unopened, untouched}
-use Rattle.mg_session.proofs.Opened.{opens_as}
+use Rattle.mg_commands.specs.{Headline.IsWithinCost, OpeningLemmas.{fault_tells, lines_opened, lines_unopened, no_volume, none_spent, opened_then}}
+use Rattle.{mg_commands.specs.OpeningLemmas.{traced_cost, unopened, untouched}, mg_disk.specs.Stops.WritesNothing, mg_kernel.specs.Meaning.now_of}
+use Rattle.{mg_layout.specs.MayFormat.IsNoState, mg_model.specs.{Print.replies_text, Step.after}, mg_session.proofs.Opened.opens_as}
+use Rattle.std.{proofs.Common.{ap, refl, subst}, specs.Prelude.Err}
 use Rattle.mg_session.proofs.running.run.Goals as goal
 
 pub returns-in-Ok-clause-keeps : goal.returns-in-Ok-clause-keeps

@@ -1,6 +1,4 @@
-use Rattle.mg_kernel.specs.Meaning.{now_of}
-use Rattle.mg_commands.specs.OpeningLemmas.{traced_cost}
-use Rattle.mg_session.proofs.Results.{on_ok_at}
+use Rattle.{mg_commands.specs.OpeningLemmas.traced_cost, mg_kernel.specs.Meaning.now_of, mg_session.proofs.Results.on_ok_at}
 use Rattle.mg_session.proofs.serving.serve.Goals as goal
 
 pub returns-clause-serves : goal.returns-clause-serves

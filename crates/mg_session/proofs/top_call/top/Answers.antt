@@ -1,5 +1,4 @@
-use Rattle.mg_io.specs.Arguments.{arguments}
-use Rattle.mg_commands.specs.RunLemmas.{run_of-spelled}
+use Rattle.{mg_commands.specs.RunLemmas.run_of-spelled, mg_io.specs.Arguments.arguments}
 use Rattle.mg_session.proofs.top_call.top.Goals as goal
 
 pub returns-in-Dry-clause-run : goal.returns-in-Dry-clause-run

@@ -1,5 +1,4 @@
-use Rattle.mg_show.proofs.Names.{ℕ, ◌+◌, ap, arith, flat_map, last_slots, ThreadRow, slot_arrow, bare, puts_more, puts_same}
-use Rattle.mg_show.proofs.Drawing.{slots-last}
+use Rattle.mg_show.proofs.{Drawing.slots-last, Names.{ℕ, ◌+◌, ap, arith, flat_map, last_slots, ThreadRow, slot_arrow, bare, puts_more, puts_same}}
 use Rattle.mg_show.proofs.graph.put_domains.Goals as goal
 
 pub loop-t-preserved : goal.loop-t-preserved

@@ -1,6 +1,5 @@
-use Rattle.mg_show.proofs.Names.{◌∙◌, arith, get_or, ne_eqb, Slot, bare, puts_none, puts_same, puts_then}
-use Rattle.mg_show.proofs.Drawing.{entries-more, entry-drawn, entry-none}
-use Rattle.mg_show.proofs.graph.put_entries.Goals.{else-slot-ne0, then-slot-ne0}
+use Rattle.mg_show.proofs.{Drawing.{entries-more, entry-drawn, entry-none}, Names.{◌∙◌, arith, get_or, ne_eqb, Slot, bare, puts_none, puts_same}}
+use Rattle.mg_show.proofs.{Names.puts_then, graph.put_entries.Goals.{else-slot-ne0, then-slot-ne0}}
 use Rattle.mg_show.proofs.graph.put_entries.Goals as goal
 
 pub loop-slot-preserved : goal.loop-slot-preserved

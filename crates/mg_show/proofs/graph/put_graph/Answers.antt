@@ -1,5 +1,4 @@
-use Rattle.mg_show.proofs.Names.{arith, of_same}
-use Rattle.mg_show.proofs.Drawing.{dot-told}
+use Rattle.mg_show.proofs.{Drawing.dot-told, Names.{arith, of_same}}
 use Rattle.mg_show.proofs.graph.put_graph.Goals as goal
 
 pub returns : goal.returns

@@ -1,6 +1,6 @@
-use Rattle.mg_show.proofs.Names.{◌&&◌, ◌≡◌, ◌∙◌, ℕ, Bool, List, Slot, ap, named_by, of_behind, true, false, sym, arith, slice_index, Image, R, has_right, entries_drawn, listed, lists_ranked, is_within, of_all, of_put, of_same, of_then, puts_none}
-use Rattle.mg_show.proofs.ByPlaces.{places-next}
-use Rattle.mg_show.proofs.graph.put_lists.Goals.{else-is_within-has_r, then-is_within-has_r}
+use Rattle.mg_show.proofs.{ByPlaces.places-next, Names.{◌&&◌, ◌≡◌, ◌∙◌, ℕ, Bool, List, Slot, ap, named_by, of_behind, true, false, sym, arith}}
+use Rattle.mg_show.proofs.Names.{slice_index, Image, R, has_right, entries_drawn, listed, lists_ranked, is_within, of_all, of_put, of_same, of_then}
+use Rattle.mg_show.proofs.{Names.puts_none, graph.put_lists.Goals.{else-is_within-has_r, then-is_within-has_r}}
 use Rattle.mg_show.proofs.graph.put_lists.Goals as goal
 
 pub loop-i-init : goal.loop-i-init

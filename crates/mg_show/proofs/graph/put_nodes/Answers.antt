@@ -1,8 +1,6 @@
-use Rattle.mg_show.proofs.Names.{◌+◌, ◌∙◌, ◌≡◌, Bool, true, false, sym, arith, slice_index, R, has_right, is_within, puts_none, puts_same, puts_then}
-use Rattle.mg_show.specs.DotText.{object_node}
-use Rattle.mg_show.specs.Drawn.{shape}
-use Rattle.mg_show.proofs.ByPlaces.{places-next}
-use Rattle.mg_show.proofs.graph.put_nodes.Goals.{else-is_within, then-is_within}
+use Rattle.mg_show.proofs.{ByPlaces.places-next, Names.{◌+◌, ◌∙◌, ◌≡◌, Bool, true, false, sym, arith, slice_index, R, has_right, is_within}}
+use Rattle.mg_show.proofs.{Names.{puts_none, puts_same, puts_then}, graph.put_nodes.Goals.{else-is_within, then-is_within}}
+use Rattle.mg_show.specs.{DotText.object_node, Drawn.shape}
 use Rattle.mg_show.proofs.graph.put_nodes.Goals as goal
 
 pub loop-i-preserved : goal.loop-i-preserved

@@ -1,7 +1,4 @@
-use Rattle.mg_show.proofs.Names.{arith, refl, bases_of}
-use Rattle.mg_show.specs.WritingLemmas.{of_after}
-use Rattle.mg_show.proofs.Drawing.{part-told}
-use Rattle.mg_show.proofs.Walking.{ranked-first}
+use Rattle.mg_show.{proofs.{Drawing.part-told, Names.{arith, refl, bases_of}, Walking.ranked-first}, specs.WritingLemmas.of_after}
 use Rattle.mg_show.proofs.graph.put_part.Goals as goal
 
 pub returns : goal.returns

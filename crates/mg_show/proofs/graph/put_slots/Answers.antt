@@ -1,5 +1,4 @@
-use Rattle.mg_show.proofs.Names.{arith, ◌∙◌, get_or, Slot, slot_arrow, bare, flat_more, puts_same, puts_then}
-use Rattle.mg_show.proofs.Drawing.{slot-drawn}
+use Rattle.mg_show.proofs.{Drawing.slot-drawn, Names.{arith, ◌∙◌, get_or, Slot, slot_arrow, bare, flat_more, puts_same, puts_then}}
 use Rattle.mg_show.proofs.graph.put_slots.Goals as goal
 
 pub loop-slot-preserved : goal.loop-slot-preserved

@@ -1,6 +1,5 @@
-use Rattle.mg_show.proofs.Names.{ℕ, ◌+◌, ◌<◌, ◌==◌, [], All, None, Some, find, map, ap, subst, sym, ◌∙◌, All-cons, All-nil, thread_limit, ThreadRow}
-use Rattle.mg_show.proofs.Names.{part_text, bases_of, numbered, state_shown, of_same}
-use Rattle.mg_show.proofs.Drawing.{found-all, slots-last, thread-told}
+use Rattle.mg_show.proofs.{Drawing.{found-all, slots-last, thread-told}, Names.{ℕ, ◌+◌, ◌<◌, ◌==◌, [], All, None, Some, find, map, ap, subst, sym}}
+use Rattle.mg_show.proofs.Names.{◌∙◌, All-cons, All-nil, thread_limit, ThreadRow, part_text, bases_of, numbered, state_shown, of_same}
 use Rattle.mg_show.proofs.graph.put_thread_part.Goals as goal
 
 pub put_part-requires-clause-places : goal.put_part-requires-clause-places

@@ -1,5 +1,4 @@
-use Rattle.mg_show.proofs.Names.{◌≡◌, ℕ, List, [], ◌∷◌, ◌++◌, append_assoc, arith, codes, object_name, quoted}
-use Rattle.mg_show.specs.DotText.{object_label}
+use Rattle.mg_show.{proofs.Names.{◌≡◌, ℕ, List, [], ◌∷◌, ◌++◌, append_assoc, arith, codes, object_name, quoted}, specs.DotText.object_label}
 use Rattle.mg_show.specs.Drawn.{shape}
 use Rattle.mg_show.proofs.graph_lines.print_object_node.Goals as goal
 

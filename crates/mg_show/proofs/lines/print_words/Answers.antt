@@ -1,5 +1,4 @@
-use Rattle.mg_show.proofs.Names.{◌∷◌, ◌++◌, [], get_or, ap, ◌∙◌, arith, hex_text, spaced}
-use Rattle.mg_show.proofs.WordTexts.{spaced-more}
+use Rattle.mg_show.proofs.{Names.{◌∷◌, ◌++◌, [], get_or, ap, ◌∙◌, arith, hex_text, spaced}, WordTexts.spaced-more}
 use Rattle.mg_show.proofs.lines.print_words.Goals as goal
 
 pub loop-word-preserved : goal.loop-word-preserved

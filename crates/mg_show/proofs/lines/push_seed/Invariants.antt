@@ -1,5 +1,4 @@
-use Rattle.mg_show.proofs.Names.{◌≡◌, ◌+◌, ◌*◌, ◌≤◌, ◌++◌, take, array_vec_len}
-use Rattle.mg_show.specs.StateText.{seed_text}
+use Rattle.mg_show.{proofs.Names.{◌≡◌, ◌+◌, ◌*◌, ◌≤◌, ◌++◌, take, array_vec_len}, specs.StateText.seed_text}
 use Rattle.mg_show.proofs.lines.push_seed.Given as goal
 
 abbrev pub invariant-loop-byte : goal.invariant-loop-byte

@@ -1,5 +1,4 @@
-use Rattle.mg_show.proofs.Names.{◌∷◌, ◌++◌, [], get_or, ap, ◌∙◌, arith, spaced, step_text}
-use Rattle.mg_show.proofs.WordTexts.{spaced-more}
+use Rattle.mg_show.proofs.{Names.{◌∷◌, ◌++◌, [], get_or, ap, ◌∙◌, arith, spaced, step_text}, WordTexts.spaced-more}
 use Rattle.mg_show.proofs.lines.push_steps.Goals as goal
 
 pub loop-step-preserved : goal.loop-step-preserved

@@ -1,7 +1,5 @@
-use Rattle.mg_show.proofs.Names.{◌&&◌, ◌==◌, ◌≡◌, ℕ, List, Bool, arith, sym, ◌∙◌, true, false, slice_index, Image, R, has_right}
-use Rattle.mg_show.proofs.Learning.{found_list, found_none, learns_then}
-use Rattle.mg_show.proofs.Walking.{listed-next}
-use Rattle.mg_show.proofs.marks.go_on.Goals.{else-ranks-i, then-ranks-i}
+use Rattle.mg_show.proofs.{Learning.{found_list, found_none, learns_then}, Names.{◌&&◌, ◌==◌, ◌≡◌, ℕ, List, Bool, arith, sym, ◌∙◌, true, false}}
+use Rattle.mg_show.proofs.{Names.{slice_index, Image, R, has_right}, Walking.listed-next, marks.go_on.Goals.{else-ranks-i, then-ranks-i}}
 use Rattle.mg_show.proofs.marks.go_on.Goals as goal
 
 pub loop-i-preserved : goal.loop-i-preserved

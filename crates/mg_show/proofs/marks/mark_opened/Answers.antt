@@ -1,6 +1,5 @@
-use Rattle.mg_show.proofs.Names.{◌||◌, slice_index_or, List, ℕ, ◌≤◌, arith, flat_map, length, ◌∙◌, take_all, R, holds}
+use Rattle.mg_show.proofs.{Drawing.all-given, Names.{◌||◌, slice_index_or, List, ℕ, ◌≤◌, arith, flat_map, length, ◌∙◌, take_all, R, holds}}
 use Rattle.mg_show.proofs.Names.{last_slots, has_right, ThreadRow, given, named_by}
-use Rattle.mg_show.proofs.Drawing.{all-given}
 use Rattle.mg_show.proofs.marks.mark_opened.Goals as goal
 
 abbrev named : ℕ × ThreadRow → List (ℕ × ℕ)

@@ -1,6 +1,5 @@
-use Rattle.mg_show.proofs.Names.{[], ◌∷◌, ◌≢◌, All, List, ℕ, ◌∙◌, arith, get_or, subst, ObjectRow, Slot, IsPlaceOf, Marks, gives_rank, is_within}
-use Rattle.mg_show.proofs.Marked.{marks_more, marks_no, marks_one}
-use Rattle.mg_show.proofs.marks.rank.Goals.{in-None, in-Some}
+use Rattle.mg_show.proofs.{Marked.{marks_more, marks_no, marks_one}, Names.{[], ◌∷◌, ◌≢◌, All, List, ℕ, ◌∙◌, arith, get_or, subst, ObjectRow, Slot}}
+use Rattle.mg_show.proofs.{Names.{IsPlaceOf, Marks, gives_rank, is_within}, marks.rank.Goals.{in-None, in-Some}}
 use Rattle.mg_show.proofs.marks.rank.Goals as goal
 
 pub loop-slot-preserved : goal.loop-slot-preserved

@@ -1,6 +1,4 @@
-use Rattle.mg_show.proofs.Names.{[], None, Some, ◌||◌, refl, ◌∙◌, holds}
-use Rattle.mg_show.proofs.Letters.{none-has}
-use Rattle.mg_show.proofs.Listing.{held}
+use Rattle.mg_show.proofs.{Letters.none-has, Listing.held, Names.{[], None, Some, ◌||◌, refl, ◌∙◌, holds}}
 use Rattle.mg_show.proofs.marks.rights_on.Goals as goal
 
 pub returns-in-Some : goal.returns-in-Some

@@ -1,6 +1,4 @@
-use Rattle.mg_show.proofs.Names.{◌+◌, arith, ◌∙◌}
-use Rattle.mg_show.proofs.Learning.{learns_then}
-use Rattle.mg_show.proofs.Walking.{ranked-more}
+use Rattle.mg_show.proofs.{Learning.learns_then, Names.{◌+◌, arith, ◌∙◌}, Walking.ranked-more}
 use Rattle.mg_show.proofs.marks.walk.Goals as goal
 
 pub loop-k-preserved : goal.loop-k-preserved

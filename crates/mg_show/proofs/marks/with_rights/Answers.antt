@@ -1,5 +1,4 @@
-use Rattle.mg_show.proofs.Names.{◌||◌, holds, has_right}
-use Rattle.mg_show.proofs.Letters.{bits-are}
+use Rattle.mg_show.proofs.{Letters.bits-are, Names.{◌||◌, holds, has_right}}
 use Rattle.mg_show.proofs.marks.with_rights.Goals as goal
 
 pub returns : goal.returns

@@ -1,5 +1,5 @@
-use Rattle.mg_show.proofs.Names.{List, length, length-append, ◌<◌, ◌*◌, ◌∷◌, ◌++◌, [], ap, arith, refl, ◌∙◌, map-append, Slot, named_by}
-use Rattle.mg_show.proofs.Listing.{block-entries-more}
+use Rattle.mg_show.proofs.{Listing.block-entries-more, Names.{List, length, length-append, ◌<◌, ◌*◌, ◌∷◌, ◌++◌, [], ap, arith, refl, ◌∙◌, map-append}}
+use Rattle.mg_show.proofs.Names.{Slot, named_by}
 use Rattle.mg_show.proofs.pages.list_in.Goals as goal
 
 pub loop-k-preserved : goal.loop-k-preserved

@@ -1,5 +1,4 @@
-use Rattle.mg_show.proofs.Names.{◌/◌, ap, length, ◌∙◌, pairs_of, page_of, page_words}
-use Rattle.mg_show.proofs.Listing.{list_first}
+use Rattle.mg_show.proofs.{Listing.list_first, Names.{◌/◌, ap, length, ◌∙◌, pairs_of, page_of, page_words}}
 use Rattle.mg_show.proofs.pages.list_of.Goals as goal
 
 pub returns : goal.returns

@@ -1,6 +1,5 @@
-use Rattle.mg_show.proofs.Names.{[], None, Some, ap, if◌then◌else◌, refl, sym, ◌∙◌, R, holds, named_by, listed}
-use Rattle.mg_show.proofs.Learning.{learns_none}
-use Rattle.mg_show.proofs.Listing.{opened}
+use Rattle.mg_show.proofs.{Learning.learns_none, Listing.opened, Names.{[], None, Some, ap, if◌then◌else◌, refl, sym, ◌∙◌, R, holds, named_by}}
+use Rattle.mg_show.proofs.Names.{listed}
 use Rattle.mg_show.proofs.pages.list_under.Goals as goal
 
 pub returns-then-holds : goal.returns-then-holds

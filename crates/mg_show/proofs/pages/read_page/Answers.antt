@@ -1,5 +1,4 @@
-use Rattle.mg_show.proofs.Names.{ap, length, sym, ◌∙◌, first_frame, block_words}
-use Rattle.mg_show.proofs.WordTexts.{page-held}
+use Rattle.mg_show.proofs.{Names.{ap, length, sym, ◌∙◌, first_frame, block_words}, WordTexts.page-held}
 use Rattle.mg_show.proofs.pages.read_page.Goals as goal
 
 pub returns-in-Ok-clause-page : goal.returns-in-Ok-clause-page

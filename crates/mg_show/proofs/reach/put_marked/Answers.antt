@@ -1,5 +1,4 @@
-use Rattle.mg_show.proofs.Names.{ap, ◌∙◌, arith, slice_index, has_right, bits_line, row_reach, puts_same, puts_then}
-use Rattle.mg_show.proofs.ByPlaces.{places-more}
+use Rattle.mg_show.proofs.{ByPlaces.places-more, Names.{ap, ◌∙◌, arith, slice_index, has_right, bits_line, row_reach, puts_same, puts_then}}
 use Rattle.mg_show.proofs.Reaching.{bits-line}
 use Rattle.mg_show.proofs.reach.put_marked.Goals as goal
 

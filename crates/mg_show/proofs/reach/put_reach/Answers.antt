@@ -1,8 +1,6 @@
-use Rattle.mg_show.proofs.Names.{All, ℕ, ◌++◌, ◌≤◌, ◌<◌, ap, arith, flat_map, length, subst, take, ◌∙◌, take_all, IsObjectRow, ObjectRow, AreApart}
-use Rattle.mg_show.proofs.Names.{thread_reached, flat_more, of_behind, of_put, of_same, of_then, puts_none}
-use Rattle.mg_show.proofs.Drawing.{slots-last}
-use Rattle.mg_show.proofs.Reaching.{thread-reached}
-use Rattle.mg_show.proofs.Reaching.{reach_same}
+use Rattle.mg_show.proofs.{Drawing.slots-last, Names.{All, ℕ, ◌++◌, ◌≤◌, ◌<◌, ap, arith, flat_map, length, subst, take, ◌∙◌, take_all, IsObjectRow}}
+use Rattle.mg_show.proofs.Names.{ObjectRow, AreApart, thread_reached, flat_more, of_behind, of_put, of_same, of_then, puts_none}
+use Rattle.mg_show.proofs.Reaching.{thread-reached, reach_same}
 use Rattle.mg_show.proofs.reach.put_reach.Goals as goal
 
 pub loop-i-init : goal.loop-i-init

@@ -1,5 +1,4 @@
-use Rattle.mg_show.proofs.Names.{◌+◌, arith, pages_at, AccRow, puts_same, puts_then}
-use Rattle.mg_show.proofs.TextTold.{accounts-next}
+use Rattle.mg_show.proofs.{Names.{◌+◌, arith, pages_at, AccRow, puts_same, puts_then}, TextTold.accounts-next}
 use Rattle.mg_show.proofs.state.put_accounts.Goals as goal
 
 -- in the place of no account

@@ -1,7 +1,6 @@
-use Rattle.mg_show.proofs.Names.{◌≡◌, ◌+◌, ◌*◌, ◌∙◌, ap, arith, length, sym, Image, words_read, words_text, of_behind, of_put, of_same, of_then, puts_none}
-use Rattle.mg_show.specs.WordText.{block_text, page_text, pages_text}
-use Rattle.mg_show.proofs.WordTexts.{pages_text-more, pages_text-none, words_text-zeros}
-use Rattle.mg_show.proofs.state.put_pages.Goals.{else-read_page, then-read_page}
+use Rattle.mg_show.proofs.Names.{◌≡◌, ◌+◌, ◌*◌, ◌∙◌, ap, arith, length, sym, Image, words_read, words_text, of_behind, of_put, of_same, of_then}
+use Rattle.mg_show.proofs.{Names.puts_none, WordTexts.{pages_text-more, pages_text-none, words_text-zeros}, state.put_pages.Goals.else-read_page}
+use Rattle.mg_show.{proofs.state.put_pages.Goals.then-read_page, specs.WordText.{block_text, page_text, pages_text}}
 use Rattle.mg_show.proofs.state.put_pages.Goals as goal
 
 pub loop-i-init : goal.loop-i-init

@@ -1,5 +1,4 @@
-use Rattle.mg_show.proofs.Names.{length, held_in, PutsOf}
-use Rattle.mg_show.specs.WordText.{pages_text}
+use Rattle.mg_show.{proofs.Names.{length, held_in, PutsOf}, specs.WordText.pages_text}
 use Rattle.mg_show.proofs.state.put_pages.Given as goal
 
 -- the words of the pages before this one are put

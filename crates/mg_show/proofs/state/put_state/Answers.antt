@@ -1,5 +1,5 @@
-use Rattle.mg_show.proofs.Names.{ℕ, ap, ◌∙◌, codes, flat_map, line, map, step_text, ThreadRow, numbered, thread_text, of_put, of_same, of_then, puts_same, puts_then}
-use Rattle.mg_show.proofs.TextTold.{text-told}
+use Rattle.mg_show.proofs.Names.{ℕ, ap, ◌∙◌, codes, flat_map, line, map, step_text, ThreadRow, numbered, thread_text, of_put, of_same, of_then}
+use Rattle.mg_show.proofs.{Names.{puts_same, puts_then}, TextTold.text-told}
 use Rattle.mg_show.proofs.state.put_state.Goals as goal
 
 pub returns : goal.returns

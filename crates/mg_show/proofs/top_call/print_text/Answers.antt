@@ -1,5 +1,4 @@
-use Rattle.mg_show.proofs.Names.{sym, ◌∙◌}
-use Rattle.mg_commands.specs.OpeningLemmas.{fault_tells, unopened_without}
+use Rattle.{mg_commands.specs.OpeningLemmas.{fault_tells, unopened_without}, mg_show.proofs.Names.{sym, ◌∙◌}}
 use Rattle.mg_show.proofs.top_call.print_text.Goals as goal
 
 pub show_rows-requires-clause-told : goal.show_rows-requires-clause-told

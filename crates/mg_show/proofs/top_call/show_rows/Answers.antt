@@ -1,11 +1,6 @@
-use Rattle.mg_show.proofs.Names.{ap, arith, subst, sym, ◌∙◌, Fits, thread_limit, text_of, state_shown}
-use Rattle.mg_check.specs.Reads.{CanRead}
-use Rattle.mg_rules.specs.RowsRead.{ArePlaced}
-use Rattle.mg_journal.specs.Looked.{Placed}
-use Rattle.mg_serve.specs.declared.status.Status.{Status}
-use Rattle.mg_show.specs.Putting.{ShowsRows}
-use Rattle.mg_show.proofs.RowsShown.{not_shown, rows_shown}
-use Rattle.mg_show.proofs.TextTold.{state-told}
+use Rattle.{mg_check.specs.Reads.CanRead, mg_journal.specs.Looked.Placed, mg_rules.specs.RowsRead.ArePlaced}
+use Rattle.{mg_serve.specs.declared.status.Status.Status, mg_show.proofs.Names.{ap, arith, subst, sym, ◌∙◌, Fits, thread_limit, text_of, state_shown}}
+use Rattle.mg_show.{proofs.{RowsShown.{not_shown, rows_shown}, TextTold.state-told}, specs.Putting.ShowsRows}
 use Rattle.mg_show.proofs.top_call.show_rows.Goals as goal
 
 pub put_text-requires-clause-placed : goal.put_text-requires-clause-placed

@@ -1,6 +1,4 @@
-use Rattle.std.proofs.Common.{ap, arith}
-use Rattle.mg_model.specs.State.{ObjectRow}
-use Rattle.mg_space.proofs.Paid.{added}
+use Rattle.{mg_model.specs.State.ObjectRow, mg_space.proofs.Paid.added, std.proofs.Common.{ap, arith}}
 use Rattle.mg_space.proofs.paying.add.Goals as goal
 
 pub returns-clause-pages : goal.returns-clause-pages

@@ -1,9 +1,5 @@
+use Rattle.{mg_model.specs.{Abbreviations.no_row, State.ObjectRow}, mg_space.{proofs.{Paid.{paid-few, paid-more}, Spans.sum-part}, specs.Space.share}}
 use Rattle.std.proofs.Common.{◌+◌, ◌<◌, ◌∙◌, ℕ, ap, arith, length, sym, take}
-use Rattle.mg_model.specs.Abbreviations.{no_row}
-use Rattle.mg_model.specs.State.{ObjectRow}
-use Rattle.mg_space.specs.Space.{share}
-use Rattle.mg_space.proofs.Paid.{paid-few, paid-more}
-use Rattle.mg_space.proofs.Spans.{sum-part}
 use Rattle.mg_space.proofs.paying.bill.Goals as goal
 
 pub add-requires : goal.add-requires

@@ -1,6 +1,4 @@
-use Rattle.std.proofs.Common.{◌≡◌, ℕ, take}
-use Rattle.mg_bank.specs.Bank.{pages_at}
-use Rattle.mg_space.specs.Space.{paid_by}
+use Rattle.{mg_bank.specs.Bank.pages_at, mg_space.specs.Space.paid_by, std.proofs.Common.{◌≡◌, ℕ, take}}
 use Rattle.mg_space.proofs.paying.bill.Given as goal
 
 abbrev pub invariant-loop-i : goal.invariant-loop-i

@@ -1,7 +1,4 @@
-use Rattle.std.proofs.Common.{ap, arith}
-use Rattle.mg_bank.specs.Bank.{pages_at}
-use Rattle.mg_model.specs.State.{ObjectRow}
-use Rattle.mg_space.proofs.Paid.{subtracted}
+use Rattle.{mg_bank.specs.Bank.pages_at, mg_model.specs.State.ObjectRow, mg_space.proofs.Paid.subtracted, std.proofs.Common.{ap, arith}}
 use Rattle.mg_space.proofs.paying.subtract.Goals as goal
 
 pub returns-clause-pages : goal.returns-clause-pages

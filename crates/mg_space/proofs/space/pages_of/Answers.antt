@@ -1,7 +1,5 @@
-use Rattle.std.proofs.Common.{◌+◌, ◌<◌, ℕ, arith, length}
-use Rattle.mg_model.specs.Abbreviations.{no_row}
-use Rattle.mg_model.specs.State.{ObjectRow}
-use Rattle.mg_space.proofs.Spans.{sum-more, sum-part}
+use Rattle.{mg_model.specs.{Abbreviations.no_row, State.ObjectRow}, mg_space.proofs.Spans.{sum-more, sum-part}, std.proofs.Common.{◌+◌, ◌<◌, ℕ}}
+use Rattle.std.proofs.Common.{arith, length}
 use Rattle.mg_space.proofs.space.pages_of.Goals as goal
 
 pub overflow_add-used : goal.overflow_add-used

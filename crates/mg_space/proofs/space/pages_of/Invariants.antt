@@ -1,5 +1,4 @@
-use Rattle.std.proofs.Common.{◌≡◌, ℕ, sum_by, take}
-use Rattle.mg_model.specs.State.{ObjectRow}
+use Rattle.{mg_model.specs.State.ObjectRow, std.proofs.Common.{◌≡◌, ℕ, sum_by, take}}
 use Rattle.mg_space.proofs.space.pages_of.Given as goal
 
 abbrev pub invariant-loop-i : goal.invariant-loop-i

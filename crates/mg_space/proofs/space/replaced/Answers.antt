@@ -1,7 +1,5 @@
-use Rattle.std.proofs.Common.{◌≡◌, ◌==◌, ◌∙◌, ℕ, ap, false, sym, true}
+use Rattle.{mg_model.specs.State.ObjectRow, mg_space.proofs.Paid.none-found, std.proofs.Common.{◌≡◌, ◌==◌, ◌∙◌, ℕ, ap, false, sym, true}}
 use Rattle.std.specs.List.{list_any}
-use Rattle.mg_model.specs.State.{ObjectRow}
-use Rattle.mg_space.proofs.Paid.{none-found}
 use Rattle.mg_space.proofs.space.replaced.Goals as goal
 
 pub unreachable-requires : goal.unreachable-requires

@@ -1,10 +1,6 @@
-use Rattle.std.proofs.Common.{◌≡◌, ◌∙◌, ◌<◌, ◌++◌, ◌∷◌, [], ℕ, List, ap, arith, if◌then◌else◌, is_ok, length, rules, subst, sym, take, true}
-use Rattle.std.proofs.lemmas.List.{take_all}
-use Rattle.mg_model.specs.Abbreviations.{no_row}
-use Rattle.mg_model.specs.State.{ObjectRow}
-use Rattle.mg_ranges.specs.Gaps.{AreTaken}
-use Rattle.mg_space.specs.Space.{spans_in}
-use Rattle.mg_space.proofs.Spans.{spans-more, taken-spans}
+use Rattle.{mg_model.specs.{Abbreviations.no_row, State.ObjectRow}, mg_ranges.specs.Gaps.AreTaken, mg_space.proofs.Spans.{spans-more, taken-spans}}
+use Rattle.{mg_space.specs.Space.spans_in, std.proofs.Common.{◌≡◌, ◌∙◌, ◌<◌, ◌++◌, ◌∷◌, [], ℕ, List, ap, arith, if◌then◌else◌, is_ok, length, rules}}
+use Rattle.std.proofs.{Common.{subst, sym, take, true}, lemmas.List.take_all}
 use Rattle.mg_space.proofs.space.spans.Goals as goal
 
 pub loop-i-preserved : goal.loop-i-preserved

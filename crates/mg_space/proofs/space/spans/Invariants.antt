@@ -1,5 +1,4 @@
-use Rattle.std.proofs.Common.{◌≡◌, take}
-use Rattle.mg_space.specs.Space.{spans_in}
+use Rattle.{mg_space.specs.Space.spans_in, std.proofs.Common.{◌≡◌, take}}
 use Rattle.mg_space.proofs.space.spans.Given as goal
 
 abbrev pub invariant-loop-i : goal.invariant-loop-i

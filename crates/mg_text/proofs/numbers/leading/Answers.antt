@@ -1,14 +1,9 @@
-use Rattle.std.proofs.Common.{◌<◌, inl, inr, get_or, length, min, ◌+◌, ◌*◌, ◌^◌, ◌≤◌, ap, option_map, rules, subst, sym, ◌∙◌, drop, arith}
-use Rattle.std.specs.Prelude.{is_some}
-use Rattle.std.specs.List.{prefix_len}
-use Rattle.std.proofs.lemmas.Bool.{ltb-true}
-use Rattle.std.proofs.lemmas.List.Sums.{prefix_len-drop_no}
-use Rattle.mg_model.specs.Abbreviations.{below_word}
-use Rattle.mg_model.specs.Words.{digit_of, value_from}
-use Rattle.mg_text.specs.Fronts.{digits_front}
-use Rattle.mg_text.proofs.Leads.{front-digit, front-large, front-more, front-none, front-past}
-use Rattle.mg_text.proofs.Values.{below_word-none, below_word-some, hex-more, hex-room}
+use Rattle.{mg_model.specs.{Abbreviations.below_word, Words.{digit_of, value_from}}, mg_text.proofs.Leads.{front-digit, front-large, front-more}}
+use Rattle.mg_text.proofs.{Leads.{front-none, front-past}, Values.{below_word-none, below_word-some, hex-more, hex-room}}
 use Rattle.mg_text.proofs.numbers.leading.Goals.{else-count-eq0, else-loop-i-test, then-count-eq0, then-loop-i-test+in-None}
+use Rattle.{mg_text.specs.Fronts.digits_front, std.proofs.Common.{◌<◌, inl, inr, get_or, length, min, ◌+◌, ◌*◌, ◌^◌, ◌≤◌, ap, option_map, rules}}
+use Rattle.std.{proofs.{Common.{subst, sym, ◌∙◌, drop, arith}, lemmas.{Bool.ltb-true, List.Sums.prefix_len-drop_no}}, specs.List.prefix_len}
+use Rattle.std.specs.Prelude.{is_some}
 use Rattle.mg_text.proofs.numbers.leading.Goals as goal
 
 pub returns-in_err-n-in-Some-clause-number : goal.returns-in_err-n-in-Some-clause-number

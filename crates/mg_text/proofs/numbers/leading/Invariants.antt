@@ -1,9 +1,5 @@
-use Rattle.std.proofs.Common.{◌≡◌, ◌+◌, ◌<◌, ◌^◌, drop}
-use Rattle.std.specs.Prelude.{is_some}
-use Rattle.std.specs.List.{prefix_len}
-use Rattle.mg_model.specs.Abbreviations.{below_word}
-use Rattle.mg_model.specs.Words.{digit_of, value_from}
-use Rattle.mg_text.specs.Fronts.{digits_front}
+use Rattle.{mg_model.specs.{Abbreviations.below_word, Words.{digit_of, value_from}}, mg_text.specs.Fronts.digits_front, std.proofs.Common.{◌≡◌, ◌+◌}}
+use Rattle.std.{proofs.Common.{◌<◌, ◌^◌, drop}, specs.{List.prefix_len, Prelude.is_some}}
 use Rattle.mg_text.proofs.numbers.leading.Given as goal
 
 -- what was read and the digits that are left spell what all spell

@@ -1,8 +1,5 @@
-use Rattle.std.proofs.Common.{sym, ◌∙◌}
-use Rattle.mg_model.specs.Abbreviations.{below_word}
-use Rattle.mg_model.specs.Words.{value_of_digits}
-use Rattle.mg_text.specs.Fronts.{before_blank, from_blank}
-use Rattle.mg_text.proofs.Firsts.{behind-words, first-decimal, first-hexadecimal}
+use Rattle.{mg_model.specs.{Abbreviations.below_word, Words.value_of_digits}, mg_text.proofs.Firsts.{behind-words, first-decimal, first-hexadecimal}}
+use Rattle.{mg_text.specs.Fronts.{before_blank, from_blank}, std.proofs.Common.{sym, ◌∙◌}}
 use Rattle.mg_text.proofs.numbers.next_number.Goals as goal
 
 pub returns-in-Some : goal.returns-in-Some

@@ -1,8 +1,5 @@
-use Rattle.std.proofs.Common.{◌≡◌, ◌<◌, ap, sym, ◌∙◌, not, option_map, arith}
-use Rattle.std.specs.List.{prefix_len}
-use Rattle.std.proofs.lemmas.Bool.Decides.{nat_tests}
-use Rattle.mg_model.specs.Words.{is_blank}
-use Rattle.mg_text.proofs.Leads.{blank-here, blank-later, blank-none}
+use Rattle.{mg_model.specs.Words.is_blank, mg_text.proofs.Leads.{blank-here, blank-later, blank-none}, std.proofs.Common.{◌≡◌, ◌<◌, ap, sym, ◌∙◌}}
+use Rattle.std.{proofs.{Common.{not, option_map, arith}, lemmas.Bool.Decides.nat_tests}, specs.List.prefix_len}
 use Rattle.mg_text.proofs.numbers.until_blank.Goals as goal
 
 pub returns-in_err-n : goal.returns-in_err-n

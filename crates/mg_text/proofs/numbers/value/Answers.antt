@@ -1,5 +1,4 @@
-use Rattle.std.proofs.Common.{sym, ◌∙◌, arith}
-use Rattle.mg_text.proofs.Leads.{word-no, word-not}
+use Rattle.{mg_text.proofs.Leads.{word-no, word-not}, std.proofs.Common.{sym, ◌∙◌, arith}}
 use Rattle.mg_text.proofs.numbers.value.Goals as goal
 
 pub returns-in_err-n : goal.returns-in_err-n

@@ -1,6 +1,5 @@
-use Rattle.std.proofs.Common.{◌≡◌, ◌+◌, ◌-◌, ◌*◌, ◌/◌, ◌++◌, ◌∙◌, drop, subst, rules, arith}
-use Rattle.mg_model.specs.Print.{hex_digits}
-use Rattle.mg_text.proofs.Texts.{digits_more}
+use Rattle.{mg_model.specs.Print.hex_digits, mg_text.proofs.Texts.digits_more, std.proofs.Common.{◌≡◌, ◌+◌, ◌-◌, ◌*◌, ◌/◌, ◌++◌, ◌∙◌, drop, subst}}
+use Rattle.std.proofs.Common.{rules, arith}
 use Rattle.mg_text.proofs.replies.hex_digits.Goals as goal
 
 pub loop-i-preserved : goal.loop-i-preserved

@@ -1,5 +1,4 @@
-use Rattle.std.proofs.Common.{◌≡◌, ◌++◌, ◌-◌, ◌*◌, drop, length}
-use Rattle.mg_model.specs.Print.{hex_digits}
+use Rattle.{mg_model.specs.Print.hex_digits, std.proofs.Common.{◌≡◌, ◌++◌, ◌-◌, ◌*◌, drop, length}}
 use Rattle.mg_text.proofs.replies.hex_digits.Given as goal
 
 -- what is left of the word has the digits before those that are written

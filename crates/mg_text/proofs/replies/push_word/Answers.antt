@@ -1,6 +1,4 @@
-use Rattle.std.proofs.Common.{◌++◌, ap, ◌∙◌}
-use Rattle.mg_model.specs.Print.{hex_digits}
-use Rattle.mg_text.proofs.Texts.{word_after}
+use Rattle.{mg_model.specs.Print.hex_digits, mg_text.proofs.Texts.word_after, std.proofs.Common.{◌++◌, ap, ◌∙◌}}
 use Rattle.mg_text.proofs.replies.push_word.Goals as goal
 
 pub returns-clause-text : goal.returns-clause-text

@@ -1,6 +1,4 @@
-use Rattle.std.proofs.Common.{◌++◌, get_or, ap, ◌∙◌, [], ◌∷◌, arith}
-use Rattle.mg_model.specs.Print.{hex_text, spaced}
-use Rattle.mg_text.proofs.Texts.{words_more}
+use Rattle.{mg_model.specs.Print.{hex_text, spaced}, mg_text.proofs.Texts.words_more, std.proofs.Common.{◌++◌, get_or, ap, ◌∙◌, [], ◌∷◌, arith}}
 use Rattle.mg_text.proofs.replies.push_words.Goals as goal
 
 pub loop-w-preserved : goal.loop-w-preserved

@@ -1,6 +1,4 @@
-use Rattle.std.proofs.Common.{◌≡◌, ◌+◌, ◌*◌, ◌≤◌, ◌++◌, map, take}
-use Rattle.arrayvec.specs.ArrayVec.{array_vec_len}
-use Rattle.mg_model.specs.Print.{hex_text, spaced}
+use Rattle.{arrayvec.specs.ArrayVec.array_vec_len, mg_model.specs.Print.{hex_text, spaced}, std.proofs.Common.{◌≡◌, ◌+◌, ◌*◌, ◌≤◌, ◌++◌, map, take}}
 use Rattle.mg_text.proofs.replies.push_words.Given as goal
 
 abbrev pub invariant-loop-w : goal.invariant-loop-w

@@ -1,7 +1,5 @@
-use Rattle.std.proofs.Common.{◌≡◌, ◌+◌, ◌%◌, set, arith, length-set}
-use Rattle.std.proofs.lemmas.List.{set_comm, drop-set}
-use Rattle.mg_model.specs.Print.{hex_digit}
-use Rattle.mg_text.proofs.Tables.{first-of-pair, second-of-pair}
+use Rattle.{mg_model.specs.Print.hex_digit, mg_text.proofs.Tables.{first-of-pair, second-of-pair}, std.proofs.Common.{◌≡◌, ◌+◌, ◌%◌, set, arith}}
+use Rattle.std.proofs.{Common.length-set, lemmas.List.{set_comm, drop-set}}
 use Rattle.mg_text.proofs.replies.put_pair.Goals as goal
 
 pub returns-clause-pair : goal.returns-clause-pair

@@ -1,6 +1,4 @@
-use Rattle.std.proofs.Common.{◌≡◌, rules}
-use Rattle.mg_model.specs.Print.{hex_digits}
-use Rattle.mg_text.proofs.Texts.{word_line}
+use Rattle.{mg_model.specs.Print.hex_digits, mg_text.proofs.Texts.word_line, std.proofs.Common.{◌≡◌, rules}}
 use Rattle.mg_text.proofs.replies.value_line.Goals as goal
 
 pub returns : goal.returns

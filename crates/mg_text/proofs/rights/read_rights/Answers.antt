@@ -1,5 +1,5 @@
-use Rattle.std.proofs.Common.{refl, sym, ◌∙◌, arith}
 use Rattle.mg_text.proofs.Letters.{bit-free, rights_from-none, rights_from-twice, rights_from-more, rights_of-some, rights-made, bit-some}
+use Rattle.std.proofs.Common.{refl, sym, ◌∙◌, arith}
 use Rattle.mg_text.proofs.rights.read_rights.Goals as goal
 
 pub loop-b-init : goal.loop-b-init

@@ -1,5 +1,4 @@
-use Rattle.std.proofs.Common.{◌≡◌, ◌<◌, ◌≤◌, drop}
-use Rattle.mg_model.specs.StepwiseLemmas.{rights_from}
+use Rattle.{mg_model.specs.StepwiseLemmas.rights_from, std.proofs.Common.{◌≡◌, ◌<◌, ◌≤◌, drop}}
 use Rattle.mg_text.proofs.rights.read_rights.Given as goal
 
 abbrev pub invariant-loop-b : goal.invariant-loop-b

@@ -1,5 +1,4 @@
-use Rattle.std.proofs.Common.{◌≡◌, drop, length}
-use Rattle.mg_model.specs.Words.{same_bytes}
+use Rattle.{mg_model.specs.Words.same_bytes, std.proofs.Common.{◌≡◌, drop, length}}
 use Rattle.mg_text.proofs.words.is_word.Given as goal
 
 -- the words are the same if what is left of them is

@@ -1,7 +1,5 @@
-use Rattle.std.proofs.Common.{◌≡◌, ◌<◌, arith}
+use Rattle.{mg_model.specs.Words.is_blank, mg_text.specs.PieceLemmas.{pieces-found, pieces-lacking}, std.proofs.Common.{◌≡◌, ◌<◌, arith}}
 use Rattle.std.proofs.lemmas.Bool.Decides.{nat_tests}
-use Rattle.mg_model.specs.Words.{is_blank}
-use Rattle.mg_text.specs.PieceLemmas.{pieces-found, pieces-lacking}
 use Rattle.mg_text.proofs.words.next_word.Goals as goal
 
 pub returns-then-is_empty-clause-none : goal.returns-then-is_empty-clause-none

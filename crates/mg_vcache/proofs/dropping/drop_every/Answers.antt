@@ -1,10 +1,6 @@
-use Rattle.std.proofs.Common.{◌≡◌, ◌<◌, None, get_or, subst, sym, ap, ◌∙◌, slice_set}
-use Rattle.std.proofs.lemmas.List.{get_or_default}
-use Rattle.std.proofs.lemmas.List.Edits.{map_over_more}
-use Rattle.mg_model.specs.Backed.{by_each}
-use Rattle.mg_vcache.specs.Seats.{unless_ended}
-use Rattle.mg_vcache.proofs.Dropped.{none_of_each, none_left}
-use Rattle.mg_vcache.proofs.dropping.drop_every.Goals.{then-is_some, else-is_some}
+use Rattle.{mg_model.specs.Backed.by_each, mg_vcache.proofs.{Dropped.{none_of_each, none_left}, dropping.drop_every.Goals.then-is_some}}
+use Rattle.{mg_vcache.{proofs.dropping.drop_every.Goals.else-is_some, specs.Seats.unless_ended}, std.proofs.Common.{◌≡◌, ◌<◌, None, get_or, subst}}
+use Rattle.std.proofs.{Common.{sym, ap, ◌∙◌, slice_set}, lemmas.List.{get_or_default, Edits.map_over_more}}
 use Rattle.mg_vcache.proofs.dropping.drop_every.Goals as goal
 
 pub loop-seat-preserved : goal.loop-seat-preserved

@@ -1,6 +1,4 @@
-use Rattle.std.proofs.Common.{◌≡◌, ◌++◌, take, drop}
-use Rattle.mg_model.specs.Backed.{by_each}
-use Rattle.mg_vcache.specs.Seats.{without}
+use Rattle.{mg_model.specs.Backed.by_each, mg_vcache.specs.Seats.without, std.proofs.Common.{◌≡◌, ◌++◌, take, drop}}
 use Rattle.mg_vcache.proofs.dropping.drop_every.Given as goal
 
 -- the seats before this one are dropped

@@ -1,8 +1,6 @@
+use Rattle.mg_vcache.{proofs.{Dropped.group_more, dropping.drop_in_group.Goals.{then-left, else-left}}, specs.EndedSeats.ended_of}
 use Rattle.std.proofs.Common.{rules, arith, ◌*◌, ◌≡◌, false}
-use Rattle.mg_vcache.specs.EndedSeats.{ended_of}
-use Rattle.mg_vcache.proofs.Dropped.{group_more}
 use Rattle.mg_vcache.proofs.dropping.drop_in_group.Goals as goal
-use Rattle.mg_vcache.proofs.dropping.drop_in_group.Goals.{then-left, else-left}
 
 pub loop-place-preserved : goal.loop-place-preserved
 loop-place-preserved c =

@@ -1,6 +1,4 @@
-use Rattle.std.proofs.Common.{◌*◌}
-use Rattle.mg_vcache.specs.EndedSeats.{ended_of}
-use Rattle.mg_vcache.proofs.Dropped.{GroupDropped}
+use Rattle.{mg_vcache.{proofs.Dropped.GroupDropped, specs.EndedSeats.ended_of}, std.proofs.Common.◌*◌}
 use Rattle.mg_vcache.proofs.dropping.drop_in_group.Given as goal
 
 -- the seats of the group before this one are done

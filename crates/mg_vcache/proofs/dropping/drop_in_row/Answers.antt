@@ -1,8 +1,6 @@
-use Rattle.std.proofs.Common.{subst, sym, arith, ◌+◌}
-use Rattle.mg_vcache.specs.EndedSeats.{ended_of}
-use Rattle.mg_vcache.proofs.Dropped.{RowDropped, row_done, row_more, row_skipped}
+use Rattle.mg_vcache.proofs.{Dropped.{RowDropped, row_done, row_more, row_skipped}, dropping.drop_in_row.Goals.{then-marks-row, else-marks-row}}
+use Rattle.{mg_vcache.specs.EndedSeats.ended_of, std.proofs.Common.{subst, sym, arith, ◌+◌}}
 use Rattle.mg_vcache.proofs.dropping.drop_in_row.Goals as goal
-use Rattle.mg_vcache.proofs.dropping.drop_in_row.Goals.{then-marks-row, else-marks-row}
 
 pub loop-group-preserved : goal.loop-group-preserved
 loop-group-preserved c =

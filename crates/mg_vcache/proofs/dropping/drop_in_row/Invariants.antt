@@ -1,5 +1,4 @@
-use Rattle.mg_vcache.specs.EndedSeats.{ended_of}
-use Rattle.mg_vcache.proofs.Dropped.{RowDropped}
+use Rattle.mg_vcache.{proofs.Dropped.RowDropped, specs.EndedSeats.ended_of}
 use Rattle.mg_vcache.proofs.dropping.drop_in_row.Given as goal
 
 -- the groups before this one are done

@@ -1,6 +1,4 @@
-use Rattle.std.proofs.Common.{◌≡◌, ◌<◌, ◌+◌, ◌*◌, ℕ, Some}
-use Rattle.std.specs.Prelude.{slice_get}
-use Rattle.mg_rows.specs.Blocks.{account_in}
+use Rattle.{mg_rows.specs.Blocks.account_in, std.{proofs.Common.{◌≡◌, ◌<◌, ◌+◌, ◌*◌, ℕ, Some}, specs.Prelude.slice_get}}
 use Rattle.mg_volume.proofs.account_block.account_block.Given as goal
 
 abbrev pub invariant-loop-j : goal.invariant-loop-j

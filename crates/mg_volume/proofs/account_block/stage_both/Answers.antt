@@ -1,5 +1,4 @@
-use Rattle.std.proofs.Common.{◌==◌, ◌||◌, refl}
-use Rattle.mg_volume.proofs.AccountsStaged.{staged_then}
+use Rattle.{mg_volume.proofs.AccountsStaged.staged_then, std.proofs.Common.{◌==◌, ◌||◌, refl}}
 use Rattle.mg_volume.proofs.account_block.stage_both.Goals as goal
 
 pub returns : goal.returns

@@ -1,5 +1,4 @@
-use Rattle.mg_model.specs.Bytes.{padded_to}
-use Rattle.mg_volume.proofs.AccountsStaged.{one_staged}
+use Rattle.{mg_model.specs.Bytes.padded_to, mg_volume.proofs.AccountsStaged.one_staged}
 use Rattle.mg_volume.proofs.account_block.stage_few.Goals as goal
 
 pub returns : goal.returns

@@ -1,7 +1,5 @@
-use Rattle.std.proofs.Common.{◌≡◌, subst, arith}
-use Rattle.std.specs.Prelude.{nat_lt}
-use Rattle.mg_volume.proofs.AccountsStaged.{next_staged, none_staged, staged_wider}
-use Rattle.mg_volume.specs.StagesAccounts.{StagesAccounts}
+use Rattle.{mg_volume.{proofs.AccountsStaged.{next_staged, none_staged, staged_wider}, specs.StagesAccounts.StagesAccounts}, std.proofs.Common.◌≡◌}
+use Rattle.std.{proofs.Common.{subst, arith}, specs.Prelude.nat_lt}
 use Rattle.mg_volume.proofs.account_block.stage_first.Goals as goal
 
 pub loop-k-init : goal.loop-k-init

@@ -1,5 +1,4 @@
-use Rattle.std.specs.Prelude.{nat_lt}
-use Rattle.mg_volume.specs.StagesAccounts.{StagesAccounts}
+use Rattle.{mg_volume.specs.StagesAccounts.StagesAccounts, std.specs.Prelude.nat_lt}
 use Rattle.mg_volume.proofs.account_block.stage_first.Given as goal
 
 abbrev pub invariant-loop-k : goal.invariant-loop-k

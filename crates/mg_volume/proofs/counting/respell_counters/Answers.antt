@@ -1,7 +1,5 @@
-use Rattle.std.proofs.Common.{List, ℕ, ◌∙◌, sym}
-use Rattle.mg_model.specs.Layout.{globals_block}
-use Rattle.mg_rows.specs.ThreadParts.{with_word}
-use Rattle.mg_volume.proofs.Rewritten.{counters_respelled, first_put, then_put}
+use Rattle.{mg_model.specs.Layout.globals_block, mg_rows.specs.ThreadParts.with_word, mg_volume.proofs.Rewritten.{counters_respelled, first_put}}
+use Rattle.{mg_volume.proofs.Rewritten.then_put, std.proofs.Common.{List, ℕ, ◌∙◌, sym}}
 use Rattle.mg_volume.proofs.counting.respell_counters.Goals as goal
 
 pub returns-clause-staged : goal.returns-clause-staged

@@ -1,8 +1,5 @@
-use Rattle.std.proofs.Common.{All, subst}
-use Rattle.std.proofs.lemmas.List.{take_all}
+use Rattle.{mg_model.specs.{Ranges.IsWord, declared.accounts.AccRow.AccRow}, std.proofs.{Common.{All, subst}, lemmas.List.take_all}}
 use Rattle.std.proofs.lemmas.List.Elements.{All-more}
-use Rattle.mg_model.specs.Ranges.{IsWord}
-use Rattle.mg_model.specs.declared.accounts.AccRow.{AccRow}
 use Rattle.mg_volume.proofs.forming.accounts_keep_rules.Goals as goal
 
 pub loop-row-preserved : goal.loop-row-preserved

@@ -1,6 +1,4 @@
-use Rattle.std.proofs.Common.{All, take}
-use Rattle.mg_model.specs.Ranges.{IsWord}
-use Rattle.mg_model.specs.declared.accounts.AccRow.{AccRow}
+use Rattle.{mg_model.specs.{Ranges.IsWord, declared.accounts.AccRow.AccRow}, std.proofs.Common.{All, take}}
 use Rattle.mg_volume.proofs.forming.accounts_keep_rules.Given as goal
 
 -- the rows so far

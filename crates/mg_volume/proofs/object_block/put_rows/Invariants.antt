@@ -1,6 +1,4 @@
-use Rattle.std.proofs.Common.{◌≡◌, ◌<◌, ◌+◌, ◌*◌, ℕ, Some}
-use Rattle.mg_rows.specs.Blocks.{object_in}
-use Rattle.mg_volume.specs.RowLists.{row_at}
+use Rattle.{mg_rows.specs.Blocks.object_in, mg_volume.specs.RowLists.row_at, std.proofs.Common.{◌≡◌, ◌<◌, ◌+◌, ◌*◌, ℕ, Some}}
 use Rattle.mg_volume.proofs.object_block.put_rows.Given as goal
 
 abbrev pub invariant-loop-j : goal.invariant-loop-j

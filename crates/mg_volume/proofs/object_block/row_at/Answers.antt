@@ -1,5 +1,4 @@
-use Rattle.std.proofs.Common.{sym, ◌∙◌}
-use Rattle.mg_volume.proofs.BlockParts.{row_found}
+use Rattle.{mg_volume.proofs.BlockParts.row_found, std.proofs.Common.{sym, ◌∙◌}}
 use Rattle.mg_volume.proofs.object_block.row_at.Goals as goal
 
 pub returns-in-Some : goal.returns-in-Some

@@ -1,6 +1,4 @@
-use Rattle.std.proofs.Common.{◌<◌, ◌==◌, ℕ, All, subst}
-use Rattle.mg_model.specs.State.{ObjectRow}
-use Rattle.mg_volume.proofs.Found.{found_keeps}
+use Rattle.{mg_model.specs.State.ObjectRow, mg_volume.proofs.Found.found_keeps, std.proofs.Common.{◌<◌, ◌==◌, ℕ, All, subst}}
 use Rattle.mg_volume.proofs.object_removing.take_object.Goals as goal
 
 pub stage_row-requires-clause-place : goal.stage_row-requires-clause-place

@@ -1,7 +1,5 @@
-use Rattle.std.proofs.Common.{◌∙◌, arith, subst, sym}
-use Rattle.mg_journal.specs.Held.{Store}
-use Rattle.mg_volume.proofs.Handed.{judged_disk, judged_memory, judged_ok, unfailed_memory, unfailed_ok}
-use Rattle.mg_volume.specs.PagesOver.{ArePagesOver}
+use Rattle.{mg_journal.specs.Held.Store, mg_volume.proofs.Handed.{judged_disk, judged_memory, judged_ok, unfailed_memory, unfailed_ok}}
+use Rattle.{mg_volume.specs.PagesOver.ArePagesOver, std.proofs.Common.{◌∙◌, arith, subst, sym}}
 use Rattle.mg_volume.proofs.opening.open_pages.Goals as goal
 
 pub recover-requires : goal.recover-requires

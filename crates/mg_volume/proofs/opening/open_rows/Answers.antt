@@ -1,17 +1,9 @@
-use Rattle.std.proofs.Common.{◌≡◌, ◌∙◌, ℕ, List, ap, arith, refl, subst, sym, true}
-use Rattle.std.specs.Option.{ForSome}
-use Rattle.mg_disk.specs.Disk.{Image}
-use Rattle.mg_disk.specs.Runs.{left_still, nothing_none}
-use Rattle.mg_faults.specs.Faults.{count_none}
-use Rattle.mg_model.specs.State.{ObjectRow}
-use Rattle.mg_model.specs.Volume.{volume}
-use Rattle.mg_objects.specs.Held.{AreApart}
-use Rattle.mg_pages.specs.Meaning.{store_of}
-use Rattle.mg_volume.specs.Held.{VolumeHeld}
-use Rattle.mg_volume.specs.Meaning.{IsKept, StandsOn, is_live, is_sound, now_of, staged_of}
-use Rattle.mg_volume.specs.Opening.{Opens}
-use Rattle.mg_volume.proofs.Handed.{calls_as, judged_memory, judged_ok, judges_as, unfailed_memory, unfailed_ok}
-use Rattle.mg_volume.proofs.Opened.{ArePages, apart_is, credits_is, distinct_is, held_is, leaves_still, live_is, made_is, opens_now, same_objects, sound_is, staged_none, stands_now}
+use Rattle.{mg_disk.specs.{Disk.Image, Runs.{left_still, nothing_none}}, mg_faults.specs.Faults.count_none, mg_model.specs.State.ObjectRow}
+use Rattle.{mg_model.specs.Volume.volume, mg_objects.specs.Held.AreApart, mg_pages.specs.Meaning.store_of, mg_volume.proofs.Handed.calls_as}
+use Rattle.mg_volume.proofs.{Handed.{judged_memory, judged_ok, judges_as, unfailed_memory, unfailed_ok}, Opened.{ArePages, apart_is, credits_is}}
+use Rattle.mg_volume.proofs.Opened.{distinct_is, held_is, leaves_still, live_is, made_is, opens_now, same_objects, sound_is, staged_none, stands_now}
+use Rattle.{mg_volume.specs.{Held.VolumeHeld, Meaning.{IsKept, StandsOn, is_live, is_sound, now_of, staged_of}, Opening.Opens}, std.proofs.Common.◌≡◌}
+use Rattle.std.{proofs.Common.{◌∙◌, ℕ, List, ap, arith, refl, subst, sym, true}, specs.Option.ForSome}
 use Rattle.mg_volume.proofs.opening.open_rows.Goals as goal
 
 pub lists_of-requires-clause-credits : goal.lists_of-requires-clause-credits

@@ -1,6 +1,4 @@
-use Rattle.std.proofs.Common.{◌+◌, ◌*◌}
-use Rattle.std.specs.Prelude.{slice_set}
-use Rattle.mg_volume.proofs.Respelled.{goes_on}
+use Rattle.{mg_volume.proofs.Respelled.goes_on, std.{proofs.Common.{◌+◌, ◌*◌}, specs.Prelude.slice_set}}
 use Rattle.mg_volume.proofs.standing.put_register.Goals as goal
 
 pub returns : goal.returns

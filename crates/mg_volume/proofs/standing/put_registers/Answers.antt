@@ -1,6 +1,5 @@
-use Rattle.std.proofs.Common.{List, ◌≡◌, ◌∙◌, ◌++◌, ℕ, arith, drop, length, subst, take}
-use Rattle.mg_volume.proofs.Seams.{seam-end, seam-long, seam-next, set-seam}
-use Rattle.mg_volume.specs.Standing.{Respells}
+use Rattle.{mg_volume.{proofs.Seams.{seam-end, seam-long, seam-next, set-seam}, specs.Standing.Respells}, std.proofs.Common.{List, ◌≡◌, ◌∙◌, ◌++◌, ℕ}}
+use Rattle.std.proofs.Common.{arith, drop, length, subst, take}
 use Rattle.mg_volume.proofs.standing.put_registers.Goals as goal
 
 pub loop-k-preserved : goal.loop-k-preserved

@@ -1,7 +1,5 @@
-use Rattle.std.proofs.Common.{◌≡◌, ◌++◌, drop, take}
-use Rattle.mg_model.specs.State.{ThreadRow}
-use Rattle.mg_pages.specs.declared.pages.Pages.{Pages}
-use Rattle.mg_volume.specs.Standing.{Respells}
+use Rattle.{mg_model.specs.State.ThreadRow, mg_pages.specs.declared.pages.Pages.Pages, mg_volume.specs.Standing.Respells, std.proofs.Common.◌≡◌}
+use Rattle.std.proofs.Common.{◌++◌, drop, take}
 use Rattle.mg_volume.proofs.standing.put_registers.Given as goal
 
 -- the words of the first registers are those of the new ones

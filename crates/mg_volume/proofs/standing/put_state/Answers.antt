@@ -1,7 +1,5 @@
-use Rattle.std.proofs.Common.{◌∙◌, ap}
-use Rattle.mg_model.specs.Spelling.{thread_bytes}
-use Rattle.mg_rows.specs.ThreadParts.{with_word}
-use Rattle.mg_volume.proofs.Respelled.{goes_on}
+use Rattle.{mg_model.specs.Spelling.thread_bytes, mg_rows.specs.ThreadParts.with_word, mg_volume.proofs.Respelled.goes_on, std.proofs.Common.◌∙◌}
+use Rattle.std.proofs.Common.{ap}
 use Rattle.mg_volume.proofs.standing.put_state.Goals as goal
 
 pub returns : goal.returns

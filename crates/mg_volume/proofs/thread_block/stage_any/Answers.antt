@@ -1,6 +1,4 @@
-use Rattle.std.proofs.Common.{Option, subst, sym}
-use Rattle.mg_model.specs.State.{ThreadRow}
-use Rattle.mg_volume.specs.Standing.{StagesThread}
+use Rattle.{mg_model.specs.State.ThreadRow, mg_volume.specs.Standing.StagesThread, std.proofs.Common.{Option, subst, sym}}
 use Rattle.mg_volume.proofs.thread_block.stage_any.Goals as goal
 
 pub returns-in-Some : goal.returns-in-Some

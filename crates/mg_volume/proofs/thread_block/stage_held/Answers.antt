@@ -1,9 +1,5 @@
-use Rattle.std.proofs.Common.{Option, ◌+◌, ◌-◌, ◌∙◌, ap, subst}
-use Rattle.std.specs.Prelude.{is_some}
-use Rattle.mg_model.specs.Layout.{first_thread_block}
-use Rattle.mg_model.specs.State.{ThreadRow}
-use Rattle.mg_volume.proofs.Handed.{no}
-use Rattle.mg_volume.specs.Standing.{StagesThread}
+use Rattle.{mg_model.specs.{Layout.first_thread_block, State.ThreadRow}, mg_volume.{proofs.Handed.no, specs.Standing.StagesThread}}
+use Rattle.std.{proofs.Common.{Option, ◌+◌, ◌-◌, ◌∙◌, ap, subst}, specs.Prelude.is_some}
 use Rattle.mg_volume.proofs.thread_block.stage_held.Goals as goal
 
 pub unreachable-requires : goal.unreachable-requires

@@ -1,5 +1,4 @@
-use Rattle.mg_volume.proofs.ThreadSearch.{first_byte}
-use Rattle.memchr.specs.Find.{is_byte}
+use Rattle.{memchr.specs.Find.is_byte, mg_volume.proofs.ThreadSearch.first_byte}
 use Rattle.mg_volume.proofs.threads.first_ready.Goals as goal
 
 pub returns : goal.returns

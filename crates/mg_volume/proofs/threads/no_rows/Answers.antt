@@ -1,5 +1,4 @@
-use Rattle.std.proofs.Common.{◌≡◌, ◌∙◌, ◌++◌, ◌∷◌, [], None, ap, arith, replicate}
-use Rattle.std.proofs.lemmas.List.{replicate_more}
+use Rattle.std.proofs.{Common.{◌≡◌, ◌∙◌, ◌++◌, ◌∷◌, [], None, ap, arith, replicate}, lemmas.List.replicate_more}
 use Rattle.mg_volume.proofs.threads.no_rows.Goals as goal
 
 pub loop-preserved : goal.loop-preserved

@@ -1,8 +1,5 @@
-use Rattle.std.proofs.Common.{◌∙◌, ap, sym, ◌%◌, ◌^◌}
-use Rattle.std.proofs.Math.Nat.{zero-mod}
+use Rattle.{mg_window.{proofs.Summed.one_more, specs.Devices.sum_at}, std.proofs.{Common.{◌∙◌, ap, sym, ◌%◌, ◌^◌}, Math.Nat.zero-mod}}
 use Rattle.std.proofs.lemmas.List.{take_all}
-use Rattle.mg_window.specs.Devices.{sum_at}
-use Rattle.mg_window.proofs.Summed.{one_more}
 use Rattle.mg_window.proofs.tape.added.Goals as goal
 
 pub loop-entry-init : goal.loop-entry-init

@@ -1,6 +1,4 @@
-use Rattle.std.proofs.Common.{◌≡◌, ◌%◌, ◌^◌}
-use Rattle.std.specs.Prelude.{take}
-use Rattle.mg_window.specs.Devices.{sum_at}
+use Rattle.{mg_window.specs.Devices.sum_at, std.{proofs.Common.{◌≡◌, ◌%◌, ◌^◌}, specs.Prelude.take}}
 use Rattle.mg_window.proofs.tape.added.Given as goal
 
 abbrev pub invariant-loop-entry : goal.invariant-loop-entry

@@ -1,5 +1,4 @@
-use Rattle.std.proofs.Common.{◌==◌, not, rules, ℕ}
-use Rattle.std.proofs.lemmas.Fn.{filter_same}
+use Rattle.std.proofs.{Common.{◌==◌, not, rules, ℕ}, lemmas.Fn.filter_same}
 use Rattle.mg_window.proofs.windows.drop_from.Goals as goal
 
 pub returns-clause-others : goal.returns-clause-others

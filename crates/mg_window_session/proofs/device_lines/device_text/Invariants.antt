@@ -1,6 +1,4 @@
-use Rattle.std.proofs.Common.{drop, ◌-◌, ◌*◌, ◌++◌, ◌≡◌, ◌≤◌, length}
-use Rattle.mg_window.specs.Attached.{seen}
-use Rattle.mg_window_session.specs.Headline.{device_lines}
+use Rattle.{mg_window.specs.Attached.seen, mg_window_session.specs.Headline.device_lines, std.proofs.Common.{drop, ◌-◌, ◌*◌, ◌++◌, ◌≡◌, ◌≤◌, length}}
 use Rattle.mg_window_session.proofs.device_lines.device_text.Given as goal
 
 abbrev pub invariant-loop-i : goal.invariant-loop-i

@@ -1,16 +1,9 @@
-use Rattle.std.specs.Prelude.{Err}
-use Rattle.std.proofs.Common.{refl, sym, ap, ◌∙◌, subst}
-use Rattle.mg_disk.specs.Stops.{WritesNothing}
-use Rattle.mg_kernel.specs.Meaning.{now_of}
-use Rattle.mg_layout.specs.MayFormat.{IsNoState}
 use Rattle.mg_commands.specs.OpeningLemmas.{fault_tells, lines_opened, lines_unopened, no_volume, opened_then, unopened, untouched}
-use Rattle.mg_window_session.specs.declared.device_kernel.DeviceKernel.{DeviceKernel}
-use Rattle.mg_window.specs.Attached.{Attached, seen}
-use Rattle.mg_window_session.specs.DeviceKernels.{machine_of, windows_in}
-use Rattle.mg_window_session.specs.Headline.{LeavesDevices, equipped}
-use Rattle.mg_window_session.specs.Machine.{device_state, device_text}
-use Rattle.mg_window_session.proofs.DeviceSteps.{fault_devices, leaves_devices}
-use Rattle.mg_window_session.proofs.Opened.{opens_as}
+use Rattle.{mg_disk.specs.Stops.WritesNothing, mg_kernel.specs.Meaning.now_of, mg_layout.specs.MayFormat.IsNoState, mg_window.specs.Attached.Attached}
+use Rattle.{mg_window.specs.Attached.seen, mg_window_session.proofs.{DeviceSteps.{fault_devices, leaves_devices}, Opened.opens_as}}
+use Rattle.mg_window_session.specs.{DeviceKernels.{machine_of, windows_in}, Headline.{LeavesDevices, equipped}, Machine.{device_state, device_text}}
+use Rattle.{mg_window_session.specs.declared.device_kernel.DeviceKernel.DeviceKernel, std.proofs.Common.{refl, sym, ap, ◌∙◌, subst}}
+use Rattle.std.specs.Prelude.{Err}
 use Rattle.mg_window_session.proofs.running.run.Goals as goal
 
 pub returns-in-Ok-clause-keeps : goal.returns-in-Ok-clause-keeps

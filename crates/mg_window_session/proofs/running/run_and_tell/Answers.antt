@@ -1,9 +1,5 @@
-use Rattle.std.proofs.Common.{ap, subst}
-use Rattle.mg_serve.specs.Sessions.{use_of}
-use Rattle.mg_commands.specs.Headline.{session_of}
-use Rattle.mg_window.specs.Attached.{Attached, seen}
-use Rattle.mg_window_session.specs.Headline.{DevKeeps}
-use Rattle.mg_window_session.proofs.DeviceLines.{dev_keeps, not_begun}
+use Rattle.{mg_commands.specs.Headline.session_of, mg_serve.specs.Sessions.use_of, mg_window.specs.Attached.{Attached, seen}}
+use Rattle.{mg_window_session.{proofs.DeviceLines.{dev_keeps, not_begun}, specs.Headline.DevKeeps}, std.proofs.Common.{ap, subst}}
 use Rattle.mg_window_session.proofs.running.run_and_tell.Goals as goal
 
 pub returns-in-Ok : goal.returns-in-Ok

@@ -1,8 +1,5 @@
+use Rattle.{mg_disk.specs.Disk.Image, mg_kernel.specs.Meaning.now_of, mg_window.specs.Attached.seen, mg_window_session.specs.Stepping.bases_of}
 use Rattle.std.proofs.Common.{drop, ◌-◌, ◌++◌, ◌≡◌, ◌≤◌, length}
-use Rattle.mg_disk.specs.Disk.{Image}
-use Rattle.mg_kernel.specs.Meaning.{now_of}
-use Rattle.mg_window.specs.Attached.{seen}
-use Rattle.mg_window_session.specs.Stepping.{bases_of}
 use Rattle.mg_window_session.proofs.stepping.bases.Given as goal
 
 abbrev pub invariant-loop-i : goal.invariant-loop-i

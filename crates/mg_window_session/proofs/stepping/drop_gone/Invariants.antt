@@ -1,8 +1,5 @@
+use Rattle.{mg_disk.specs.Disk.Image, mg_kernel.specs.Meaning.now_of, mg_window.specs.Attached.seen, mg_window_session.specs.Stepping.dropped}
 use Rattle.std.proofs.Common.{drop, ◌≡◌}
-use Rattle.mg_disk.specs.Disk.{Image}
-use Rattle.mg_kernel.specs.Meaning.{now_of}
-use Rattle.mg_window.specs.Attached.{seen}
-use Rattle.mg_window_session.specs.Stepping.{dropped}
 use Rattle.mg_window_session.proofs.stepping.drop_gone.Given as goal
 
 abbrev pub invariant-loop-base : goal.invariant-loop-base

@@ -1,8 +1,5 @@
-use Rattle.std.proofs.Common.{ap, ◌∙◌}
-use Rattle.mg_kernel.specs.Meaning.{now_of}
-use Rattle.mg_window.specs.Attached.{seen}
-use Rattle.mg_window_session.specs.Stepping.{dropped}
-use Rattle.mg_window_session.proofs.Answering.{plain_answered}
+use Rattle.{mg_kernel.specs.Meaning.now_of, mg_window.specs.Attached.seen, mg_window_session.proofs.Answering.plain_answered}
+use Rattle.{mg_window_session.specs.Stepping.dropped, std.proofs.Common.{ap, ◌∙◌}}
 use Rattle.mg_window_session.proofs.stepping.step.Goals as goal
 
 pub returns-in-Ok-clause-answers : goal.returns-in-Ok-clause-answers

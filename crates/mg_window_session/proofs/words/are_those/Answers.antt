@@ -1,7 +1,4 @@
-use Rattle.std.proofs.Common.{sym, ◌∙◌}
-use Rattle.std.proofs.lemmas.List.{length-map}
-use Rattle.mg_window.specs.Attached.{seen}
-use Rattle.mg_window_session.proofs.Asked.{those_differ}
+use Rattle.{mg_window.specs.Attached.seen, mg_window_session.proofs.Asked.those_differ, std.proofs.{Common.{sym, ◌∙◌}, lemmas.List.length-map}}
 use Rattle.mg_window_session.proofs.words.are_those.Goals as goal
 
 pub returns-then-len-asked : goal.returns-then-len-asked

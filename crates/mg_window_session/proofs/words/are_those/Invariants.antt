@@ -1,6 +1,4 @@
-use Rattle.std.proofs.Common.{length, drop, ◌-◌, ◌≡◌, ◌≤◌}
-use Rattle.mg_window.specs.Attached.{seen}
-use Rattle.mg_window_session.specs.Commands.{are_those}
+use Rattle.{mg_window.specs.Attached.seen, mg_window_session.specs.Commands.are_those, std.proofs.Common.{length, drop, ◌-◌, ◌≡◌, ◌≤◌}}
 use Rattle.mg_window_session.proofs.words.are_those.Given as goal
 
 abbrev pub invariant-loop-i : goal.invariant-loop-i

@@ -1,6 +1,4 @@
-use Rattle.std.proofs.Common.{drop, ◌≡◌, ◌≤◌, [], length}
-use Rattle.mg_io.specs.Arguments.{arguments}
-use Rattle.mg_window_session.specs.Commands.{devices_from}
+use Rattle.{mg_io.specs.Arguments.arguments, mg_window_session.specs.Commands.devices_from, std.proofs.Common.{drop, ◌≡◌, ◌≤◌, [], length}}
 use Rattle.mg_window_session.proofs.words.devices_named.Given as goal
 
 abbrev pub invariant-loop-word : goal.invariant-loop-word

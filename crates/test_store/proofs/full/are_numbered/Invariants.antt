@@ -1,5 +1,4 @@
-use Rattle.std.proofs.Common.{◌≡◌}
-use Rattle.mg_journal.specs.Standing.{Stands}
+use Rattle.{mg_journal.specs.Standing.Stands, std.proofs.Common.◌≡◌}
 use Rattle.test_store.proofs.full.are_numbered.Given as goal
 
 -- the store stands on the disk

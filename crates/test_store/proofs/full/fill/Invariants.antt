@@ -1,5 +1,4 @@
-use Rattle.std.proofs.Common.{◌≡◌, true}
-use Rattle.mg_journal.specs.Standing.{Stands, is_live, total_of}
+use Rattle.{mg_journal.specs.Standing.{Stands, is_live, total_of}, std.proofs.Common.{◌≡◌, true}}
 use Rattle.test_store.proofs.full.fill.Given as goal
 
 -- the store stands on the disk, and may commit

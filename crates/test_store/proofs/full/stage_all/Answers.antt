@@ -1,6 +1,5 @@
-use Rattle.std.proofs.Common.{◌∙◌, ◌+◌, ap, arith, length, replicate}
-use Rattle.mg_model.specs.Replay.{homes_fit}
-use Rattle.test_store.proofs.StagedFit.{staged_few, staged_fit}
+use Rattle.{mg_model.specs.Replay.homes_fit, std.proofs.Common.{◌∙◌, ◌+◌, ap, arith, length, replicate}, test_store.proofs.StagedFit.staged_few}
+use Rattle.test_store.proofs.StagedFit.{staged_fit}
 use Rattle.test_store.proofs.full.stage_all.Goals as goal
 
 pub loop-k-preserved : goal.loop-k-preserved

@@ -1,5 +1,4 @@
-use Rattle.std.proofs.Common.{◌≡◌, ◌≤◌, length, true}
-use Rattle.mg_model.specs.Replay.{homes_fit}
+use Rattle.{mg_model.specs.Replay.homes_fit, std.proofs.Common.{◌≡◌, ◌≤◌, length, true}}
 use Rattle.test_store.proofs.full.stage_all.Given as goal
 
 -- no more writes than were made, each of a block of the volume

@@ -1,7 +1,4 @@
-use Rattle.std.specs.Prelude.{◌==◌, ℕ}
-use Rattle.std.specs.Option.{option_copied}
-use Rattle.std.proofs.Common.{sym, ap, ◌∙◌}
-use Rattle.mg_model.specs.State.{ObjectRow}
+use Rattle.{mg_model.specs.State.ObjectRow, std.{proofs.Common.{sym, ap, ◌∙◌}, specs.{Option.option_copied, Prelude.{◌==◌, ℕ}}}}
 use Rattle.test_tables.proofs.Found.{told_any}
 use Rattle.test_tables.proofs.spaces.is_there.Goals as goal
 

@@ -1,5 +1,4 @@
-use Rattle.std.proofs.Common.{◌≡◌, replicate, rules}
-use Rattle.mg_bank.proofs.Pages.{no_pages}
+use Rattle.{mg_bank.proofs.Pages.no_pages, std.proofs.Common.{◌≡◌, replicate, rules}}
 use Rattle.mg_bank.proofs.bank.Bank.of.Goals as goal
 
 pub returns-clause-no_pages : goal.returns-clause-no_pages

@@ -1,6 +1,4 @@
-use Rattle.std.proofs.Common.{◌==◌, ◌∙◌, ap, arith, if◌then◌else◌}
-use Rattle.mg_bank.specs.Bank.{BankHeld, pages_at}
-use Rattle.mg_bank.proofs.Pages.{pages_set}
+use Rattle.{mg_bank.{proofs.Pages.pages_set, specs.Bank.{BankHeld, pages_at}}, std.proofs.Common.{◌==◌, ◌∙◌, ap, arith, if◌then◌else◌}}
 use Rattle.mg_bank.proofs.bank.Bank.set_pages.Goals as goal
 
 pub returns-clause-pages : goal.returns-clause-pages

@@ -1,5 +1,4 @@
-use Rattle.std.specs.Prelude.{length}
-use Rattle.mg_check.specs.ReadRuns.{AreRead}
+use Rattle.{mg_check.specs.ReadRuns.AreRead, std.specs.Prelude.length}
 use Rattle.mg_check.proofs.reading.Contents.read_blocks.Given as goal
 
 abbrev pub invariant-loop-k : goal.invariant-loop-k

@@ -1,5 +1,4 @@
-use Rattle.std.specs.Prelude.{length}
-use Rattle.mg_disk.proofs.BlockByBlock.{AreReadSoFar}
+use Rattle.{mg_disk.proofs.BlockByBlock.AreReadSoFar, std.specs.Prelude.length}
 use Rattle.mg_disk.proofs.disk.Disk.read_blocks.Given as goal
 
 abbrev pub invariant-loop-k : goal.invariant-loop-k

@@ -1,9 +1,8 @@
-use Rattle.std.proofs.Common.{◌≡◌, ◌∙◌, ◌≤◌, arith, drop, length, rules, subst, sym, take}
 use Rattle.mg_disk.proofs.FewerPut.{all_pass, as_many, few_pass, others_stay, part_read}
+use Rattle.mg_disk.proofs.fuse.FuseDisk.read_blocks.Goals.{else-passing-out+else-passing-gt0-2, else-passing-out+then-passing-gt0-2}
+use Rattle.mg_disk.proofs.fuse.FuseDisk.read_blocks.Goals.{then-passing-out+else-passing-gt0, then-passing-out+then-passing-gt0}
+use Rattle.{mg_disk.specs.{Calls.IsReadRun, declared.fuse.Fuse.Fuse}, std.proofs.Common.{◌≡◌, ◌∙◌, ◌≤◌, arith, drop, length, rules, subst, sym, take}}
 use Rattle.mg_disk.proofs.fuse.FuseDisk.read_blocks.Goals as goal
-use Rattle.mg_disk.proofs.fuse.FuseDisk.read_blocks.Goals.{else-passing-out+else-passing-gt0-2, else-passing-out+then-passing-gt0-2, then-passing-out+else-passing-gt0, then-passing-out+then-passing-gt0}
-use Rattle.mg_disk.specs.Calls.{IsReadRun}
-use Rattle.mg_disk.specs.declared.fuse.Fuse.{Fuse}
 
 pub returns-clause-passes : goal.returns-clause-passes
 returns-clause-passes g c =

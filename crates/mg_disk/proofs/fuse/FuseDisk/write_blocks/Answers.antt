@@ -1,11 +1,9 @@
-use Rattle.std.proofs.Common.{◌≡◌, ◌∙◌, arith, length, rules, subst, sym, take}
 use Rattle.mg_disk.proofs.FewerPut.{all_pass, few_pass, fewer_seen, fewer_torn}
+use Rattle.mg_disk.proofs.fuse.FuseDisk.write_blocks.Goals.{else-passing-from+else-passing-gt0-2, else-passing-from+then-passing-gt0-2}
+use Rattle.mg_disk.proofs.fuse.FuseDisk.write_blocks.Goals.{then-passing-from+else-passing-gt0, then-passing-from+then-passing-gt0}
+use Rattle.{mg_disk.specs.{Calls.IsWriteRun, Disk.{InRange, SeenBut, TornAt}, Stops.TimeGoes, declared.fuse.Fuse.Fuse}, std.proofs.Common.{◌≡◌, ◌∙◌}}
+use Rattle.std.proofs.Common.{arith, length, rules, subst, sym, take}
 use Rattle.mg_disk.proofs.fuse.FuseDisk.write_blocks.Goals as goal
-use Rattle.mg_disk.proofs.fuse.FuseDisk.write_blocks.Goals.{else-passing-from+else-passing-gt0-2, else-passing-from+then-passing-gt0-2, then-passing-from+else-passing-gt0, then-passing-from+then-passing-gt0}
-use Rattle.mg_disk.specs.Calls.{IsWriteRun}
-use Rattle.mg_disk.specs.Disk.{InRange, SeenBut, TornAt}
-use Rattle.mg_disk.specs.Stops.{TimeGoes}
-use Rattle.mg_disk.specs.declared.fuse.Fuse.{Fuse}
 
 pub returns-clause-meets : goal.returns-clause-meets
 returns-clause-meets g c =

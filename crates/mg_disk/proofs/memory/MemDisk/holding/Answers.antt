@@ -1,5 +1,4 @@
-use Rattle.std.proofs.Common.{refl, ◌∙◌}
-use Rattle.mg_disk.specs.HeldLemmas.{settled_new}
+use Rattle.{mg_disk.specs.HeldLemmas.settled_new, std.proofs.Common.{refl, ◌∙◌}}
 use Rattle.mg_disk.proofs.memory.MemDisk.holding.Goals as goal
 
 pub returns-clause-holds : goal.returns-clause-holds

@@ -1,11 +1,6 @@
-use Rattle.std.proofs.Common.{◌∙◌, ℕ, ◌<◌, List, sym, ap, subst, Contains, slice_set}
+use Rattle.mg_disk.specs.{BlockBytes.IsBytes, Disk.SameBut, Held.{run, start}, HeldLemmas.held_more, PlaceLemmas.{placed_longer, same_longer}}
+use Rattle.{mg_disk.specs.declared.memory.Event.TheVariants.Wrote, std.proofs.Common.{◌∙◌, ℕ, ◌<◌, List, sym, ap, subst, Contains, slice_set}}
 use Rattle.std.proofs.lemmas.List.Elements.{All-set, All-from_get_or}
-use Rattle.mg_disk.specs.BlockBytes.{IsBytes}
-use Rattle.mg_disk.specs.Disk.{SameBut}
-use Rattle.mg_disk.specs.Held.{run, start}
-use Rattle.mg_disk.specs.HeldLemmas.{held_more}
-use Rattle.mg_disk.specs.PlaceLemmas.{placed_longer, same_longer}
-use Rattle.mg_disk.specs.declared.memory.Event.TheVariants.{Wrote}
 use Rattle.mg_disk.proofs.memory.MemDisk.put.Goals as goal
 
 pub invariant_of-self-clause-placed : goal.invariant_of-self-clause-placed

@@ -1,10 +1,5 @@
-use Rattle.std.proofs.Common.{rules}
-use Rattle.std.proofs.Common.{◌∙◌, ◌<◌, ℕ, List, [], sym, ap, subst, Contains}
-use Rattle.mg_disk.specs.Disk.{AreBytes}
-use Rattle.mg_disk.specs.Held.{run, start}
-use Rattle.mg_disk.specs.HeldLemmas.{held_more}
-use Rattle.mg_disk.specs.PlaceLemmas.{same_as, none_in_none}
-use Rattle.mg_disk.specs.declared.memory.Event.TheVariants.{Synced}
+use Rattle.mg_disk.specs.{Disk.AreBytes, Held.{run, start}, HeldLemmas.held_more, PlaceLemmas.{same_as, none_in_none}}
+use Rattle.{mg_disk.specs.declared.memory.Event.TheVariants.Synced, std.proofs.Common.{rules, ◌∙◌, ◌<◌, ℕ, List, [], sym, ap, subst, Contains}}
 use Rattle.mg_disk.proofs.memory.MemDisk.record_sync.Goals as goal
 
 pub copy_at-requires-clause-in_range : goal.copy_at-requires-clause-in_range

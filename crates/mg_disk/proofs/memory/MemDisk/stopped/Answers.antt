@@ -1,8 +1,5 @@
-use Rattle.std.proofs.Common.{◌≡◌, sym, subst, length}
+use Rattle.{mg_disk.specs.{Disk.{Image, At}, Held.LeftIn, Memory.{content_of, left_may}}, std.proofs.Common.{◌≡◌, sym, subst, length}}
 use Rattle.std.proofs.lemmas.Result.{IfOk-weaker}
-use Rattle.mg_disk.specs.Disk.{Image, At}
-use Rattle.mg_disk.specs.Held.{LeftIn}
-use Rattle.mg_disk.specs.Memory.{content_of, left_may}
 use Rattle.mg_disk.proofs.memory.MemDisk.stopped.Goals as goal
 
 pub returns-clause-may_be_left : goal.returns-clause-may_be_left

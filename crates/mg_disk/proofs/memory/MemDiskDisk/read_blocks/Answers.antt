@@ -1,7 +1,5 @@
-use Rattle.std.proofs.Common.{◌≡◌, arith, length, refl, rules, subst}
-use Rattle.mg_disk.proofs.NumberedRuns.{Passed, all_passed, fails_first, one_more_read, passed_more, told_by}
-use Rattle.mg_disk.proofs.RunSteps.{read_failed, read_more}
-use Rattle.mg_disk.specs.Memory.{counts_of, more_reads, one_read}
+use Rattle.mg_disk.proofs.{NumberedRuns.{Passed, all_passed, fails_first, one_more_read, passed_more, told_by}, RunSteps.{read_failed, read_more}}
+use Rattle.{mg_disk.specs.Memory.{counts_of, more_reads, one_read}, std.proofs.Common.{◌≡◌, arith, length, refl, rules, subst}}
 use Rattle.mg_disk.proofs.memory.MemDiskDisk.read_blocks.Goals as goal
 
 pub returns-in-Err-clause-meets : goal.returns-in-Err-clause-meets

@@ -1,7 +1,5 @@
+use Rattle.mg_disk.{proofs.{BlockByBlock.AreReadSoFar, NumberedRuns.{Passed, told_by}}, specs.Memory.{counts_of, more_reads}}
 use Rattle.std.specs.Prelude.{length}
-use Rattle.mg_disk.proofs.BlockByBlock.{AreReadSoFar}
-use Rattle.mg_disk.proofs.NumberedRuns.{Passed, told_by}
-use Rattle.mg_disk.specs.Memory.{counts_of, more_reads}
 use Rattle.mg_disk.proofs.memory.MemDiskDisk.read_blocks.Given as goal
 
 abbrev pub invariant-loop-k : goal.invariant-loop-k

@@ -1,5 +1,4 @@
-use Rattle.std.proofs.Common.{rules, ap, ◌∙◌, sym, Some, refl}
-use Rattle.mg_disk.specs.HeldLemmas.{synced_goes, settled}
+use Rattle.{mg_disk.specs.HeldLemmas.{synced_goes, settled}, std.proofs.Common.{rules, ap, ◌∙◌, sym, Some, refl}}
 use Rattle.mg_disk.proofs.memory.MemDiskDisk.sync.Goals as goal
 
 pub returns-in-Passes-clause-meets : goal.returns-in-Passes-clause-meets

@@ -1,9 +1,5 @@
-use Rattle.std.proofs.Common.{◌≡◌, rules, ap, ◌∙◌, sym, Some, subst, arith, refl, slice_set}
-use Rattle.mg_disk.specs.Disk.{SameBut, only_place}
-use Rattle.mg_disk.specs.Blocks.{gates_block}
-use Rattle.mg_disk.specs.HeldLemmas.{wrote_goes}
-use Rattle.mg_disk.specs.PlaceLemmas.{same_set}
-use Rattle.mg_disk.specs.declared.memory.MemDisk.{MemDisk}
+use Rattle.mg_disk.specs.{Blocks.gates_block, Disk.{SameBut, only_place}, HeldLemmas.wrote_goes, PlaceLemmas.same_set}
+use Rattle.{mg_disk.specs.declared.memory.MemDisk.MemDisk, std.proofs.Common.{◌≡◌, rules, ap, ◌∙◌, sym, Some, subst, arith, refl, slice_set}}
 use Rattle.mg_disk.proofs.memory.MemDiskDisk.write.Goals as goal
 
 pub returns-in-Passes-clause-meets : goal.returns-in-Passes-clause-meets

@@ -1,9 +1,6 @@
-use Rattle.std.proofs.Common.{◌≡◌, arith, length, refl, rules, subst}
-use Rattle.mg_disk.proofs.BlockByBlock.{ArePutSoFar}
-use Rattle.mg_disk.proofs.NumberedRuns.{Passed, all_passed, cut_at, failed_first, fails_first, one_more_write, passed_more, told_by}
-use Rattle.mg_disk.proofs.RunSteps.{all_put, put_failed, put_more, same_item}
-use Rattle.mg_disk.specs.Blocks.{told_count}
-use Rattle.mg_disk.specs.Memory.{counts_of, more_writes, one_write}
+use Rattle.mg_disk.proofs.{BlockByBlock.ArePutSoFar, NumberedRuns.{Passed, all_passed, cut_at, failed_first, fails_first, one_more_write}}
+use Rattle.mg_disk.{proofs.{NumberedRuns.{passed_more, told_by}, RunSteps.{all_put, put_failed, put_more, same_item}}, specs.Blocks.told_count}
+use Rattle.{mg_disk.specs.Memory.{counts_of, more_writes, one_write}, std.proofs.Common.{◌≡◌, arith, length, refl, rules, subst}}
 use Rattle.mg_disk.proofs.memory.MemDiskDisk.write_blocks.Goals as goal
 
 pub returns-in-Err-clause-meets : goal.returns-in-Err-clause-meets

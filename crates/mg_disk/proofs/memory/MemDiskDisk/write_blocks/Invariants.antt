@@ -1,6 +1,4 @@
-use Rattle.mg_disk.proofs.BlockByBlock.{ArePutSoFar}
-use Rattle.mg_disk.proofs.NumberedRuns.{Passed, told_by}
-use Rattle.mg_disk.specs.Memory.{counts_of, more_writes}
+use Rattle.mg_disk.{proofs.{BlockByBlock.ArePutSoFar, NumberedRuns.{Passed, told_by}}, specs.Memory.{counts_of, more_writes}}
 use Rattle.mg_disk.proofs.memory.MemDiskDisk.write_blocks.Given as goal
 
 abbrev pub invariant-loop-k : goal.invariant-loop-k

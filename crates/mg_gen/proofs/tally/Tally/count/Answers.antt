@@ -1,5 +1,4 @@
-use Rattle.std.proofs.Common.{◌∙◌}
-use Rattle.mg_gen.proofs.Tallied.{tallied}
+use Rattle.{mg_gen.proofs.Tallied.tallied, std.proofs.Common.◌∙◌}
 use Rattle.mg_gen.proofs.tally.Tally.count.Goals as goal
 
 pub returns : goal.returns

@@ -1,7 +1,4 @@
-use Rattle.std.proofs.Common.{◌==◌, ◌∙◌, slice_index}
-use Rattle.std.proofs.lemmas.Bool.{eqb-true}
-use Rattle.std.proofs.lemmas.List.Quantifiers.{position-Some}
-use Rattle.mg_index.proofs.Bound.{bound-above}
+use Rattle.{mg_index.proofs.Bound.bound-above, std.proofs.{Common.{◌==◌, ◌∙◌, slice_index}, lemmas.{Bool.eqb-true, List.Quantifiers.position-Some}}}
 use Rattle.mg_index.proofs.index.Index.add.Goals as goal
 
 pub put-requires-clause-free : goal.put-requires-clause-free

@@ -1,8 +1,5 @@
-use Rattle.std.proofs.Common.{◌≡◌, ◌+◌, ◌==◌, ◌∙◌, ap, arith, position, sym, true, false, drop, Some, None}
-use Rattle.std.specs.List.{list_any}
-use Rattle.std.proofs.lemmas.List.{take_rest}
-use Rattle.std.proofs.lemmas.List.Quantifiers.{position-Some}
-use Rattle.mg_index.proofs.Bound.{lowest-from, none-free}
+use Rattle.{mg_index.proofs.Bound.{lowest-from, none-free}, std.proofs.Common.{◌≡◌, ◌+◌, ◌==◌, ◌∙◌, ap, arith, position, sym, true, false, drop}}
+use Rattle.std.{proofs.{Common.{Some, None}, lemmas.List.{take_rest, Quantifiers.position-Some}}, specs.List.list_any}
 use Rattle.mg_index.proofs.index.Index.lowest_free.Goals as goal
 
 pub unreachable-requires : goal.unreachable-requires

@@ -1,6 +1,4 @@
-use Rattle.std.proofs.Common.{◌≡◌, ◌≤◌, [], replicate, rules}
-use Rattle.std.specs.Vec.{vec_capacity}
-use Rattle.mg_index.proofs.Bound.{new-places}
+use Rattle.{mg_index.proofs.Bound.new-places, std.{proofs.Common.{◌≡◌, ◌≤◌, [], replicate, rules}, specs.Vec.vec_capacity}}
 use Rattle.mg_index.proofs.index.Index.new.Goals as goal
 
 pub invariant_of-result : goal.invariant_of-result

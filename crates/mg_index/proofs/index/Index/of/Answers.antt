@@ -1,9 +1,5 @@
-use Rattle.std.proofs.Common.{◌≡◌, ℕ, List, arith, false, refl, subst, true}
-use Rattle.std.specs.Vec.{vec_capacity}
-use Rattle.mg_model.specs.Tests.{all_distinct}
-use Rattle.mg_index.specs.Pairs.{Ascends, HasTwice, IsSortedTable}
-use Rattle.mg_index.specs.Words.{numbers_in}
-use Rattle.mg_index.proofs.Listed.{rising-distinct, twice-not}
+use Rattle.mg_index.{proofs.Listed.{rising-distinct, twice-not}, specs.{Pairs.{Ascends, HasTwice, IsSortedTable}, Words.numbers_in}}
+use Rattle.{mg_model.specs.Tests.all_distinct, std.{proofs.Common.{◌≡◌, ℕ, List, arith, false, refl, subst, true}, specs.Vec.vec_capacity}}
 use Rattle.mg_index.proofs.index.Index.of.Goals as goal
 
 pub invariant_of-result : goal.invariant_of-result

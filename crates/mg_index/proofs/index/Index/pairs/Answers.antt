@@ -1,5 +1,4 @@
-use Rattle.std.proofs.Common.{ℕ, List, subst, sym}
-use Rattle.mg_index.specs.Pairs.{IsExact}
+use Rattle.{mg_index.specs.Pairs.IsExact, std.proofs.Common.{ℕ, List, subst, sym}}
 use Rattle.mg_index.proofs.index.Index.pairs.Goals as goal
 
 pub returns-clause-exact : goal.returns-clause-exact

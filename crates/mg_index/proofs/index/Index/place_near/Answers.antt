@@ -1,6 +1,5 @@
-use Rattle.std.proofs.Common.{◌≡◌, ◌<◌, ◌==◌, ap, length, sym, ◌∙◌, arith, position, slice_index}
+use Rattle.{mg_index.proofs.Bound.place-found, std.proofs.Common.{◌≡◌, ◌<◌, ◌==◌, ap, length, sym, ◌∙◌, arith, position, slice_index}}
 use Rattle.std.proofs.lemmas.List.{get_or_default}
-use Rattle.mg_index.proofs.Bound.{place-found}
 use Rattle.mg_index.proofs.index.Index.place_near.Goals as goal
 
 pub returns-then-index-number : goal.returns-then-index-number

@@ -1,10 +1,8 @@
-use Rattle.std.proofs.Common.{◌≡◌, ◌≢◌, ◌≤◌, ◌<◌, ◌==◌, ◌∙◌, ℕ, List, ap, arith, get_or, length, position, sym, subst}
-use Rattle.std.specs.List.{AllWithin, Contains}
-use Rattle.std.proofs.lemmas.List.{get_or_default}
-use Rattle.mg_index.specs.PlaceLemmas.{nowhere}
 use Rattle.mg_index.proofs.Bound.{place-found, place-not-found, nowhere-else}
-use Rattle.mg_index.proofs.index.Index.place_of.Goals as goal
 use Rattle.mg_index.proofs.index.Index.place_of.Goals.{else-at-len-via-then-at-len+else-index-number, else-at-len-via-else-at-len}
+use Rattle.{mg_index.specs.PlaceLemmas.nowhere, std.proofs.Common.{◌≡◌, ◌≢◌, ◌≤◌, ◌<◌, ◌==◌, ◌∙◌, ℕ, List, ap, arith, get_or, length, position, sym}}
+use Rattle.std.{proofs.{Common.subst, lemmas.List.get_or_default}, specs.List.{AllWithin, Contains}}
+use Rattle.mg_index.proofs.index.Index.place_of.Goals as goal
 
 pub returns-then-index-number : goal.returns-then-index-number
 returns-then-index-number c =

@@ -1,8 +1,6 @@
-use Rattle.std.proofs.Common.{◌≡◌, ◌==◌, ◌≤◌, ◌<◌, ◌∙◌, ℕ, List, ap, arith, length, insert, if◌then◌else◌, slice_set, is_ok, subst, slice_index, sym, false, true, rules}
-use Rattle.std.specs.List.{AllWithin, list_any}
-use Rattle.std.specs.Vec.{vec_capacity, vec_len}
-use Rattle.mg_index.proofs.Bound.{has-room, put-places}
-use Rattle.mg_index.specs.Pairs.{IsIndexed}
+use Rattle.{mg_index.{proofs.Bound.{has-room, put-places}, specs.Pairs.IsIndexed}, std.proofs.Common.{◌≡◌, ◌==◌, ◌≤◌, ◌<◌, ◌∙◌, ℕ, List, ap, arith}}
+use Rattle.std.{proofs.Common.{length, insert, if◌then◌else◌, slice_set, is_ok, subst, slice_index, sym, false, true, rules}, specs.List.AllWithin}
+use Rattle.std.specs.{List.list_any, Vec.{vec_capacity, vec_len}}
 use Rattle.mg_index.proofs.index.Index.put.Goals as goal
 
 pub invariant_of-self : goal.invariant_of-self

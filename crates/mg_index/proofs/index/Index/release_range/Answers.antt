@@ -1,10 +1,6 @@
-use Rattle.std.proofs.Common.{◌≡◌, ◌≤◌, ◌<◌, ◌∙◌, ◌++◌, ℕ, All, List, ap, arith, drop, get_or, length, map, subst, sym, take}
-use Rattle.std.specs.List.{between, remove_range}
-use Rattle.std.specs.Vec.{vec_capacity}
-use Rattle.mg_index.proofs.Lists.{all_over}
-use Rattle.mg_index.proofs.Released.{length-freed, part_bound, released, released-places}
-use Rattle.mg_index.specs.Pairs.{IsPart, freed}
-use Rattle.mg_index.specs.Words.{unless_within}
+use Rattle.mg_index.{proofs.{Lists.all_over, Released.{length-freed, part_bound, released, released-places}}, specs.Pairs.{IsPart, freed}}
+use Rattle.{mg_index.specs.Words.unless_within, std.proofs.Common.{◌≡◌, ◌≤◌, ◌<◌, ◌∙◌, ◌++◌, ℕ, All, List, ap, arith, drop, get_or, length, map}}
+use Rattle.std.{proofs.Common.{subst, sym, take}, specs.{List.{between, remove_range}, Vec.vec_capacity}}
 use Rattle.mg_index.proofs.index.Index.release_range.Goals as goal
 
 pub free_places-self-inside-requires : goal.free_places-self-inside-requires

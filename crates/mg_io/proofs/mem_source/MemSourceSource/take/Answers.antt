@@ -1,6 +1,5 @@
-use Rattle.std.proofs.Common.{arith, ap, ◌∙◌, ◌≡◌, List, ℕ, take, drop, length, length-take-le}
-use Rattle.mg_io.specs.Memory.{SourceState}
-use Rattle.mg_io.proofs.Moving.{copied-gives, none-left}
+use Rattle.{mg_io.{proofs.Moving.{copied-gives, none-left}, specs.Memory.SourceState}, std.proofs.Common.{arith, ap, ◌∙◌, ◌≡◌, List, ℕ, take, drop}}
+use Rattle.std.proofs.Common.{length, length-take-le}
 use Rattle.mg_io.proofs.mem_source.MemSourceSource.take.Goals as goal
 
 pub returns-clause-bytes : goal.returns-clause-bytes

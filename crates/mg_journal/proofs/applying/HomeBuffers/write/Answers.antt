@@ -1,13 +1,6 @@
-use Rattle.std.proofs.Common.{◌≡◌, ◌<◌, ◌∙◌, ℕ, All, ap, arith, length, refl, subst, sym, true}
-use Rattle.std.proofs.lemmas.List.{take-append-le, take_all}
-use Rattle.mg_disk.specs.Disk.{Image, SameBut, block_at}
-use Rattle.mg_disk.specs.PlaceLemmas.{same_as}
-use Rattle.mg_disk.specs.Runs.{still_seen}
-use Rattle.mg_journal.proofs.AfterReads.{after_reads}
-use Rattle.mg_journal.specs.Applied.{filled, nth_body}
-use Rattle.mg_journal.specs.Contents.{names}
-use Rattle.mg_journal.specs.Places.{IsPlace}
-use Rattle.mg_model.specs.Layout.{globals_block}
+use Rattle.{mg_disk.specs.{Disk.{Image, SameBut, block_at}, PlaceLemmas.same_as, Runs.still_seen}, mg_journal.proofs.AfterReads.after_reads}
+use Rattle.{mg_journal.specs.{Applied.{filled, nth_body}, Contents.names, Places.IsPlace}, mg_model.specs.Layout.globals_block, std.proofs.Common.◌≡◌}
+use Rattle.std.proofs.{Common.{◌<◌, ◌∙◌, ℕ, All, ap, arith, length, refl, subst, sym, true}, lemmas.List.{take-append-le, take_all}}
 use Rattle.mg_journal.proofs.applying.HomeBuffers.write.Goals as goal
 
 pub returns-clause-any_moment : goal.returns-clause-any_moment

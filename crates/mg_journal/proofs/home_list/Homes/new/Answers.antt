@@ -1,6 +1,4 @@
-use Rattle.std.proofs.Common.{◌≡◌, [], List, arith, replicate, rules, subst, sym, ℕ}
-use Rattle.mg_journal.proofs.Hints.{hinted_none}
-use Rattle.mg_journal.specs.Hinted.{AreHinted}
+use Rattle.{mg_journal.{proofs.Hints.hinted_none, specs.Hinted.AreHinted}, std.proofs.Common.{◌≡◌, [], List, arith, replicate, rules, subst, sym, ℕ}}
 use Rattle.mg_journal.proofs.home_list.Homes.new.Goals as goal
 
 pub invariant_of-result : goal.invariant_of-result

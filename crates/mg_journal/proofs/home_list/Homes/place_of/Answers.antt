@@ -1,7 +1,5 @@
-use Rattle.std.proofs.Common.{rules, ◌≡◌, ◌==◌, ◌-◌, ◌<◌, ◌∙◌, List, None, Some, ap, arith, length, position, slice_index_or, subst, sym, ℕ}
-use Rattle.std.proofs.lemmas.List.{get_or_default}
-use Rattle.mg_journal.proofs.Hints.{hint-within, hinted-at, unhinted}
-use Rattle.mg_journal.specs.Hinted.{hint_of}
+use Rattle.{mg_journal.{proofs.Hints.{hint-within, hinted-at, unhinted}, specs.Hinted.hint_of}, std.proofs.Common.{rules, ◌≡◌, ◌==◌, ◌-◌, ◌<◌, ◌∙◌}}
+use Rattle.std.proofs.{Common.{List, None, Some, ap, arith, length, position, slice_index_or, subst, sym, ℕ}, lemmas.List.get_or_default}
 use Rattle.mg_journal.proofs.home_list.Homes.place_of.Goals as goal
 
 pub returns-then-hint-eq0 : goal.returns-then-hint-eq0

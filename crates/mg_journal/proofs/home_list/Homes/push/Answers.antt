@@ -1,7 +1,5 @@
-use Rattle.std.proofs.Common.{rules, ◌≡◌, ◌==◌, ◌+◌, ◌<◌, None, List, arith, length, position, slice_set, subst, sym, ℕ}
-use Rattle.mg_model.specs.Layout.{body_limit}
-use Rattle.mg_journal.proofs.Hints.{hinted_added}
-use Rattle.mg_journal.specs.Hinted.{AreHinted}
+use Rattle.{mg_journal.{proofs.Hints.hinted_added, specs.Hinted.AreHinted}, mg_model.specs.Layout.body_limit, std.proofs.Common.{rules, ◌≡◌, ◌==◌}}
+use Rattle.std.proofs.Common.{◌+◌, ◌<◌, None, List, arith, length, position, slice_set, subst, sym, ℕ}
 use Rattle.mg_journal.proofs.home_list.Homes.push.Goals as goal
 
 pub invariant_of-self : goal.invariant_of-self

@@ -1,11 +1,6 @@
-use Rattle.std.proofs.Common.{◌≡◌, ◌∙◌, ◌<◌, ap, arith, subst, sym}
-use Rattle.std.proofs.lemmas.Bool.{lt-ltb}
-use Rattle.mg_disk.specs.BecomesLemmas.{becomes-of}
-use Rattle.mg_journal.proofs.NewestSteps.{closed_holds}
-use Rattle.mg_journal.specs.Held.{Store}
-use Rattle.mg_journal.specs.Looked.{Fits, Placed}
-use Rattle.mg_journal.specs.Recovery.{IsRecovered}
-use Rattle.mg_journal.specs.Standing.{HoldsOpen, fits_held, held_fits}
+use Rattle.{mg_disk.specs.BecomesLemmas.becomes-of, mg_journal.{proofs.NewestSteps.closed_holds, specs.{Held.Store, Looked.{Fits, Placed}}}}
+use Rattle.{mg_journal.specs.{Recovery.IsRecovered, Standing.{HoldsOpen, fits_held, held_fits}}, std.proofs.Common.{◌≡◌, ◌∙◌, ◌<◌, ap, arith, subst}}
+use Rattle.std.proofs.{Common.sym, lemmas.Bool.lt-ltb}
 use Rattle.mg_journal.proofs.store.Store.close_segments.Goals as goal
 
 pub recover-requires-clause-looks : goal.recover-requires-clause-looks

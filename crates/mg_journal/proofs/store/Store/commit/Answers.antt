@@ -1,8 +1,5 @@
-use Rattle.std.proofs.Common.{◌≡◌, [], arith, refl, sym, subst}
-use Rattle.mg_disk.specs.BecomesLemmas.{becomes-same}
-use Rattle.mg_journal.proofs.CommitRuns.{empty_from, new_itself, yet}
-use Rattle.mg_journal.specs.Contents.{NewContents}
-use Rattle.mg_journal.specs.Standing.{IsCommitted}
+use Rattle.{mg_disk.specs.BecomesLemmas.becomes-same, mg_journal.{proofs.CommitRuns.{empty_from, new_itself, yet}, specs.Contents.NewContents}}
+use Rattle.{mg_journal.specs.Standing.IsCommitted, std.proofs.Common.{◌≡◌, [], arith, refl, sym, subst}}
 use Rattle.mg_journal.proofs.store.Store.commit.Goals as goal
 
 pub returns-then-len-eq0-clause-any_moment : goal.returns-then-len-eq0-clause-any_moment

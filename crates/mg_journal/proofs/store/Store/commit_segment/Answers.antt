@@ -1,12 +1,7 @@
+use Rattle.{mg_disk.specs.{BecomesLemmas.{becomes-of, becomes-to, becomes-wider}, Runs.leaves_wider}, mg_journal.proofs.CommitRuns.make_done}
+use Rattle.mg_journal.{proofs.{CommitRuns.{make_run, some_same}, NewestSteps.{counted, holds_next, is_late}}, specs.Contents.NewContents}
+use Rattle.{mg_journal.specs.{Phases.IsNext, Standing.{HoldsOpen, IsCommitted, fits_held, held_fits}}, mg_model.specs.Replay.homes_fit}
 use Rattle.std.proofs.Common.{◌∙◌, ap, arith, inl, subst, sym}
-use Rattle.mg_disk.specs.BecomesLemmas.{becomes-of, becomes-to, becomes-wider}
-use Rattle.mg_disk.specs.Runs.{leaves_wider}
-use Rattle.mg_model.specs.Replay.{homes_fit}
-use Rattle.mg_journal.proofs.CommitRuns.{make_done, make_run, some_same}
-use Rattle.mg_journal.proofs.NewestSteps.{counted, holds_next, is_late}
-use Rattle.mg_journal.specs.Contents.{NewContents}
-use Rattle.mg_journal.specs.Phases.{IsNext}
-use Rattle.mg_journal.specs.Standing.{HoldsOpen, IsCommitted, fits_held, held_fits}
 use Rattle.mg_journal.proofs.store.Store.commit_segment.Goals as goal
 
 pub returns-in_err-make_room-clause-any_moment : goal.returns-in_err-make_room-clause-any_moment

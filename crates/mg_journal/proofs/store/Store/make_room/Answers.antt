@@ -1,6 +1,4 @@
-use Rattle.std.proofs.Common.{refl}
-use Rattle.mg_journal.proofs.CommitRuns.{yet_same}
-use Rattle.mg_journal.proofs.OpenSteps.{contents_still}
+use Rattle.{mg_journal.proofs.{CommitRuns.yet_same, OpenSteps.contents_still}, std.proofs.Common.refl}
 use Rattle.mg_journal.proofs.store.Store.make_room.Goals as goal
 
 pub returns-then-self-lt-SEGMENTS-clause-any_moment : goal.returns-then-self-lt-SEGMENTS-clause-any_moment

@@ -1,8 +1,5 @@
-use Rattle.std.proofs.Common.{◌∙◌, arith, subst, sym}
-use Rattle.mg_journal.proofs.OpenSteps.{contents_kept, contents_still, looked_then, same_error}
-use Rattle.mg_disk.specs.Runs.{left_still}
-use Rattle.mg_journal.specs.Contents.{SameContents}
-use Rattle.mg_journal.specs.Standing.{IsOpened}
+use Rattle.{mg_disk.specs.Runs.left_still, mg_journal.proofs.OpenSteps.{contents_kept, contents_still, looked_then, same_error}}
+use Rattle.{mg_journal.specs.{Contents.SameContents, Standing.IsOpened}, std.proofs.Common.{◌∙◌, arith, subst, sym}}
 use Rattle.mg_journal.proofs.store.Store.open.Goals as goal
 
 pub returns-in-Err-clause-any_moment : goal.returns-in-Err-clause-any_moment

@@ -1,8 +1,4 @@
-use Rattle.std.proofs.Common.{arith, sym, subst}
-use Rattle.mg_disk.specs.Runs.{still_seen}
-use Rattle.mg_journal.specs.Held.{Store}
-use Rattle.mg_journal.specs.Looked.{Fits}
-use Rattle.mg_journal.specs.Standing.{held_fits}
+use Rattle.{mg_disk.specs.Runs.still_seen, mg_journal.specs.{Held.Store, Looked.Fits, Standing.held_fits}, std.proofs.Common.{arith, sym, subst}}
 use Rattle.mg_journal.proofs.store.Store.read.Goals as goal
 
 pub read-requires-clause-fits : goal.read-requires-clause-fits

@@ -1,10 +1,6 @@
-use Rattle.std.proofs.Common.{◌≡◌, ◌∙◌, ap, arith, refl, subst, sym, true}
+use Rattle.{mg_disk.specs.BecomesLemmas.becomes-of, mg_journal.{proofs.NewestSteps.closed_holds, specs.{Looked.Placed, Recovery.IsRecovered}}}
+use Rattle.{mg_journal.specs.Standing.{AllClosed, HoldsOpen, fits_held}, std.proofs.Common.{◌≡◌, ◌∙◌, ap, arith, refl, subst, sym, true}}
 use Rattle.std.specs.Option.{ForSome}
-use Rattle.mg_disk.specs.BecomesLemmas.{becomes-of}
-use Rattle.mg_journal.specs.Looked.{Placed}
-use Rattle.mg_journal.specs.Recovery.{IsRecovered}
-use Rattle.mg_journal.specs.Standing.{AllClosed, HoldsOpen, fits_held}
-use Rattle.mg_journal.proofs.NewestSteps.{closed_holds}
 use Rattle.mg_journal.proofs.store.Store.recover.Goals as goal
 
 pub returns-in-Ok-clause-opened : goal.returns-in-Ok-clause-opened

@@ -1,15 +1,7 @@
-use Rattle.std.proofs.Common.{◌≡◌, ◌≤◌, ◌∙◌, ap, arith, length, option_map, refl, slice_set, subst, sym}
-use Rattle.std.proofs.lemmas.Result.{on_ok_weaker}
-use Rattle.mg_disk.specs.BecomesLemmas.{becomes-changed, becomes-then, becomes-to}
-use Rattle.mg_disk.specs.Disk.{SameBut}
-use Rattle.mg_disk.specs.Stops.{Leaves}
-use Rattle.mg_model.specs.Layout.{globals_block, segment_gate}
-use Rattle.mg_journal.proofs.CommitRuns.{after_bodies, after_gate}
-use Rattle.mg_journal.proofs.CommitSteps.{next}
-use Rattle.mg_journal.proofs.NewestSteps.{shut_from}
-use Rattle.mg_journal.specs.Held.{Store}
-use Rattle.mg_journal.specs.Phases.{HoldsWrites, IsBehind, IsNext}
-use Rattle.mg_journal.specs.Standing.{held_fits}
+use Rattle.mg_disk.specs.{BecomesLemmas.{becomes-changed, becomes-then, becomes-to}, Disk.SameBut, Stops.Leaves}
+use Rattle.mg_journal.{proofs.{CommitRuns.{after_bodies, after_gate}, CommitSteps.next, NewestSteps.shut_from}, specs.Held.Store}
+use Rattle.{mg_journal.specs.{Phases.{HoldsWrites, IsBehind, IsNext}, Standing.held_fits}, mg_model.specs.Layout.{globals_block, segment_gate}}
+use Rattle.std.proofs.{Common.{◌≡◌, ◌≤◌, ◌∙◌, ap, arith, length, option_map, refl, slice_set, subst, sym}, lemmas.Result.on_ok_weaker}
 use Rattle.mg_journal.proofs.store.Store.write_next.Goals as goal
 
 pub returns-in_err-write_segment-clause-any_moment : goal.returns-in_err-write_segment-clause-any_moment

@@ -1,8 +1,5 @@
+use Rattle.mg_journal.{proofs.Tables.{last-more, lies_fit, lying_more}, specs.{Newest.{HasLast, Puts, lying}, Places.IsPlace, Staged.home_at}}
 use Rattle.std.proofs.Common.{◌≡◌, ◌<◌, ◌+◌, ◌++◌, ◌∙◌, ◌∷◌, [], ap, arith, append_assoc, length, subst, sym, take}
-use Rattle.mg_journal.proofs.Tables.{last-more, lies_fit, lying_more}
-use Rattle.mg_journal.specs.Newest.{HasLast, Puts, lying}
-use Rattle.mg_journal.specs.Places.{IsPlace}
-use Rattle.mg_journal.specs.Staged.{home_at}
 use Rattle.mg_journal.proofs.table.Table.add.Goals as goal
 
 pub loop-k-preserved : goal.loop-k-preserved

@@ -1,7 +1,5 @@
-use Rattle.std.proofs.Common.{◌≡◌, ◌≤◌, ◌+◌, ◌++◌, ℕ, All, List, length, take, true}
-use Rattle.mg_model.specs.Replay.{homes_fit}
-use Rattle.mg_journal.specs.Newest.{HasLast, lying}
-use Rattle.mg_journal.specs.Places.{IsPlace}
+use Rattle.{mg_journal.specs.{Newest.{HasLast, lying}, Places.IsPlace}, mg_model.specs.Replay.homes_fit, std.proofs.Common.{◌≡◌, ◌≤◌, ◌+◌, ◌++◌, ℕ}}
+use Rattle.std.proofs.Common.{All, List, length, take, true}
 use Rattle.mg_journal.proofs.table.Table.add.Given as goal
 
 -- the places of the bodies up to this one are in the table

@@ -1,10 +1,7 @@
-use Rattle.std.proofs.Common.{◌≢◌, ◌≤◌, ◌<◌, ◌∙◌, ℕ, List, ap, arith, find, get_or, length, option_map, sym, subst}
-use Rattle.std.specs.List.{AllWithin}
-use Rattle.std.proofs.lemmas.List.{get_or_default}
-use Rattle.mg_journal.proofs.Tables.{found-at, found-none}
-use Rattle.mg_journal.specs.Newest.{is_for}
+use Rattle.mg_journal.proofs.{Tables.{found-at, found-none}, table.Table.body_of.Goals.else-at-len-via-then-at-len+else-index-block}
+use Rattle.{mg_journal.{proofs.table.Table.body_of.Goals.else-at-len-via-else-at-len, specs.Newest.is_for}, std.proofs.Common.{◌≢◌, ◌≤◌, ◌<◌, ◌∙◌, ℕ}}
+use Rattle.std.{proofs.{Common.{List, ap, arith, find, get_or, length, option_map, sym, subst}, lemmas.List.get_or_default}, specs.List.AllWithin}
 use Rattle.mg_journal.proofs.table.Table.body_of.Goals as goal
-use Rattle.mg_journal.proofs.table.Table.body_of.Goals.{else-at-len-via-then-at-len+else-index-block, else-at-len-via-else-at-len}
 
 pub returns-then-index-block : goal.returns-then-index-block
 returns-then-index-block c = grind (arith, get_or_default, found-at)

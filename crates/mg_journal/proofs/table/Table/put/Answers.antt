@@ -1,13 +1,9 @@
-use Rattle.std.proofs.Common.{rules, ◌≡◌, ◌≢◌, ◌≤◌, ◌<◌, ◌∙◌, ℕ, All, List, ap, arith, get_or, if◌then◌else◌, insert, is_ok, length, sym, subst, true}
-use Rattle.std.specs.List.{AllWithin}
-use Rattle.std.specs.Vec.{vec_capacity, vec_len}
-use Rattle.std.proofs.lemmas.List.{get_or_default}
-use Rattle.std.proofs.lemmas.List.Elements.{All-set}
 use Rattle.mg_journal.proofs.Tables.{insert-all, insert-ascends, insert-puts, set-puts}
-use Rattle.mg_journal.specs.Newest.{Ascends}
-use Rattle.mg_journal.specs.Places.{IsPlace}
+use Rattle.mg_journal.{proofs.table.Table.put.Goals.{else-at-len-via-then-at-len+else-index-place, else-at-len-via-else-at-len}, specs.Newest.Ascends}
+use Rattle.{mg_journal.specs.Places.IsPlace, std.proofs.Common.{rules, ◌≡◌, ◌≢◌, ◌≤◌, ◌<◌, ◌∙◌, ℕ, All, List, ap, arith, get_or, if◌then◌else◌}}
+use Rattle.std.{proofs.{Common.{insert, is_ok, length, sym, subst, true}, lemmas.List.{get_or_default, Elements.All-set}}, specs.List.AllWithin}
+use Rattle.std.specs.Vec.{vec_capacity, vec_len}
 use Rattle.mg_journal.proofs.table.Table.put.Goals as goal
-use Rattle.mg_journal.proofs.table.Table.put.Goals.{else-at-len-via-then-at-len+else-index-place, else-at-len-via-else-at-len}
 
 pub invariant_of-self-else-at-len : goal.invariant_of-self-else-at-len
 invariant_of-self-else-at-len c =

@@ -1,15 +1,8 @@
-use Rattle.std.proofs.Common.{◌≡◌, Result, Err, ◌+◌, ◌++◌, ◌∙◌, ℕ, suc, ap, arith, refl, subst, sym}
-use Rattle.mg_disk.specs.Disk.{Image}
-use Rattle.std.specs.Prelude.{IsSome}
-use Rattle.mg_model.specs.Layout.{segment_count}
-use Rattle.mg_model.specs.Abbreviations.{segments_fit}
-use Rattle.mg_disk.specs.Runs.{nothing_then}
-use Rattle.mg_faults.specs.Faults.{count_then, then_rose}
-use Rattle.mg_journal.specs.declared.faults.ViewFault.TheVariants.{Damaged, Disk}
-use Rattle.mg_journal.specs.JournalLemmas.{replay-none, replay-some}
-use Rattle.mg_journal.specs.Newest.{HasLast}
-use Rattle.mg_journal.specs.Places.{places_of, places_since}
-use Rattle.mg_journal.proofs.Bodies.{places_since-last, segments_fit-more, segments_unfit}
+use Rattle.{mg_disk.specs.{Disk.Image, Runs.nothing_then}, mg_faults.specs.Faults.{count_then, then_rose}, mg_journal.proofs.Bodies.places_since-last}
+use Rattle.mg_journal.{proofs.Bodies.{segments_fit-more, segments_unfit}, specs.{JournalLemmas.{replay-none, replay-some}, Newest.HasLast}}
+use Rattle.mg_journal.specs.{Places.{places_of, places_since}, declared.faults.ViewFault.TheVariants.{Damaged, Disk}}
+use Rattle.{mg_model.specs.{Abbreviations.segments_fit, Layout.segment_count}, std.proofs.Common.{◌≡◌, Result, Err, ◌+◌, ◌++◌, ◌∙◌, ℕ, suc, ap}}
+use Rattle.std.{proofs.Common.{arith, refl, subst, sym}, specs.Prelude.IsSome}
 use Rattle.mg_journal.proofs.view.View.look.Goals as goal
 
 abbrev fails : {E : Type 0} (T : Type 0) → E → Result T E

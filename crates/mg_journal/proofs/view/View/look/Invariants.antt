@@ -1,9 +1,5 @@
-use Rattle.std.proofs.Common.{◌≡◌, ◌≤◌, ◌*◌, All, length, true}
-use Rattle.std.specs.Option.{ForSome}
-use Rattle.mg_disk.specs.Stops.{CountGoes, WritesNothing}
-use Rattle.mg_model.specs.Abbreviations.{segments_fit}
-use Rattle.mg_journal.specs.Newest.{HasLast}
-use Rattle.mg_journal.specs.Places.{IsPlace, places_since}
+use Rattle.{mg_disk.specs.Stops.{CountGoes, WritesNothing}, mg_journal.specs.{Newest.HasLast, Places.{IsPlace, places_since}}}
+use Rattle.{mg_model.specs.Abbreviations.segments_fit, std.{proofs.Common.{◌≡◌, ◌≤◌, ◌*◌, All, length, true}, specs.Option.ForSome}}
 use Rattle.mg_journal.proofs.view.View.look.Given as goal
 
 -- the segments before this one fit, and the last of their bodies are in the table

@@ -1,6 +1,4 @@
-use Rattle.std.proofs.Common.{◌<◌, ◌∙◌, sym, ap, arith, ◌≡◌}
-use Rattle.mg_journal.proofs.Tables.{found-below}
-use Rattle.mg_journal.specs.Looked.{Placed}
+use Rattle.{mg_journal.{proofs.Tables.found-below, specs.Looked.Placed}, std.proofs.Common.{◌<◌, ◌∙◌, sym, ap, arith, ◌≡◌}}
 use Rattle.mg_journal.proofs.view.View.place_of.Goals as goal
 
 pub returns-in-Some-clause-below : goal.returns-in-Some-clause-below

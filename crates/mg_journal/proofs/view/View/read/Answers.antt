@@ -1,7 +1,5 @@
-use Rattle.std.proofs.Common.{◌<◌, ◌∙◌, ap, arith, length}
+use Rattle.{mg_disk.specs.Disk.block_at, mg_journal.proofs.Lookups.newest_reads, std.proofs.Common.{◌<◌, ◌∙◌, ap, arith, length}}
 use Rattle.std.proofs.lemmas.Result.{on_ok_weaker}
-use Rattle.mg_disk.specs.Disk.{block_at}
-use Rattle.mg_journal.proofs.Lookups.{newest_reads}
 use Rattle.mg_journal.proofs.view.View.read.Goals as goal
 
 pub returns-clause-block : goal.returns-clause-block

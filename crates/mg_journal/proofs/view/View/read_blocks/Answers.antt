@@ -1,5 +1,4 @@
-use Rattle.std.proofs.Common.{◌<◌, ◌∙◌, sym, arith, length}
-use Rattle.mg_journal.proofs.ReadTogether.{newest_more}
+use Rattle.{mg_journal.proofs.ReadTogether.newest_more, std.proofs.Common.{◌<◌, ◌∙◌, sym, arith, length}}
 use Rattle.mg_journal.proofs.view.View.read_blocks.Goals as goal
 
 pub loop-k-preserved : goal.loop-k-preserved

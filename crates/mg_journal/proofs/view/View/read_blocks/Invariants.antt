@@ -1,5 +1,4 @@
-use Rattle.std.specs.Prelude.{length}
-use Rattle.mg_journal.proofs.ReadTogether.{AreNewest}
+use Rattle.{mg_journal.proofs.ReadTogether.AreNewest, std.specs.Prelude.length}
 use Rattle.mg_journal.proofs.view.View.read_blocks.Given as goal
 
 abbrev pub invariant-loop-k : goal.invariant-loop-k

@@ -1,9 +1,6 @@
-use Rattle.std.proofs.Common.{◌≡◌, ◌*◌, ◌+◌, ◌++◌, ◌<◌, ◌∙◌, ◌∷◌, [], List, None, ap, arith, length, subst, sym, ℕ}
-use Rattle.mg_model.specs.Bytes.{number_at}
-use Rattle.mg_model.specs.Layout.{body_limit}
-use Rattle.mg_journal.proofs.Pairs.{held_added, index_held, long_held, pairs_added, pairs_count, pairs_position}
-use Rattle.mg_journal.proofs.Waits.{none_waits}
-use Rattle.mg_journal.specs.Staged.{AreHeld, paired, waiting}
+use Rattle.mg_journal.proofs.{Pairs.{held_added, index_held, long_held, pairs_added, pairs_count, pairs_position}, Waits.none_waits}
+use Rattle.{mg_journal.specs.Staged.{AreHeld, paired, waiting}, mg_model.specs.{Bytes.number_at, Layout.body_limit}, std.proofs.Common.{◌≡◌, ◌*◌}}
+use Rattle.std.proofs.Common.{◌+◌, ◌++◌, ◌<◌, ◌∙◌, ◌∷◌, [], List, None, ap, arith, length, subst, sym, ℕ}
 use Rattle.mg_journal.proofs.writes.Writes.add.Goals as goal
 
 pub add_home-requires : goal.add_home-requires

@@ -1,5 +1,4 @@
-use Rattle.std.proofs.Common.{◌∙◌, ap, arith, length}
-use Rattle.mg_journal.proofs.Pairs.{home_held, pairs_count}
+use Rattle.{mg_journal.proofs.Pairs.{home_held, pairs_count}, std.proofs.Common.{◌∙◌, ap, arith, length}}
 use Rattle.mg_journal.proofs.writes.Writes.home.Goals as goal
 
 pub at-requires : goal.at-requires

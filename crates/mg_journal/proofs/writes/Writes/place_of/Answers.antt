@@ -1,7 +1,4 @@
-use Rattle.std.proofs.Common.{◌∙◌, ap, position, sym}
-use Rattle.mg_journal.proofs.Pairs.{pairs_position}
-use Rattle.mg_journal.proofs.Waits.{waits-at}
-use Rattle.mg_journal.specs.Staged.{goes_to}
+use Rattle.{mg_journal.{proofs.{Pairs.pairs_position, Waits.waits-at}, specs.Staged.goes_to}, std.proofs.Common.{◌∙◌, ap, position, sym}}
 use Rattle.mg_journal.proofs.writes.Writes.place_of.Goals as goal
 
 pub returns-clause-place : goal.returns-clause-place

@@ -1,8 +1,5 @@
-use Rattle.std.proofs.Common.{◌≡◌, ◌+◌, ◌∙◌, MatchOption, subst, sym}
-use Rattle.std.specs.List.{splice}
-use Rattle.mg_journal.proofs.Waits.{staged-there, waits-there}
-use Rattle.mg_journal.specs.Staged.{bytes_of, staged}
-use Rattle.mg_model.specs.Abbreviations.{word_bytes}
+use Rattle.{mg_journal.{proofs.Waits.{staged-there, waits-there}, specs.Staged.{bytes_of, staged}}, mg_model.specs.Abbreviations.word_bytes}
+use Rattle.std.{proofs.Common.{◌≡◌, ◌+◌, ◌∙◌, MatchOption, subst, sym}, specs.List.splice}
 use Rattle.mg_journal.proofs.writes.Writes.put.Goals as goal
 
 pub returns-in-Some-clause-put : goal.returns-in-Some-clause-put

@@ -1,5 +1,4 @@
-use Rattle.std.proofs.Common.{arith}
-use Rattle.mg_journal.proofs.Pairs.{bytes_held, held_put, pairs_put}
+use Rattle.{mg_journal.proofs.Pairs.{bytes_held, held_put, pairs_put}, std.proofs.Common.arith}
 use Rattle.mg_journal.proofs.writes.Writes.put_first_into.Goals as goal
 
 pub invariant_of-self : goal.invariant_of-self

@@ -1,5 +1,4 @@
-use Rattle.std.proofs.Common.{◌∙◌, sym}
-use Rattle.mg_journal.proofs.Waits.{staged-there}
+use Rattle.{mg_journal.proofs.Waits.staged-there, std.proofs.Common.{◌∙◌, sym}}
 use Rattle.mg_journal.proofs.writes.Writes.stage.Goals as goal
 
 pub returns-in-Some : goal.returns-in-Some

@@ -1,5 +1,4 @@
-use Rattle.std.proofs.Common.{◌++◌, ◌∙◌, List, drop, length, sym, ℕ}
-use Rattle.mg_journal.proofs.Waits.{staged-again, staged-last}
+use Rattle.{mg_journal.proofs.Waits.{staged-again, staged-last}, std.proofs.Common.{◌++◌, ◌∙◌, List, drop, length, sym, ℕ}}
 use Rattle.mg_journal.proofs.writes.Writes.stage_over.Goals as goal
 
 pub returns-in-Some : goal.returns-in-Some

@@ -1,10 +1,6 @@
-use Rattle.mg_disk.specs.BecomesLemmas.{becomes-to}
-use Rattle.mg_kernel.proofs.Standing.{backed-kept, backed-of, sound-of, stands-opened}
-use Rattle.mg_volume.specs.FormedLemmas.{formed_sound}
+use Rattle.{mg_disk.specs.BecomesLemmas.becomes-to, mg_kernel.proofs.Standing.{backed-kept, backed-of, sound-of, stands-opened}}
+use Rattle.{mg_kernel.specs.Meaning.{is_live, staged_of}, mg_volume.specs.{FormedLemmas.formed_sound, Meaning.now_of, Opening.IsSaved}}
 use Rattle.mg_kernel.specs.Meaning as kernel
-use Rattle.mg_kernel.specs.Meaning.{is_live, staged_of}
-use Rattle.mg_volume.specs.Meaning.{now_of}
-use Rattle.mg_volume.specs.Opening.{IsSaved}
 use Rattle.mg_kernel.proofs.kernel.Kernel.commit.Goals as goal
 
 pub commit-requires : goal.commit-requires

@@ -1,7 +1,4 @@
-use Rattle.std.proofs.Common.{ap, ◌∙◌}
-use Rattle.std.specs.Prelude.{is_some}
-use Rattle.mg_kernel.specs.Meaning.{now_of}
-use Rattle.mg_kernel.proofs.Bases.{base_told}
+use Rattle.{mg_kernel.{proofs.Bases.base_told, specs.Meaning.now_of}, std.{proofs.Common.{ap, ◌∙◌}, specs.Prelude.is_some}}
 use Rattle.mg_kernel.proofs.kernel.Kernel.is_base.Goals as goal
 
 pub returns : goal.returns

@@ -1,7 +1,4 @@
-use Rattle.std.proofs.Common.{sym}
-use Rattle.mg_kernel.specs.Meaning.{now_of}
-use Rattle.mg_kernel.proofs.Counted.{held-gone}
-use Rattle.mg_kernel.proofs.Turned.{row-thread, unmapped}
+use Rattle.{mg_kernel.{proofs.{Counted.held-gone, Turned.{row-thread, unmapped}}, specs.Meaning.now_of}, std.proofs.Common.sym}
 use Rattle.mg_kernel.proofs.kernel.Kernel.lives.Goals as goal
 
 pub returns-in-Some : goal.returns-in-Some

@@ -1,15 +1,7 @@
-use Rattle.std.proofs.Common.{None, refl, subst, sym}
-use Rattle.std.specs.Prelude.{replicate}
-use Rattle.std.proofs.lemmas.Result.{IfOk-weaker}
-use Rattle.mg_kernel.proofs.Standing.{stands-opened}
+use Rattle.mg_kernel.{proofs.Standing.stands-opened, specs.{Meaning.{is_live, seats_in, staged_of}, Opening.{Opens, Starts}}}
+use Rattle.{mg_kernel.specs.declared.kernel.Kernel.Kernel, mg_model.specs.{Limits.seat_count, Volume.volume}, mg_vcache.specs.SeatLemmas.backed_none}
+use Rattle.{mg_volume.specs.Meaning.now_of, std.{proofs.{Common.{None, refl, subst, sym}, lemmas.Result.IfOk-weaker}, specs.Prelude.replicate}}
 use Rattle.mg_kernel.specs.Meaning as kernel
-use Rattle.mg_kernel.specs.Meaning.{is_live, seats_in, staged_of}
-use Rattle.mg_kernel.specs.Opening.{Opens, Starts}
-use Rattle.mg_kernel.specs.declared.kernel.Kernel.{Kernel}
-use Rattle.mg_model.specs.Limits.{seat_count}
-use Rattle.mg_model.specs.Volume.{volume}
-use Rattle.mg_vcache.specs.SeatLemmas.{backed_none}
-use Rattle.mg_volume.specs.Meaning.{now_of}
 use Rattle.mg_kernel.proofs.kernel.Kernel.open.Goals as goal
 
 pub returns-in-Ok-clause-starts : goal.returns-in-Ok-clause-starts

@@ -1,6 +1,4 @@
-use Rattle.mg_kernel.proofs.Standing.{backed-of, sound-of, stands-formed}
-use Rattle.mg_kernel.specs.Meaning.{is_live, words_in}
-use Rattle.std.proofs.Common.{rules, sym, ◌∙◌}
+use Rattle.{mg_kernel.{proofs.Standing.{backed-of, sound-of, stands-formed}, specs.Meaning.{is_live, words_in}}, std.proofs.Common.{rules, sym, ◌∙◌}}
 use Rattle.mg_kernel.proofs.kernel.Kernel.probe.Goals as goal
 
 pub validate-requires-clause-sound : goal.validate-requires-clause-sound

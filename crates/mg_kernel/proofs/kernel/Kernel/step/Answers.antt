@@ -1,6 +1,5 @@
-use Rattle.mg_kernel.proofs.Standing.{backed-of, sound-of, stands-formed, step-formed}
-use Rattle.mg_kernel.specs.Meaning.{is_live, words_in}
-use Rattle.std.proofs.Common.{sym, ◌∙◌}
+use Rattle.{mg_kernel.{proofs.Standing.{backed-of, sound-of, stands-formed, step-formed}, specs.Meaning.{is_live, words_in}}, std.proofs.Common.sym}
+use Rattle.std.proofs.Common.{◌∙◌}
 use Rattle.mg_kernel.proofs.kernel.Kernel.step.Goals as goal
 
 pub answer-requires-clause-sound : goal.answer-requires-clause-sound

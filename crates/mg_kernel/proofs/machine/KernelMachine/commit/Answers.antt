@@ -1,5 +1,4 @@
-use Rattle.mg_kernel.specs.Meaning.{now_of}
-use Rattle.mg_kernel.specs.SteppingLemmas.{commits, stepped_same}
+use Rattle.mg_kernel.specs.{Meaning.now_of, SteppingLemmas.{commits, stepped_same}}
 use Rattle.mg_kernel.proofs.machine.KernelMachine.commit.Goals as goal
 
 pub returns-in-Ok-clause-done : goal.returns-in-Ok-clause-done

@@ -1,5 +1,4 @@
-use Rattle.std.proofs.Common.{arith, refl}
-use Rattle.mg_kernel.specs.Meaning.{keeps_key, now_kept}
+use Rattle.{mg_kernel.specs.Meaning.{keeps_key, now_kept}, std.proofs.Common.{arith, refl}}
 use Rattle.mg_kernel.proofs.machine.KernelMachine.keep_rules.Goals as goal
 
 pub returns : goal.returns

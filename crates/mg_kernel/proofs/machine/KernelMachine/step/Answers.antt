@@ -1,5 +1,4 @@
-use Rattle.mg_kernel.specs.Meaning.{now_of}
-use Rattle.mg_kernel.specs.SteppingLemmas.{answers_line, stepped_line, stopped_line}
+use Rattle.mg_kernel.specs.{Meaning.now_of, SteppingLemmas.{answers_line, stepped_line, stopped_line}}
 use Rattle.mg_kernel.proofs.machine.KernelMachine.step.Goals as goal
 
 pub returns-in-Ok-clause-answers : goal.returns-in-Ok-clause-answers

@@ -1,9 +1,6 @@
-use Rattle.std.proofs.Common.{◌≡◌, ◌≤◌, ◌+◌, ◌-◌, ◌++◌, ℕ, List, drop, take, length, replicate, sym, ap, ◌∙◌, arith}
-use Rattle.std.specs.List.{splice}
-use Rattle.std.proofs.lemmas.List.{append_assoc, drop-drop, drop-replicate, length-append, length-drop}
-use Rattle.std.proofs.Math.Seq.{drop-append_seam}
-use Rattle.mg_model.specs.Filled.{IsFilled}
-use Rattle.mg_model.specs.FilledLemmas.{length-filled}
+use Rattle.{mg_model.specs.{Filled.IsFilled, FilledLemmas.length-filled}, std.proofs.Common.{◌≡◌, ◌≤◌, ◌+◌, ◌-◌, ◌++◌, ℕ, List, drop, take, length}}
+use Rattle.std.proofs.{Common.{replicate, sym, ap, ◌∙◌, arith}, Math.Seq.drop-append_seam, lemmas.List.{append_assoc, drop-drop, drop-replicate}}
+use Rattle.std.{proofs.lemmas.List.{length-append, length-drop}, specs.List.splice}
 use Rattle.mg_layout.proofs.filling.Filling.add.Goals as goal
 
 filled-more : (size : ℕ) (items bytes : List ℕ) (count : ℕ) → IsFilled 0 size items count → count + length bytes ≤ size → IsFilled 0 size (splice items count (count + length bytes) bytes) (count + length bytes)

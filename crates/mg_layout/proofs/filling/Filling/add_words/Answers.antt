@@ -1,5 +1,4 @@
-use Rattle.std.proofs.lemmas.List.Elements.{All-from_get_or}
-use Rattle.mg_model.specs.Ranges.{IsWord}
+use Rattle.{mg_model.specs.Ranges.IsWord, std.proofs.lemmas.List.Elements.All-from_get_or}
 use Rattle.mg_layout.proofs.filling.Filling.add_words.Goals as goal
 
 pub returns-clause-fit : goal.returns-clause-fit

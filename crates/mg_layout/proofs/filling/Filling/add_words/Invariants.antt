@@ -1,5 +1,4 @@
-use Rattle.std.proofs.Common.{◌≡◌, ◌+◌, ◌*◌, ◌++◌, length, take}
-use Rattle.mg_model.specs.Bytes.{words_bytes}
+use Rattle.{mg_model.specs.Bytes.words_bytes, std.proofs.Common.{◌≡◌, ◌+◌, ◌*◌, ◌++◌, length, take}}
 use Rattle.mg_layout.proofs.filling.Filling.add_words.Given as goal
 
 -- the words so far are there

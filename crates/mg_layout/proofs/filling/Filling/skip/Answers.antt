@@ -1,9 +1,6 @@
-use Rattle.std.proofs.Common.{rules}
-use Rattle.std.proofs.Common.{◌≡◌, ◌≤◌, ◌+◌, ◌-◌, ◌++◌, ℕ, List, drop, take, length, replicate, sym, ap, ◌∙◌, arith}
-use Rattle.std.proofs.lemmas.List.{drop-drop, drop-replicate, take-replicate}
-use Rattle.std.proofs.Math.Seq.{take-append-add}
-use Rattle.mg_model.specs.Filled.{IsFilled}
-use Rattle.mg_model.specs.FilledLemmas.{filled-take, length-filled}
+use Rattle.{mg_model.specs.{Filled.IsFilled, FilledLemmas.{filled-take, length-filled}}, std.proofs.Common.{rules, ◌≡◌, ◌≤◌, ◌+◌, ◌-◌, ◌++◌, ℕ, List}}
+use Rattle.std.proofs.{Common.{drop, take, length, replicate, sym, ap, ◌∙◌, arith}, Math.Seq.take-append-add, lemmas.List.{drop-drop, drop-replicate}}
+use Rattle.std.proofs.lemmas.List.{take-replicate}
 use Rattle.mg_layout.proofs.filling.Filling.skip.Goals as goal
 
 module _ (size : ℕ) (items : List ℕ) (count n : ℕ) (is : IsFilled 0 size items count) (room : length (take count items) + n ≤ size) where

@@ -1,8 +1,5 @@
-use Rattle.std.proofs.Common.{◌-◌, refl, arith}
-use Rattle.std.proofs.lemmas.Result.{on_ok_weaker}
-use Rattle.mg_model.specs.Layout.{first_object_block}
-use Rattle.mg_migrate.specs.Lifted.{table_shift}
-use Rattle.mg_migrate.proofs.LiftedReads.{any_so, behind_so, fits_so, object_so, row_so}
+use Rattle.mg_migrate.{proofs.LiftedReads.{any_so, behind_so, fits_so, object_so, row_so}, specs.Lifted.table_shift}
+use Rattle.{mg_model.specs.Layout.first_object_block, std.proofs.{Common.{◌-◌, refl, arith}, lemmas.Result.on_ok_weaker}}
 use Rattle.mg_migrate.proofs.lifting.LiftingContents.read.Goals as goal
 
 pub read-requires-clause-fits : goal.read-requires-clause-fits

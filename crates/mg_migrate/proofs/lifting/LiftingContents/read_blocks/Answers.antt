@@ -1,7 +1,5 @@
-use Rattle.std.proofs.Common.{◌-◌, ◌∙◌, sym, arith}
+use Rattle.{mg_migrate.{proofs.LiftedReads.blocks_so, specs.Lifted.table_shift}, std.proofs.Common.{◌-◌, ◌∙◌, sym, arith}}
 use Rattle.std.proofs.lemmas.Result.{on_ok_weaker}
-use Rattle.mg_migrate.specs.Lifted.{table_shift}
-use Rattle.mg_migrate.proofs.LiftedReads.{blocks_so}
 use Rattle.mg_migrate.proofs.lifting.LiftingContents.read_blocks.Goals as goal
 
 pub returns-then-first-ge-TABLE_BLOCK-clause-read : goal.returns-then-first-ge-TABLE_BLOCK-clause-read

@@ -1,7 +1,4 @@
-use Rattle.std.specs.Prelude.{length, option_map}
-use Rattle.mg_check.specs.ReadRuns.{AreRead}
-use Rattle.mg_migrate.specs.Lifted.{lifted}
-use Rattle.mg_model.specs.Replay.{replay}
+use Rattle.{mg_check.specs.ReadRuns.AreRead, mg_migrate.specs.Lifted.lifted, mg_model.specs.Replay.replay, std.specs.Prelude.{length, option_map}}
 use Rattle.mg_migrate.proofs.lifting.LiftingContents.read_blocks.Given as goal
 
 abbrev pub invariant-loop-k : goal.invariant-loop-k

@@ -1,7 +1,5 @@
-use Rattle.std.proofs.Common.{◌≡◌, IsTrue, min, rules, subst, ⊎_elim}
-use Rattle.mg_mirror.proofs.Found.{found_left, found_right}
-use Rattle.mg_mirror.specs.MirrorLemmas.{and_left, and_right}
-use Rattle.mg_mirror.specs.Copy.{LeavesCopy}
+use Rattle.{mg_mirror.{proofs.Found.{found_left, found_right}, specs.{Copy.LeavesCopy, MirrorLemmas.{and_left, and_right}}}, std.proofs.Common.◌≡◌}
+use Rattle.std.proofs.Common.{IsTrue, min, rules, subst, ⊎_elim}
 use Rattle.mg_mirror.proofs.mirror.Mirror.open_behind.Goals as goal
 
 pub returns-in-Err : goal.returns-in-Err

@@ -1,7 +1,4 @@
-use Rattle.std.proofs.Common.{refl}
-use Rattle.mg_disk.specs.Disk.{no_image}
-use Rattle.mg_disk.specs.Runs.{time_none}
-use Rattle.mg_mirror.proofs.MirrorCalls.{quiet_along}
+use Rattle.{mg_disk.specs.{Disk.no_image, Runs.time_none}, mg_mirror.proofs.MirrorCalls.quiet_along, std.proofs.Common.refl}
 use Rattle.mg_mirror.proofs.mirror.MirrorDisk.read_blocks.Goals as goal
 
 pub returns-in-Ok-clause-stops : goal.returns-in-Ok-clause-stops

@@ -1,9 +1,7 @@
-use Rattle.std.proofs.Common.{◌≡◌, Some, rules, inl, slice_set}
-use Rattle.std.specs.Prelude.{option_map}
-use Rattle.mg_disk.specs.Disk.{SeenBut, only_place, TornAt}
-use Rattle.mg_mirror.specs.MirrorLemmas.{told_but}
-use Rattle.mg_mirror.proofs.MirrorCalls.{LeftOf, write_both, write_left, write_right, goes_dropped, wrote_both, wrote_left, wrote_right, wrote_only_left, wrote_only_right, same_after}
-use Rattle.mg_mirror.specs.declared.mirror.Side.TheVariants.{Left, Right}
+use Rattle.{mg_disk.specs.Disk.{SeenBut, only_place, TornAt}, mg_mirror.proofs.MirrorCalls.{LeftOf, write_both, write_left, write_right}}
+use Rattle.mg_mirror.proofs.MirrorCalls.{goes_dropped, wrote_both, wrote_left, wrote_right, wrote_only_left, wrote_only_right, same_after}
+use Rattle.{mg_mirror.specs.{MirrorLemmas.told_but, declared.mirror.Side.TheVariants.{Left, Right}}, std.proofs.Common.{◌≡◌, Some, rules, inl}}
+use Rattle.std.{proofs.Common.slice_set, specs.Prelude.option_map}
 use Rattle.mg_mirror.proofs.mirror.MirrorDisk.write.Goals as goal
 
 pub invariant_of-self-clause-same : goal.invariant_of-self-clause-same

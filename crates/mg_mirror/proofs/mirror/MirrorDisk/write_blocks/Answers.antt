@@ -1,7 +1,6 @@
-use Rattle.std.proofs.Common.{◌≡◌, ◌≢◌, Some, length, rules}
-use Rattle.mg_disk.specs.Disk.{InRange, TornAt}
-use Rattle.mg_mirror.proofs.MirrorCalls.{LeftOf, alike_after, goes_dropped, has_left, has_right, write_both, write_left, write_right}
-use Rattle.mg_mirror.specs.declared.mirror.Side.TheVariants.{Left, Right}
+use Rattle.{mg_disk.specs.Disk.{InRange, TornAt}, mg_mirror.proofs.MirrorCalls.{LeftOf, alike_after, goes_dropped, has_left, has_right, write_both}}
+use Rattle.{mg_mirror.{proofs.MirrorCalls.{write_left, write_right}, specs.declared.mirror.Side.TheVariants.{Left, Right}}, std.proofs.Common.◌≡◌}
+use Rattle.std.proofs.Common.{◌≢◌, Some, length, rules}
 use Rattle.mg_mirror.proofs.mirror.MirrorDisk.write_blocks.Goals as goal
 
 pub invariant_of-self-clause-same : goal.invariant_of-self-clause-same

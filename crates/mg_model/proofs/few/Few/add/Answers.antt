@@ -1,5 +1,4 @@
-use Rattle.std.proofs.Common.{arith}
-use Rattle.mg_model.specs.FilledLemmas.{IsFilled-add, length-filled}
+use Rattle.{mg_model.specs.FilledLemmas.{IsFilled-add, length-filled}, std.proofs.Common.arith}
 use Rattle.mg_model.proofs.few.Few.add.Goals as goal
 
 pub invariant_of-self : goal.invariant_of-self

@@ -1,7 +1,5 @@
-use Rattle.std.proofs.Common.{Bool, not, ap, ◌∙◌, filter}
-use Rattle.mg_model.specs.declared.slots.Pw.{Pw}
-use Rattle.mg_model.specs.ObjectCalls.{has_password}
-use Rattle.mg_model.proofs.Rows.{IsObjectRow-filter}
+use Rattle.{mg_model.{proofs.Rows.IsObjectRow-filter, specs.{ObjectCalls.has_password, declared.slots.Pw.Pw}}, std.proofs.Common.{Bool, not, ap, ◌∙◌}}
+use Rattle.std.proofs.Common.{filter}
 use Rattle.mg_model.proofs.objects.ObjRow.remove_passwords.Goals as goal
 
 pub invariant_of-self : goal.invariant_of-self

@@ -1,6 +1,5 @@
-use Rattle.std.proofs.Common.{rules, ◌<◌, All, IsTrue, ℕ, List, subst}
+use Rattle.{mg_model.specs.Settings.{Settings, within_limits}, std.proofs.Common.{rules, ◌<◌, All, IsTrue, ℕ, List, subst}}
 use Rattle.std.proofs.lemmas.List.Elements.{All-from_get_or}
-use Rattle.mg_model.specs.Settings.{Settings, within_limits}
 use Rattle.mg_model.proofs.settings.Params.keep_rules.Goals as goal
 
 pub returns-clause-rules : goal.returns-clause-rules

@@ -1,6 +1,4 @@
-use Rattle.std.proofs.Common.{rules}
-use Rattle.std.proofs.lemmas.List.Elements.{All-from_get_or}
-use Rattle.mg_model.specs.Ranges.{IsWord}
+use Rattle.{mg_model.specs.Ranges.IsWord, std.proofs.{Common.rules, lemmas.List.Elements.All-from_get_or}}
 use Rattle.mg_model.proofs.thread_rows.ThrRow.set_regs.Goals as goal
 
 pub invariant_of-self : goal.invariant_of-self

@@ -1,6 +1,4 @@
-use Rattle.std.proofs.Common.{◌∙◌, None, arith, sym}
-use Rattle.std.proofs.lemmas.List.{get_or_default, get_or_past}
-use Rattle.mg_objects.proofs.Keys.{in_place}
+use Rattle.{mg_objects.proofs.Keys.in_place, std.proofs.{Common.{◌∙◌, None, arith, sym}, lemmas.List.{get_or_default, get_or_past}}}
 use Rattle.mg_objects.proofs.objects.Objects.at.Goals as goal
 
 pub returns-then-place-len : goal.returns-then-place-len

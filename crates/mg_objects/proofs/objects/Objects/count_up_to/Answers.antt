@@ -1,10 +1,6 @@
-use Rattle.std.proofs.Common.{◌≤◌, ◌<◌, ℕ, ap, arith, get_or, leb, length, rules}
-use Rattle.std.proofs.lemmas.Bool.{leb-false, leb-true}
-use Rattle.std.proofs.lemmas.List.{length-map}
+use Rattle.{mg_index.specs.ListLemmas.no-falls, mg_objects.{proofs.Apart.bases-within, specs.Held.key_of}, std.proofs.Common.{◌≤◌, ◌<◌, ℕ, ap, arith}}
+use Rattle.std.proofs.{Common.{get_or, leb, length, rules}, lemmas.{Bool.{leb-false, leb-true}, List.length-map}}
 use Rattle.std.proofs.lemmas.List.Sorted.{IsPartitionPoint-from_clause, IsPartitionedBy-leb}
-use Rattle.mg_objects.specs.Held.{key_of}
-use Rattle.mg_objects.proofs.Apart.{bases-within}
-use Rattle.mg_index.specs.ListLemmas.{no-falls}
 use Rattle.mg_objects.proofs.objects.Objects.count_up_to.Goals as goal
 
 pub returns-clause-below : goal.returns-clause-below

@@ -1,7 +1,5 @@
-use Rattle.std.proofs.Common.{◌-◌, Some, ap, arith, refl, sym, ◌∙◌}
-use Rattle.mg_model.specs.Access.{covers}
-use Rattle.mg_model.specs.State.{ObjectRow}
-use Rattle.mg_objects.proofs.Apart.{covers-none, covers-only}
+use Rattle.{mg_model.specs.{Access.covers, State.ObjectRow}, mg_objects.proofs.Apart.{covers-none, covers-only}, std.proofs.Common.{◌-◌, Some, ap}}
+use Rattle.std.proofs.Common.{arith, refl, sym, ◌∙◌}
 use Rattle.mg_objects.proofs.objects.Objects.covering_behind.Goals as goal
 
 pub returns-then-count-eq0 : goal.returns-then-count-eq0

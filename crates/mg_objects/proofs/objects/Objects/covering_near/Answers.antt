@@ -1,7 +1,4 @@
-use Rattle.std.proofs.Common.{Some, ap, arith, sym, ◌∙◌}
-use Rattle.mg_model.specs.Access.{covers}
-use Rattle.mg_model.specs.State.{ObjectRow}
-use Rattle.mg_objects.proofs.Apart.{covers-only}
+use Rattle.{mg_model.specs.{Access.covers, State.ObjectRow}, mg_objects.proofs.Apart.covers-only, std.proofs.Common.{Some, ap, arith, sym, ◌∙◌}}
 use Rattle.mg_objects.proofs.objects.Objects.covering_near.Goals as goal
 
 pub returns-then-covers : goal.returns-then-covers

@@ -1,7 +1,5 @@
-use Rattle.std.proofs.Common.{◌≡◌, ◌∙◌, None, Some, arith, sym}
+use Rattle.{mg_objects.proofs.{Keys.{base_not, found, place_has, zero_not}, Rows.within-table}, std.proofs.Common.{◌≡◌, ◌∙◌, None, Some, arith, sym}}
 use Rattle.std.proofs.lemmas.List.{get_or_default}
-use Rattle.mg_objects.proofs.Keys.{base_not, found, place_has, zero_not}
-use Rattle.mg_objects.proofs.Rows.{within-table}
 use Rattle.mg_objects.proofs.objects.Objects.entry.Goals as goal
 
 pub returns-then-base-eq0 : goal.returns-then-base-eq0

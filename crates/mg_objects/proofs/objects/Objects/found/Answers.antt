@@ -1,6 +1,4 @@
-use Rattle.std.proofs.Common.{◌==◌, ℕ}
-use Rattle.mg_model.specs.State.{ObjectRow}
-use Rattle.mg_objects.proofs.Lists.{find-any}
+use Rattle.{mg_model.specs.State.ObjectRow, mg_objects.proofs.Lists.find-any, std.proofs.Common.{◌==◌, ℕ}}
 use Rattle.mg_objects.proofs.objects.Objects.found.Goals as goal
 
 pub unreachable-requires : goal.unreachable-requires

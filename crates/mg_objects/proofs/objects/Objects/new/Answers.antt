@@ -1,5 +1,4 @@
-use Rattle.std.proofs.Common.{arith}
-use Rattle.mg_objects.proofs.Keys.{held-none}
+use Rattle.{mg_objects.proofs.Keys.held-none, std.proofs.Common.arith}
 use Rattle.mg_objects.proofs.objects.Objects.new.Goals as goal
 
 pub invariant_of-result : goal.invariant_of-result

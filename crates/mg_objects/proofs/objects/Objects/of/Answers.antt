@@ -1,12 +1,6 @@
-use Rattle.std.proofs.Common.{◌∙◌, List, ℕ, ap, subst, sym}
-use Rattle.std.proofs.lemmas.Bool.{false≢true}
-use Rattle.mg_index.specs.Words.{numbers_in}
-use Rattle.mg_model.specs.State.{ObjectRow}
-use Rattle.mg_model.specs.Tests.{all_distinct}
-use Rattle.mg_objects.specs.Held.{AreApart, AreBases, objects_in}
-use Rattle.mg_objects.proofs.Keys.{made-distinct, made-held, made-keys}
-use Rattle.mg_objects.proofs.Lists.{none_of, some_of}
-use Rattle.mg_objects.proofs.Rows.{at}
+use Rattle.{mg_index.specs.Words.numbers_in, mg_model.specs.{State.ObjectRow, Tests.all_distinct}, mg_objects.proofs.Keys.{made-distinct, made-held}}
+use Rattle.mg_objects.{proofs.{Keys.made-keys, Lists.{none_of, some_of}, Rows.at}, specs.Held.{AreApart, AreBases, objects_in}}
+use Rattle.std.proofs.{Common.{◌∙◌, List, ℕ, ap, subst, sym}, lemmas.Bool.false≢true}
 use Rattle.mg_objects.proofs.objects.Objects.of.Goals as goal
 
 pub are_apart-requires-clause-listed : goal.are_apart-requires-clause-listed

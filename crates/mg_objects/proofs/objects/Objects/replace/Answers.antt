@@ -1,5 +1,4 @@
-use Rattle.std.proofs.Common.{arith}
-use Rattle.mg_objects.proofs.Keys.{updated}
+use Rattle.{mg_objects.proofs.Keys.updated, std.proofs.Common.arith}
 use Rattle.mg_objects.proofs.objects.Objects.replace.Goals as goal
 
 pub index_mut-requires : goal.index_mut-requires

@@ -1,5 +1,4 @@
-use Rattle.std.proofs.Common.{arith}
-use Rattle.mg_objects.proofs.Keys.{removed}
+use Rattle.{mg_objects.proofs.Keys.removed, std.proofs.Common.arith}
 use Rattle.mg_objects.proofs.objects.Objects.take.Goals as goal
 
 pub index_mut-requires : goal.index_mut-requires

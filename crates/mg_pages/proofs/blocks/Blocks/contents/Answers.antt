@@ -1,5 +1,4 @@
-use Rattle.std.proofs.lemmas.Result.{on_ok_weaker}
-use Rattle.mg_pages.proofs.BlocksKept.{read-block}
+use Rattle.{mg_pages.proofs.BlocksKept.read-block, std.proofs.lemmas.Result.on_ok_weaker}
 use Rattle.mg_pages.proofs.blocks.Blocks.contents.Goals as goal
 
 pub returns-clause-block : goal.returns-clause-block

@@ -1,6 +1,4 @@
-use Rattle.std.proofs.Common.{◌≡◌, IfSome, Some, subst, sym}
-use Rattle.mg_pages.proofs.BlocksKept.{found-or}
-use Rattle.mg_pages.proofs.KeptWrites.{kept-before, kept-behind}
+use Rattle.{mg_pages.proofs.{BlocksKept.found-or, KeptWrites.{kept-before, kept-behind}}, std.proofs.Common.{◌≡◌, IfSome, Some, subst, sym}}
 use Rattle.mg_pages.proofs.blocks.Blocks.held.Goals as goal
 
 pub returns-in-Some : goal.returns-in-Some

@@ -1,7 +1,4 @@
-use Rattle.std.proofs.Common.{refl, rules}
-use Rattle.mg_pages.proofs.BlocksKept.{read-block}
-use Rattle.mg_pages.proofs.KeptWrites.{kept-read}
-use Rattle.mg_pages.specs.Meaning.{replayed}
+use Rattle.{mg_pages.{proofs.{BlocksKept.read-block, KeptWrites.kept-read}, specs.Meaning.replayed}, std.proofs.Common.{refl, rules}}
 use Rattle.mg_pages.proofs.blocks.Blocks.read.Goals as goal
 
 pub returns-in-Ok-clause-block : goal.returns-in-Ok-clause-block

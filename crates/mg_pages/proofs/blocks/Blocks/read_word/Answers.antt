@@ -1,5 +1,4 @@
-use Rattle.std.proofs.Common.{◌*◌, ◌∙◌, ap}
-use Rattle.mg_model.specs.Bytes.{number_at}
+use Rattle.{mg_model.specs.Bytes.number_at, std.proofs.Common.{◌*◌, ◌∙◌, ap}}
 use Rattle.mg_pages.proofs.blocks.Blocks.read_word.Goals as goal
 
 pub returns-in-Ok-clause-word : goal.returns-in-Ok-clause-word

@@ -1,12 +1,6 @@
-use Rattle.std.proofs.Common.{◌<◌, ◌∙◌, ap, arith, length, slice_set, sym}
-use Rattle.mg_disk.specs.Disk.{block_at}
-use Rattle.mg_journal.specs.Staged.{staged, waiting}
-use Rattle.mg_journal.specs.Standing.{total_of}
-use Rattle.mg_model.specs.Bytes.{block_words}
-use Rattle.mg_pages.proofs.Awaited.{coming-none, coming-waiting}
-use Rattle.mg_pages.proofs.BlocksKept.{matched, missing, staged-twice, there}
-use Rattle.mg_pages.proofs.Staging.{waiting-staged}
-use Rattle.mg_pages.specs.SpelledLemmas.{replayed_is}
+use Rattle.{mg_disk.specs.Disk.block_at, mg_journal.specs.{Staged.{staged, waiting}, Standing.total_of}, mg_model.specs.Bytes.block_words}
+use Rattle.mg_pages.proofs.{Awaited.{coming-none, coming-waiting}, BlocksKept.{matched, missing, staged-twice, there}, Staging.waiting-staged}
+use Rattle.{mg_pages.specs.SpelledLemmas.replayed_is, std.proofs.Common.{◌<◌, ◌∙◌, ap, arith, length, slice_set, sym}}
 use Rattle.mg_pages.proofs.blocks.Blocks.set_word.Goals as goal
 
 pub returns-then-put_staged-clause-staged : goal.returns-then-put_staged-clause-staged

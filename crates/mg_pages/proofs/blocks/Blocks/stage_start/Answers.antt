@@ -1,9 +1,5 @@
-use Rattle.std.proofs.Common.{◌≡◌, ◌++◌, ◌∙◌, List, ap, drop, length, ℕ}
-use Rattle.std.proofs.lemmas.List.{drop-replicate}
-use Rattle.mg_journal.specs.Staged.{staged}
-use Rattle.mg_model.specs.Bytes.{padded_to}
-use Rattle.mg_model.specs.Layout.{block_size}
-use Rattle.mg_pages.specs.Held.{with_writes}
+use Rattle.{mg_journal.specs.Staged.staged, mg_model.specs.{Bytes.padded_to, Layout.block_size}, mg_pages.specs.Held.with_writes}
+use Rattle.std.proofs.{Common.{◌≡◌, ◌++◌, ◌∙◌, List, ap, drop, length, ℕ}, lemmas.List.drop-replicate}
 use Rattle.mg_pages.proofs.blocks.Blocks.stage_start.Goals as goal
 
 pub returns : goal.returns

@@ -1,8 +1,5 @@
-use Rattle.std.proofs.Common.{◌∙◌, ap}
+use Rattle.{mg_journal.specs.Staged.staged, mg_pages.{proofs.BlocksKept.{missing, there}, specs.Kept.kept_at}, std.proofs.Common.{◌∙◌, ap}}
 use Rattle.std.proofs.lemmas.Result.{on_ok_weaker}
-use Rattle.mg_journal.specs.Staged.{staged}
-use Rattle.mg_pages.proofs.BlocksKept.{missing, there}
-use Rattle.mg_pages.specs.Kept.{kept_at}
 use Rattle.mg_pages.proofs.blocks.Blocks.stage_whole.Goals as goal
 
 pub returns-then-stage-clause-staged : goal.returns-then-stage-clause-staged

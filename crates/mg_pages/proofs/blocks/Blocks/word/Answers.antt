@@ -1,19 +1,7 @@
-use Rattle.std.proofs.Common.{◌≡◌, ◌≤◌, ◌<◌, ◌*◌, ◌∙◌, ap, arith, length, refl, sym}
-use Rattle.std.proofs.lemmas.Result.{IfOk-weaker}
-use Rattle.std.specs.Option.{ForSome}
-use Rattle.mg_disk.specs.Disk.{block_at}
-use Rattle.mg_journal.specs.ResultLemmas.{some_of}
-use Rattle.mg_journal.specs.Staged.{waiting}
-use Rattle.mg_journal.specs.Standing.{total_of}
-use Rattle.mg_model.specs.Bytes.{number_at}
-use Rattle.mg_pages.proofs.Awaited.{coming-none, coming-waiting}
-use Rattle.mg_pages.proofs.BlocksKept.{keeps-none, keeps-then, looks-none}
-use Rattle.mg_pages.proofs.KeptWrites.{kept-same}
-use Rattle.mg_pages.proofs.Staging.{written-none}
-use Rattle.mg_pages.specs.Kept.{AreKept, kept_at}
-use Rattle.mg_pages.specs.Meaning.{replayed}
-use Rattle.mg_pages.specs.Parts.{coming_of}
-use Rattle.mg_pages.specs.SpelledLemmas.{replayed_is}
+use Rattle.{mg_disk.specs.Disk.block_at, mg_journal.specs.{ResultLemmas.some_of, Staged.waiting, Standing.total_of}, mg_model.specs.Bytes.number_at}
+use Rattle.mg_pages.proofs.{Awaited.{coming-none, coming-waiting}, BlocksKept.{keeps-none, keeps-then, looks-none}, KeptWrites.kept-same}
+use Rattle.mg_pages.{proofs.Staging.written-none, specs.{Kept.{AreKept, kept_at}, Meaning.replayed, Parts.coming_of, SpelledLemmas.replayed_is}}
+use Rattle.std.{proofs.{Common.{◌≡◌, ◌≤◌, ◌<◌, ◌*◌, ◌∙◌, ap, arith, length, refl, sym}, lemmas.Result.IfOk-weaker}, specs.Option.ForSome}
 use Rattle.mg_pages.proofs.blocks.Blocks.word.Goals as goal
 
 pub returns-in-Some-clause-word : goal.returns-in-Some-clause-word

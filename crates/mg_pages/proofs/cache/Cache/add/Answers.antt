@@ -1,8 +1,5 @@
-use Rattle.std.proofs.Common.{◌≡◌, Box, Global, List, ℕ, ap, nat_eq, subst, sym, ◌∙◌}
-use Rattle.lru.specs.LruCache.{LruCache, lru_cache, put_entries}
-use Rattle.mg_pages.proofs.Looked.{look-refused}
-use Rattle.mg_pages.proofs.Showing.{put-kept}
-use Rattle.mg_pages.specs.Kept.{KeepsThis, shown}
+use Rattle.{lru.specs.LruCache.{LruCache, lru_cache, put_entries}, mg_pages.{proofs.{Looked.look-refused, Showing.put-kept}, specs.Kept.KeepsThis}}
+use Rattle.{mg_pages.specs.Kept.shown, std.proofs.Common.{◌≡◌, Box, Global, List, ℕ, ap, nat_eq, subst, sym, ◌∙◌}}
 use Rattle.mg_pages.proofs.cache.Cache.add.Goals as goal
 
 -- what is kept once a box with these bytes is added

@@ -1,6 +1,4 @@
-use Rattle.std.proofs.Common.{Some, ap, sym, ◌∙◌}
-use Rattle.mg_pages.proofs.Showing.{kept-found}
-use Rattle.mg_pages.specs.Kept.{kept_at}
+use Rattle.{mg_pages.{proofs.Showing.kept-found, specs.Kept.kept_at}, std.proofs.Common.{Some, ap, sym, ◌∙◌}}
 use Rattle.mg_pages.proofs.cache.Cache.held.Goals as goal
 
 pub returns-in-Some : goal.returns-in-Some

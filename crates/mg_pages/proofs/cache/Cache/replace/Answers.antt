@@ -1,12 +1,7 @@
-use Rattle.std.proofs.Common.{◌∙◌, Box, Global, List, ℕ, ap, nat_eq, subst, sym}
-use Rattle.std.proofs.lemmas.Bool.{false≢true}
-use Rattle.std.specs.Option.{option_copied_mut}
-use Rattle.std.specs.Map.{set_value}
-use Rattle.lru.specs.LruCache.{promoted}
-use Rattle.mg_pages.proofs.Showing.{kept-none, written-shown}
-use Rattle.mg_pages.specs.Kept.{KeepsThis, kept_at, shown}
+use Rattle.{lru.specs.LruCache.promoted, mg_pages.proofs.{Showing.{kept-none, written-shown}, cache.Cache.replace.Goals.{in-Some, in-None}}}
+use Rattle.{mg_pages.specs.Kept.{KeepsThis, kept_at, shown}, std.proofs.Common.{◌∙◌, Box, Global, List, ℕ, ap, nat_eq, subst, sym}}
+use Rattle.std.{proofs.lemmas.Bool.false≢true, specs.{Map.set_value, Option.option_copied_mut}}
 use Rattle.mg_pages.proofs.cache.Cache.replace.Goals as goal
-use Rattle.mg_pages.proofs.cache.Cache.replace.Goals.{in-Some, in-None}
 
 pub returns-clause-put : goal.returns-clause-put
 returns-clause-put c is =

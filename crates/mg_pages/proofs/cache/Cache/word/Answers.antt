@@ -1,10 +1,7 @@
-use Rattle.std.proofs.Common.{◌≡◌, ◌*◌, ◌∙◌, IsSomeAnd, Some, ap, nat_eq, option_copied, subst, sym}
-use Rattle.mg_model.specs.Bytes.{number_at}
-use Rattle.mg_pages.proofs.Looked.{look-promoted}
-use Rattle.mg_pages.proofs.Showing.{kept-found, promoted-shown}
-use Rattle.mg_pages.specs.Kept.{kept_at, shown}
+use Rattle.{mg_model.specs.Bytes.number_at, mg_pages.proofs.{Looked.look-promoted, Showing.{kept-found, promoted-shown}}}
+use Rattle.{mg_pages.{proofs.cache.Cache.word.Goals.{in-Some, in-None}, specs.Kept.{kept_at, shown}}, std.proofs.Common.{◌≡◌, ◌*◌, ◌∙◌, IsSomeAnd}}
+use Rattle.std.proofs.Common.{Some, ap, nat_eq, option_copied, subst, sym}
 use Rattle.mg_pages.proofs.cache.Cache.word.Goals as goal
-use Rattle.mg_pages.proofs.cache.Cache.word.Goals.{in-Some, in-None}
 
 pub returns-clause-same : goal.returns-clause-same
 returns-clause-same c i =

@@ -1,6 +1,4 @@
-use Rattle.std.proofs.Common.{◌≡◌, IfSome, Some, ap, subst, sym, ◌∙◌}
-use Rattle.mg_pages.proofs.KeptWrites.{kept-before, kept-behind}
-use Rattle.mg_pages.specs.Kept.{kept_at}
+use Rattle.{mg_pages.{proofs.KeptWrites.{kept-before, kept-behind}, specs.Kept.kept_at}, std.proofs.Common.{◌≡◌, IfSome, Some, ap, subst, sym, ◌∙◌}}
 use Rattle.mg_pages.proofs.kept.CachedBlocks.held.Goals as goal
 
 pub returns-in-Some : goal.returns-in-Some

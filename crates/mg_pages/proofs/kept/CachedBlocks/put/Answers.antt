@@ -1,6 +1,4 @@
-use Rattle.std.proofs.Common.{◌++◌, subst}
-use Rattle.mg_pages.proofs.KeptWrites.{besides-behind}
-use Rattle.mg_pages.specs.Kept.{KeepsBesides}
+use Rattle.{mg_pages.{proofs.KeptWrites.besides-behind, specs.Kept.KeepsBesides}, std.proofs.Common.{◌++◌, subst}}
 use Rattle.mg_pages.proofs.kept.CachedBlocks.put.Goals as goal
 
 pub returns : goal.returns

@@ -1,7 +1,5 @@
-use Rattle.std.proofs.Common.{◌≡◌, MatchOption, ap, is_some, subst, sym, ◌∙◌}
-use Rattle.mg_journal.specs.Staged.{staged}
-use Rattle.mg_pages.proofs.KeptWrites.{kept-before, kept-behind}
-use Rattle.mg_pages.specs.Kept.{kept_at}
+use Rattle.{mg_journal.specs.Staged.staged, mg_pages.{proofs.KeptWrites.{kept-before, kept-behind}, specs.Kept.kept_at}, std.proofs.Common.◌≡◌}
+use Rattle.std.proofs.Common.{MatchOption, ap, is_some, subst, sym, ◌∙◌}
 use Rattle.mg_pages.proofs.kept.CachedBlocks.stage.Goals as goal
 
 pub returns-in-Some-clause-kept : goal.returns-in-Some-clause-kept

@@ -1,7 +1,5 @@
-use Rattle.std.proofs.Common.{rules, ◌≡◌, ◌++◌, subst, sym, arith}
-use Rattle.mg_model.specs.Replay.{written}
-use Rattle.mg_pages.proofs.KeptWrites.{kept-written, none-of}
-use Rattle.mg_pages.specs.Kept.{AreKept}
+use Rattle.{mg_model.specs.Replay.written, mg_pages.{proofs.KeptWrites.{kept-written, none-of}, specs.Kept.AreKept}, std.proofs.Common.{rules, ◌≡◌}}
+use Rattle.std.proofs.Common.{◌++◌, subst, sym, arith}
 use Rattle.mg_pages.proofs.kept.CachedBlocks.take.Goals as goal
 
 pub returns-then-len-gt0-clause-kept : goal.returns-then-len-gt0-clause-kept

@@ -1,9 +1,6 @@
-use Rattle.std.proofs.Common.{◌≡◌, ◌*◌, ◌++◌, ◌∙◌, IfSome, IsSomeAnd, ap, subst, sym}
-use Rattle.mg_journal.specs.ResultLemmas.{some_of}
-use Rattle.mg_journal.specs.Staged.{waiting}
-use Rattle.mg_model.specs.Bytes.{number_at}
-use Rattle.mg_pages.proofs.KeptWrites.{kept-before, kept-behind, same-behind}
-use Rattle.mg_pages.specs.Kept.{KeepsSame, kept_at}
+use Rattle.{mg_journal.specs.{ResultLemmas.some_of, Staged.waiting}, mg_model.specs.Bytes.number_at, mg_pages.proofs.KeptWrites.kept-before}
+use Rattle.{mg_pages.{proofs.KeptWrites.{kept-behind, same-behind}, specs.Kept.{KeepsSame, kept_at}}, std.proofs.Common.{◌≡◌, ◌*◌, ◌++◌, ◌∙◌, IfSome}}
+use Rattle.std.proofs.Common.{IsSomeAnd, ap, subst, sym}
 use Rattle.mg_pages.proofs.kept.CachedBlocks.word.Goals as goal
 
 pub returns-in-Some-clause-word : goal.returns-in-Some-clause-word

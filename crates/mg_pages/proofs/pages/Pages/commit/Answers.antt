@@ -1,16 +1,8 @@
-use Rattle.std.proofs.Common.{◌≡◌, ◌∙◌, List, ap, arith, length, refl, ℕ}
-use Rattle.std.specs.Prelude.{◌⊎◌}
-use Rattle.std.proofs.lemmas.Result.{on_ok_weaker}
-use Rattle.mg_disk.specs.BecomesLemmas.{becomes-wider}
-use Rattle.mg_disk.specs.Runs.{leaves_wider}
-use Rattle.mg_journal.specs.ResultLemmas.{on_ok_both}
-use Rattle.mg_journal.specs.Contents.{SameContents}
+use Rattle.{mg_disk.specs.{BecomesLemmas.becomes-wider, Runs.leaves_wider}, mg_journal.specs.{Contents.SameContents, ResultLemmas.on_ok_both}}
+use Rattle.{mg_model.specs.Layout.first_frame, mg_pages.proofs.Committed.{has-coming, live-ok, old-or-coming, stands-then, taken}}
+use Rattle.mg_pages.{proofs.Opened.stands-store, specs.{Committing.HasContents, Meaning.{IsCommitted, coming, is_live, staged_of, total_of}}}
+use Rattle.std.{proofs.{Common.{◌≡◌, ◌∙◌, List, ap, arith, length, refl, ℕ}, lemmas.Result.on_ok_weaker}, specs.Prelude.◌⊎◌}
 use Rattle.mg_journal.specs.Standing as journal
-use Rattle.mg_model.specs.Layout.{first_frame}
-use Rattle.mg_pages.proofs.Committed.{has-coming, live-ok, old-or-coming, stands-then, taken}
-use Rattle.mg_pages.proofs.Opened.{stands-store}
-use Rattle.mg_pages.specs.Committing.{HasContents}
-use Rattle.mg_pages.specs.Meaning.{IsCommitted, coming, is_live, staged_of, total_of}
 use Rattle.mg_pages.proofs.pages.Pages.commit.Goals as goal
 
 pub commit-requires-clause-ready : goal.commit-requires-clause-ready

@@ -1,6 +1,4 @@
-use Rattle.std.proofs.Common.{refl}
-use Rattle.std.proofs.lemmas.Result.{on_ok_weaker}
-use Rattle.mg_pages.proofs.TableLoaded.{stands-loaded}
+use Rattle.{mg_pages.proofs.TableLoaded.stands-loaded, std.proofs.{Common.refl, lemmas.Result.on_ok_weaker}}
 use Rattle.mg_pages.proofs.pages.Pages.load_table.Goals as goal
 
 pub returns-clause-stands : goal.returns-clause-stands

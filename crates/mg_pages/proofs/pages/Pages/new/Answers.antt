@@ -1,10 +1,6 @@
-use Rattle.std.proofs.Common.{◌-◌, ◌∙◌, ap, length, refl, rules}
+use Rattle.{mg_journal.specs.Held.Store, mg_model.specs.{Bytes.are_zeros, RowLemmas.are_zeros-replicate}, mg_pages.proofs.Made.made-pages}
+use Rattle.{mg_pages.{proofs.Made.made-sound, specs.Meaning.table_in}, std.proofs.Common.{◌-◌, ◌∙◌, ap, length, refl, rules}}
 use Rattle.std.proofs.lemmas.List.{length-replicate}
-use Rattle.mg_journal.specs.Held.{Store}
-use Rattle.mg_model.specs.Bytes.{are_zeros}
-use Rattle.mg_model.specs.RowLemmas.{are_zeros-replicate}
-use Rattle.mg_pages.specs.Meaning.{table_in}
-use Rattle.mg_pages.proofs.Made.{made-pages, made-sound}
 use Rattle.mg_pages.proofs.pages.Pages.new.Goals as goal
 
 pub invariant_of-result : goal.invariant_of-result

@@ -1,13 +1,7 @@
-use Rattle.std.proofs.Common.{◌≡◌, ◌+◌, ◌≤◌, ◌∙◌, ap, arith, length, refl, rules, slice_index, subst, sym}
-use Rattle.std.proofs.lemmas.Result.{IfOk-weaker}
+use Rattle.{mg_disk.specs.Disk.block_at, mg_model.specs.{Bytes.block_words, Layout.first_frame}, mg_pages.proofs.Counted.{keeps-alike, stands-alike}}
+use Rattle.mg_pages.{proofs.InMemory.{held-coming, page-held, page-zeros}, specs.{Meaning.{coming, page_now}, Pairs.IsNextPair}}
+use Rattle.std.proofs.{Common.{◌≡◌, ◌+◌, ◌≤◌, ◌∙◌, ap, arith, length, refl, rules, slice_index, subst, sym}, lemmas.Result.IfOk-weaker}
 use Rattle.std.specs.Option.{ForSome}
-use Rattle.mg_disk.specs.Disk.{block_at}
-use Rattle.mg_model.specs.Bytes.{block_words}
-use Rattle.mg_model.specs.Layout.{first_frame}
-use Rattle.mg_pages.proofs.Counted.{keeps-alike, stands-alike}
-use Rattle.mg_pages.proofs.InMemory.{held-coming, page-held, page-zeros}
-use Rattle.mg_pages.specs.Meaning.{coming, page_now}
-use Rattle.mg_pages.specs.Pairs.{IsNextPair}
 use Rattle.mg_pages.proofs.pages.Pages.next_pair.Goals as goal
 
 pub read_pair-requires-clause-stands : goal.read_pair-requires-clause-stands

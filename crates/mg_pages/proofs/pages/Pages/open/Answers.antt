@@ -1,8 +1,5 @@
-use Rattle.std.proofs.Common.{◌≡◌, ap, length, refl, subst, sym, true}
-use Rattle.mg_journal.specs.Held.{Store}
-use Rattle.mg_model.specs.Tests.{all_distinct}
-use Rattle.mg_model.specs.Volume.{bound_pages}
-use Rattle.mg_pages.proofs.Made.{made-frames, made-pages, made-sound, made-spelled}
+use Rattle.{mg_journal.specs.Held.Store, mg_model.specs.{Tests.all_distinct, Volume.bound_pages}, mg_pages.proofs.Made.{made-frames, made-pages}}
+use Rattle.{mg_pages.proofs.Made.{made-sound, made-spelled}, std.proofs.Common.{◌≡◌, ap, length, refl, subst, sym, true}}
 use Rattle.mg_pages.proofs.pages.Pages.open.Goals as goal
 
 pub invariant_of-result : goal.invariant_of-result

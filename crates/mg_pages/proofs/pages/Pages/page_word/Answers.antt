@@ -1,7 +1,5 @@
+use Rattle.mg_pages.{proofs.{Counted.reads-alike, Opened.{held-kept, stands-store}}, specs.Meaning.{coming, frame_count, table_in}}
 use Rattle.std.proofs.Common.{refl}
-use Rattle.mg_pages.proofs.Counted.{reads-alike}
-use Rattle.mg_pages.proofs.Opened.{held-kept, stands-store}
-use Rattle.mg_pages.specs.Meaning.{coming, frame_count, table_in}
 use Rattle.mg_pages.proofs.pages.Pages.page_word.Goals as goal
 
 pub page_word-requires-clause-stands : goal.page_word-requires-clause-stands

@@ -1,9 +1,5 @@
-use Rattle.std.proofs.Common.{◌+◌, refl, List, ℕ}
-use Rattle.std.specs.List.{splice}
-use Rattle.mg_journal.specs.Staged.{waiting}
-use Rattle.mg_model.specs.Abbreviations.{word_bytes}
-use Rattle.mg_pages.proofs.Restaged.{put-pages, put-sound, was-there}
-use Rattle.mg_pages.specs.Meaning.{waiting_in}
+use Rattle.{mg_journal.specs.Staged.waiting, mg_model.specs.Abbreviations.word_bytes, mg_pages.proofs.Restaged.{put-pages, put-sound, was-there}}
+use Rattle.{mg_pages.specs.Meaning.waiting_in, std.{proofs.Common.{◌+◌, refl, List, ℕ}, specs.List.splice}}
 use Rattle.mg_pages.proofs.pages.Pages.put.Goals as goal
 
 abbrev with_word : (c : goal.After-put) → List ℕ → List ℕ

@@ -1,10 +1,5 @@
-use Rattle.std.proofs.Common.{refl, slice_index, subst}
-use Rattle.mg_model.specs.Bytes.{block_words}
-use Rattle.mg_pages.proofs.Counted.{reads-alike}
-use Rattle.mg_pages.proofs.InMemory.{read-coming}
-use Rattle.mg_pages.proofs.Opened.{stands-store}
-use Rattle.mg_pages.specs.Meaning.{waiting_in}
-use Rattle.mg_pages.specs.Pairs.{IsNextPair}
+use Rattle.{mg_model.specs.Bytes.block_words, mg_pages.proofs.{Counted.reads-alike, InMemory.read-coming, Opened.stands-store}}
+use Rattle.{mg_pages.specs.{Meaning.waiting_in, Pairs.IsNextPair}, std.proofs.Common.{refl, slice_index, subst}}
 use Rattle.mg_pages.proofs.pages.Pages.read_pair.Goals as goal
 
 pub read-requires-clause-stands : goal.read-requires-clause-stands

@@ -1,9 +1,6 @@
-use Rattle.std.proofs.Common.{arith, length, map}
-use Rattle.mg_frames.specs.Words.{unless_within}
-use Rattle.mg_model.specs.Layout.{table_blocks}
-use Rattle.mg_pages.proofs.Released.{releases, sound-released, spelled-released, unbinds-released}
-use Rattle.mg_pages.specs.Meaning.{staged_of}
-use Rattle.mg_pages.specs.Parts.{StagesTable}
+use Rattle.{mg_frames.specs.Words.unless_within, mg_model.specs.Layout.table_blocks, mg_pages.proofs.Released.{releases, sound-released}}
+use Rattle.{mg_pages.{proofs.Released.{spelled-released, unbinds-released}, specs.{Meaning.staged_of, Parts.StagesTable}}, std.proofs.Common.arith}
+use Rattle.std.proofs.Common.{length, map}
 use Rattle.mg_pages.proofs.pages.Pages.release.Goals as goal
 
 stages : (c : goal.After-release_pages) → StagesTable c.args.self.now.frames (map (unless_within c.args.first c.args.pages) c.args.self.now.frames) (table_blocks (length c.args.self.now.frames)) c.args.self.now.blocks.writes c.release_pages.new.blocks.writes

@@ -1,9 +1,5 @@
-use Rattle.std.proofs.Common.{arith, length}
-use Rattle.mg_model.specs.Layout.{first_frame}
-use Rattle.mg_pages.proofs.Counted.{keeps-alike, reads-alike, served}
-use Rattle.mg_pages.proofs.Opened.{stands-store}
-use Rattle.mg_pages.proofs.WordStored.{serves-stored, sound-stored, stored}
-use Rattle.mg_pages.specs.Meaning.{staged_of}
+use Rattle.{mg_model.specs.Layout.first_frame, mg_pages.proofs.{Counted.{keeps-alike, reads-alike, served}, Opened.stands-store}}
+use Rattle.{mg_pages.{proofs.WordStored.{serves-stored, sound-stored, stored}, specs.Meaning.staged_of}, std.proofs.Common.{arith, length}}
 use Rattle.mg_pages.proofs.pages.Pages.set_word.Goals as goal
 
 pub store_word-requires-clause-stands : goal.store_word-requires-clause-stands

@@ -1,7 +1,5 @@
+use Rattle.mg_pages.{proofs.{OneBlock.stages-block, Sound.{room-staged, sound-staged}}, specs.Meaning.{is_staged, staged_of}}
 use Rattle.std.proofs.Common.{arith, refl}
-use Rattle.mg_pages.proofs.OneBlock.{stages-block}
-use Rattle.mg_pages.proofs.Sound.{room-staged, sound-staged}
-use Rattle.mg_pages.specs.Meaning.{is_staged, staged_of}
 use Rattle.mg_pages.proofs.pages.Pages.stage.Goals as goal
 
 pub stage-requires : goal.stage-requires

@@ -1,9 +1,5 @@
-use Rattle.std.proofs.Common.{arith, refl}
-use Rattle.mg_model.specs.Bytes.{padded_to}
-use Rattle.mg_model.specs.Layout.{block_size}
-use Rattle.mg_pages.proofs.OneBlock.{stages-block}
-use Rattle.mg_pages.proofs.Sound.{room-staged, sound-staged}
-use Rattle.mg_pages.specs.Meaning.{is_staged, staged_of}
+use Rattle.{mg_model.specs.{Bytes.padded_to, Layout.block_size}, mg_pages.proofs.{OneBlock.stages-block, Sound.{room-staged, sound-staged}}}
+use Rattle.{mg_pages.specs.Meaning.{is_staged, staged_of}, std.proofs.Common.{arith, refl}}
 use Rattle.mg_pages.proofs.pages.Pages.stage_start.Goals as goal
 
 pub stage_start-requires : goal.stage_start-requires

@@ -1,5 +1,4 @@
-use Rattle.std.proofs.Common.{refl}
-use Rattle.mg_pages.proofs.Counted.{stands-alike}
+use Rattle.{mg_pages.proofs.Counted.stands-alike, std.proofs.Common.refl}
 use Rattle.mg_pages.proofs.pages.Pages.word.Goals as goal
 
 pub returns-then-page-eq0-clause-stands : goal.returns-then-page-eq0-clause-stands

@@ -1,8 +1,5 @@
-use Rattle.std.proofs.Common.{◌≡◌, ◌∙◌, ap, sym, None, Some}
-use Rattle.std.specs.List.{find}
-use Rattle.std.specs.Option.{option_copied}
-use Rattle.mg_ranges.proofs.Fits.{fits}
-use Rattle.mg_ranges.proofs.Lowest.{beside-all, fit-is, fit-lowest_free, some-fits}
+use Rattle.{mg_ranges.proofs.{Fits.fits, Lowest.{beside-all, fit-is, fit-lowest_free, some-fits}}, std.proofs.Common.{◌≡◌, ◌∙◌, ap, sym, None, Some}}
+use Rattle.std.specs.{List.find, Option.option_copied}
 use Rattle.mg_ranges.proofs.ranges.Ranges.first.Goals as goal
 
 pub unreachable-requires : goal.unreachable-requires

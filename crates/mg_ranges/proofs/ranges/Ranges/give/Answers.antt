@@ -1,7 +1,5 @@
-use Rattle.std.proofs.Common.{◌++◌, ℕ, List, arith, subst, sym}
-use Rattle.mg_ranges.specs.Kept.{Ascends}
-use Rattle.mg_ranges.proofs.Cuts.{kept-ascend, kept-high}
-use Rattle.mg_ranges.proofs.Kept.{counted, gave}
+use Rattle.{mg_ranges.{proofs.{Cuts.{kept-ascend, kept-high}, Kept.{counted, gave}}, specs.Kept.Ascends}, std.proofs.Common.{◌++◌, ℕ, List, arith}}
+use Rattle.std.proofs.Common.{subst, sym}
 use Rattle.mg_ranges.proofs.ranges.Ranges.give.Goals as goal
 
 pub count_to-at-requires : goal.count_to-at-requires

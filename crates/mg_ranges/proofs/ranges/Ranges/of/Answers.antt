@@ -1,7 +1,5 @@
-use Rattle.std.proofs.Common.{◌+◌, [], ℕ, List, get_or, subst, sym, take}
+use Rattle.{mg_ranges.{proofs.Spans.taken-take, specs.Gaps.{AreGapsOf, AreTaken}}, std.proofs.Common.{◌+◌, [], ℕ, List, get_or, subst, sym, take}}
 use Rattle.std.proofs.lemmas.List.{append-nil, take_more}
-use Rattle.mg_ranges.specs.Gaps.{AreGapsOf, AreTaken}
-use Rattle.mg_ranges.proofs.Spans.{taken-take}
 use Rattle.mg_ranges.proofs.ranges.Ranges.of.Goals as goal
 
 pub take-requires : goal.take-requires

@@ -1,5 +1,4 @@
-use Rattle.std.proofs.Common.{take}
-use Rattle.mg_ranges.specs.Gaps.{AreGapsOf}
+use Rattle.{mg_ranges.specs.Gaps.AreGapsOf, std.proofs.Common.take}
 use Rattle.mg_ranges.proofs.ranges.Ranges.of.Given as goal
 
 abbrev pub invariant-loop-span : goal.invariant-loop-span

@@ -1,9 +1,5 @@
+use Rattle.mg_ranges.{proofs.{Cuts.kept-ascend, Kept.{counted, took}, Lists.length-removed, Spans.length-put}, specs.Kept.Ascends}
 use Rattle.std.proofs.Common.{◌≡◌, ◌<◌, ◌+◌, ◌-◌, ◌++◌, ◌∷◌, ℕ, List, ap, arith, length, subst, sym}
-use Rattle.mg_ranges.specs.Kept.{Ascends}
-use Rattle.mg_ranges.proofs.Cuts.{kept-ascend}
-use Rattle.mg_ranges.proofs.Kept.{counted, took}
-use Rattle.mg_ranges.proofs.Lists.{length-removed}
-use Rattle.mg_ranges.proofs.Spans.{length-put}
 use Rattle.mg_ranges.proofs.ranges.Ranges.take.Goals as goal
 
 pub count_to-at-requires : goal.count_to-at-requires

@@ -1,13 +1,6 @@
-use Rattle.std.proofs.Common.{rules}
-use Rattle.std.proofs.Common.{◌≡◌, ◌&&◌, length, sym, subst, ap, ◌∙◌}
-use Rattle.std.specs.List.{list_all, list_any}
-use Rattle.std.proofs.lemmas.Result.{IfOk-weaker}
-use Rattle.mg_model.specs.Tests.{all_distinct}
-use Rattle.mg_model.specs.Volume.{bound_pages}
-use Rattle.mg_rules.specs.RowsRead.{live_from, objects_of}
-use Rattle.mg_rules.specs.Rules.{AreSpans, Decides}
-use Rattle.mg_rules.specs.Spans.{is_in}
-use Rattle.mg_rules.proofs.StateFits.{accounts-test, bad-accounts, bad-objects, decided, objects-test, threads-test}
+use Rattle.{mg_model.specs.{Tests.all_distinct, Volume.bound_pages}, mg_rules.proofs.StateFits.{accounts-test, bad-accounts, bad-objects, decided}}
+use Rattle.mg_rules.{proofs.StateFits.{objects-test, threads-test}, specs.{RowsRead.{live_from, objects_of}, Rules.{AreSpans, Decides}, Spans.is_in}}
+use Rattle.std.{proofs.{Common.{rules, ◌≡◌, ◌&&◌, length, sym, subst, ap, ◌∙◌}, lemmas.Result.IfOk-weaker}, specs.List.{list_all, list_any}}
 use Rattle.mg_rules.proofs.volume_rows.VolumeRows.fit.Goals as goal
 
 pub returns-then-not-accounts_fit : goal.returns-then-not-accounts_fit

@@ -1,8 +1,5 @@
-use Rattle.std.proofs.Common.{◌≡◌, ℕ, List, ◌∷◌, ◌++◌, ap, subst}
-use Rattle.std.proofs.lemmas.Result.{on_err_weaker}
-use Rattle.arrayvec.specs.ArrayVec.{ArrayVec}
-use Rattle.mg_model.specs.Lines.{lines}
-use Rattle.mg_serve.proofs.PartialLemmas.{added}
+use Rattle.{arrayvec.specs.ArrayVec.ArrayVec, mg_model.specs.Lines.lines, mg_serve.proofs.PartialLemmas.added, std.proofs.Common.{◌≡◌, ℕ, List, ◌∷◌}}
+use Rattle.std.proofs.{Common.{◌++◌, ap, subst}, lemmas.Result.on_err_weaker}
 use Rattle.mg_serve.proofs.partial.PartialLine.add.Goals as goal
 
 pub returns-clause-same : goal.returns-clause-same

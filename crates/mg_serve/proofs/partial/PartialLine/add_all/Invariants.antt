@@ -1,7 +1,4 @@
-use Rattle.std.proofs.Common.{◌≡◌, ℕ, List, ◌++◌, false, take}
-use Rattle.std.specs.List.{list_any}
-use Rattle.mg_model.specs.Lines.{lines}
-use Rattle.mg_model.specs.Words.{is_newline}
+use Rattle.{mg_model.specs.{Lines.lines, Words.is_newline}, std.{proofs.Common.{◌≡◌, ℕ, List, ◌++◌, false, take}, specs.List.list_any}}
 use Rattle.mg_serve.proofs.partial.PartialLine.add_all.Given as goal
 
 -- the bytes before this one came

@@ -1,6 +1,4 @@
-use Rattle.mg_show.proofs.Names.{subst, sym, Held, Puts}
-use Rattle.std.proofs.Common.{rules}
-use Rattle.mg_show.specs.WritingLemmas.{puts_kept}
+use Rattle.{mg_show.{proofs.Names.{subst, sym, Held, Puts}, specs.WritingLemmas.puts_kept}, std.proofs.Common.rules}
 use Rattle.mg_show.proofs.writer.Writer.add.Goals as goal
 
 pub returns : goal.returns

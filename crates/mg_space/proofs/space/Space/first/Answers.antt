@@ -1,8 +1,5 @@
-use Rattle.std.proofs.Common.{◌+◌, ◌≤◌, ◌⊎◌, ℕ, List, subst, sym}
-use Rattle.mg_model.specs.State.{ObjectRow}
-use Rattle.mg_ranges.specs.Gaps.{AreGapsOf}
-use Rattle.mg_space.specs.Space.{AreRowsOf, spans_in}
-use Rattle.mg_space.proofs.Spans.{all-unmap, has-room, same-spans}
+use Rattle.{mg_model.specs.State.ObjectRow, mg_ranges.specs.Gaps.AreGapsOf, mg_space.proofs.Spans.{all-unmap, has-room, same-spans}}
+use Rattle.{mg_space.specs.Space.{AreRowsOf, spans_in}, std.proofs.Common.{◌+◌, ◌≤◌, ◌⊎◌, ℕ, List, subst, sym}}
 use Rattle.mg_space.proofs.space.Space.first.Goals as goal
 
 pub first-requires-clause-has_room : goal.first-requires-clause-has_room

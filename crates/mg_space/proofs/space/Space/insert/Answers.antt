@@ -1,9 +1,6 @@
+use Rattle.{mg_model.specs.State.ObjectRow, mg_objects.specs.Held.into_place, mg_space.proofs.Paid.{paid-between, paid-few, share-own}}
+use Rattle.mg_space.{proofs.Spans.{Between, between-into, can-take, sum-between, sum-fits, taken-now, taken-spans}, specs.Space.share}
 use Rattle.std.proofs.Common.{◌≡◌, ◌+◌, ◌∙◌, ℕ, List, ap, arith, refl, subst, sym}
-use Rattle.mg_model.specs.State.{ObjectRow}
-use Rattle.mg_objects.specs.Held.{into_place}
-use Rattle.mg_space.specs.Space.{share}
-use Rattle.mg_space.proofs.Paid.{paid-between, paid-few, share-own}
-use Rattle.mg_space.proofs.Spans.{Between, between-into, can-take, sum-between, sum-fits, taken-now, taken-spans}
 use Rattle.mg_space.proofs.space.Space.insert.Goals as goal
 
 between : (new : ℕ × ObjectRow) (old objects : List (ℕ × ObjectRow)) → objects ≡ into_place new old → Between new old objects

@@ -1,6 +1,4 @@
-use Rattle.std.proofs.Common.{ℕ, List, subst}
-use Rattle.mg_model.specs.State.{ObjectRow}
-use Rattle.mg_objects.specs.Held.{AreApart}
+use Rattle.{mg_model.specs.State.ObjectRow, mg_objects.specs.Held.AreApart, std.proofs.Common.{ℕ, List, subst}}
 use Rattle.mg_space.proofs.space.Space.len.Goals as goal
 
 pub returns-clause-apart : goal.returns-clause-apart

@@ -1,5 +1,4 @@
-use Rattle.std.proofs.Common.{ℕ, List, subst, sym}
-use Rattle.mg_ranges.specs.Gaps.{AreTaken}
+use Rattle.{mg_ranges.specs.Gaps.AreTaken, std.proofs.Common.{ℕ, List, subst, sym}}
 use Rattle.mg_space.proofs.space.Space.of.Goals as goal
 
 pub of-requires-in-Some : goal.of-requires-in-Some

@@ -1,10 +1,6 @@
-use Rattle.std.specs.Prelude.{◌==◌, All, Some, filter, find, not}
-use Rattle.mg_model.specs.Ranges.{IsObjectRow}
-use Rattle.mg_objects.specs.Held.{AreApart}
-use Rattle.std.proofs.Common.{◌≡◌, ℕ, List, arith, refl, subst, sym}
-use Rattle.mg_model.specs.State.{ObjectRow}
-use Rattle.mg_space.proofs.Paid.{paid-between, share-own}
-use Rattle.mg_space.proofs.Spans.{Between, between-without, can-give, given-now, sum-between}
+use Rattle.{mg_model.specs.{Ranges.IsObjectRow, State.ObjectRow}, mg_objects.specs.Held.AreApart, mg_space.proofs.Paid.{paid-between, share-own}}
+use Rattle.{mg_space.proofs.Spans.{Between, between-without, can-give, given-now, sum-between}, std.proofs.Common.{◌≡◌, ℕ, List, arith, refl, subst}}
+use Rattle.std.{proofs.Common.sym, specs.Prelude.{◌==◌, All, Some, filter, find, not}}
 use Rattle.mg_space.proofs.space.Space.remove.Goals as goal
 
 between :

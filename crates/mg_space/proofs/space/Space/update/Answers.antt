@@ -1,8 +1,5 @@
-use Rattle.std.proofs.Common.{◌≡◌, ◌∙◌, ℕ, List, ap, arith, subst, sym, sum_by}
-use Rattle.mg_ranges.specs.Gaps.{AreGapsOf}
-use Rattle.mg_space.specs.Space.{paid_by, spans_in}
-use Rattle.mg_space.proofs.Paid.{paid-few, row-changed, share-own}
-use Rattle.mg_space.proofs.Spans.{spans-row, sum-fits, sum-spans}
+use Rattle.{mg_ranges.specs.Gaps.AreGapsOf, mg_space.proofs.{Paid.{paid-few, row-changed, share-own}, Spans.{spans-row, sum-fits, sum-spans}}}
+use Rattle.{mg_space.specs.Space.{paid_by, spans_in}, std.proofs.Common.{◌≡◌, ◌∙◌, ℕ, List, ap, arith, subst, sym, sum_by}}
 use Rattle.mg_space.proofs.space.Space.update.Goals as goal
 
 pub subtract-requires : goal.subtract-requires

@@ -1,6 +1,4 @@
-use Rattle.std.proofs.Common.{drop, length}
-use Rattle.mg_model.specs.Backed.{by_each}
-use Rattle.mg_vcache.proofs.Dropped.{all_dropped}
+use Rattle.{mg_model.specs.Backed.by_each, mg_vcache.proofs.Dropped.all_dropped, std.proofs.Common.{drop, length}}
 use Rattle.mg_vcache.proofs.cache.VCache.drop_all.Goals as goal
 
 pub invariant_of-self : goal.invariant_of-self

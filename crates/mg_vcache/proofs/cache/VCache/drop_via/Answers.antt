@@ -1,7 +1,4 @@
-use Rattle.std.proofs.Common.{ap, ◌∙◌}
-use Rattle.mg_vcache.specs.EndedSeats.{by_object}
-use Rattle.mg_vcache.specs.Seats.{without}
-use Rattle.mg_vcache.proofs.Dropped.{without_both}
+use Rattle.{mg_vcache.{proofs.Dropped.without_both, specs.{EndedSeats.by_object, Seats.without}}, std.proofs.Common.{ap, ◌∙◌}}
 use Rattle.mg_vcache.proofs.cache.VCache.drop_via.Goals as goal
 
 pub returns : goal.returns

@@ -1,6 +1,4 @@
-use Rattle.std.proofs.Common.{drop, length}
-use Rattle.mg_model.specs.declared.seats.Seat.{Seat}
-use Rattle.mg_vcache.proofs.Dropped.{filled}
+use Rattle.{mg_model.specs.declared.seats.Seat.Seat, mg_vcache.proofs.Dropped.filled, std.proofs.Common.{drop, length}}
 use Rattle.mg_vcache.proofs.cache.VCache.fill.Goals as goal
 
 pub invariant_of-self : goal.invariant_of-self

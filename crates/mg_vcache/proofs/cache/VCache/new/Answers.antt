@@ -1,5 +1,4 @@
-use Rattle.std.proofs.Common.{rules}
-use Rattle.mg_vcache.proofs.Dropped.{none_marked}
+use Rattle.{mg_vcache.proofs.Dropped.none_marked, std.proofs.Common.rules}
 use Rattle.mg_vcache.proofs.cache.VCache.new.Goals as goal
 
 pub invariant_of-result : goal.invariant_of-result

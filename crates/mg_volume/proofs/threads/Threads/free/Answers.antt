@@ -1,9 +1,5 @@
-use Rattle.std.specs.Prelude.{◌+◌, not, ℕ, List, Some, None}
-use Rattle.std.specs.List.{position}
-use Rattle.std.proofs.Common.{ap, subst, sym, ◌∙◌}
-use Rattle.mg_model.specs.State.{ThreadRow}
-use Rattle.mg_volume.proofs.ThreadSearch.{free_is, free_gone}
-use Rattle.mg_volume.specs.Numbered.{IsFreeNumber}
+use Rattle.{mg_model.specs.State.ThreadRow, mg_volume.{proofs.ThreadSearch.{free_is, free_gone}, specs.Numbered.IsFreeNumber}, std.proofs.Common.ap}
+use Rattle.std.{proofs.Common.{subst, sym, ◌∙◌}, specs.{List.position, Prelude.{◌+◌, not, ℕ, List, Some, None}}}
 use Rattle.mg_volume.proofs.threads.Threads.free.Goals as goal
 
 pub returns-in-Some-clause-number : goal.returns-in-Some-clause-number

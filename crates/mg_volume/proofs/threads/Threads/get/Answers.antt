@@ -1,10 +1,6 @@
-use Rattle.std.proofs.Common.{◌≤◌, ◌-◌, ◌==◌, ◌∙◌, ℕ, List, None, ap, arith, find, get_or, length, sym}
-use Rattle.std.specs.Option.{option_map}
-use Rattle.std.proofs.lemmas.List.{get_or_past}
-use Rattle.mg_model.specs.State.{ThreadRow}
-use Rattle.mg_objects.specs.Held.{live_from}
-use Rattle.mg_volume.specs.Numbered.{numbered}
-use Rattle.mg_volume.proofs.ByNumber.{thread_at, thread_zero}
+use Rattle.{mg_model.specs.State.ThreadRow, mg_objects.specs.Held.live_from, mg_volume.proofs.ByNumber.{thread_at, thread_zero}}
+use Rattle.{mg_volume.specs.Numbered.numbered, std.proofs.Common.{◌≤◌, ◌-◌, ◌==◌, ◌∙◌, ℕ, List, None, ap, arith, find, get_or, length, sym}}
+use Rattle.std.{proofs.lemmas.List.get_or_past, specs.Option.option_map}
 use Rattle.mg_volume.proofs.threads.Threads.get.Goals as goal
 
 pub returns-then-number-eq0-clause-found : goal.returns-then-number-eq0-clause-found

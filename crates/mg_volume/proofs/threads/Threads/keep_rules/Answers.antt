@@ -1,8 +1,5 @@
-use Rattle.std.proofs.Common.{◌≤◌, ℕ, All, List, length, subst}
-use Rattle.mg_model.specs.Ranges.{IsThreadRow}
-use Rattle.mg_model.specs.State.{ThreadRow}
-use Rattle.mg_volume.proofs.ByNumber.{apart_are, few_are, ranges_are}
-use Rattle.mg_volume.specs.RowLists.{DistinctBy}
+use Rattle.{mg_model.specs.{Ranges.IsThreadRow, State.ThreadRow}, mg_volume.proofs.ByNumber.{apart_are, few_are, ranges_are}}
+use Rattle.{mg_volume.specs.RowLists.DistinctBy, std.proofs.Common.{◌≤◌, ℕ, All, List, length, subst}}
 use Rattle.mg_volume.proofs.threads.Threads.keep_rules.Goals as goal
 
 pub returns-clause-at_most_256 : goal.returns-clause-at_most_256

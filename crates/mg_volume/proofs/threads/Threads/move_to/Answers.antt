@@ -1,13 +1,7 @@
-use Rattle.std.proofs.Common.{List, Option, Some, None, ℕ, ◌≡◌, ◌<◌, ◌-◌, ◌∙◌, ◌==◌, ap, arith, find, length, subst, sym}
-use Rattle.std.specs.Prelude.{is_some, slice_set}
-use Rattle.std.specs.Option.{ForSome, option_map}
-use Rattle.std.proofs.lemmas.List.{get_or-set_same, get_or_default}
-use Rattle.mg_model.specs.Ranges.{IsThreadRow}
-use Rattle.mg_model.specs.State.{ThreadRow}
-use Rattle.mg_volume.proofs.ByNumber.{few_are, put_is, thread_at}
-use Rattle.mg_volume.proofs.ThreadSearch.{put_listed}
-use Rattle.mg_volume.specs.Numbered.{is_taken, rows_with, turn_mark}
-use Rattle.mg_volume.specs.Standing.{stands_at}
+use Rattle.{mg_model.specs.{Ranges.IsThreadRow, State.ThreadRow}, mg_volume.proofs.{ByNumber.{few_are, put_is, thread_at}, ThreadSearch.put_listed}}
+use Rattle.{mg_volume.specs.{Numbered.{is_taken, rows_with, turn_mark}, Standing.stands_at}, std.proofs.Common.{List, Option, Some, None, ℕ, ◌≡◌}}
+use Rattle.std.proofs.{Common.{◌<◌, ◌-◌, ◌∙◌, ◌==◌, ap, arith, find, length, subst, sym}, lemmas.List.{get_or-set_same, get_or_default}}
+use Rattle.std.specs.{Option.{ForSome, option_map}, Prelude.{is_some, slice_set}}
 use Rattle.mg_volume.proofs.threads.Threads.move_to.Goals as goal
 
 within : (c : goal.After-self-3-1) → c.args.number - 1 < length c.self.inside.rows.items

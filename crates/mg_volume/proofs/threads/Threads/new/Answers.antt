@@ -1,5 +1,4 @@
-use Rattle.mg_volume.proofs.ByNumber.{none_is}
-use Rattle.mg_volume.proofs.ThreadSearch.{none_listed}
+use Rattle.mg_volume.proofs.{ByNumber.none_is, ThreadSearch.none_listed}
 use Rattle.mg_volume.proofs.threads.Threads.new.Goals as goal
 
 pub invariant_of-result : goal.invariant_of-result

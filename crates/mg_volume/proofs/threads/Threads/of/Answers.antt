@@ -1,6 +1,4 @@
-use Rattle.std.proofs.Common.{◌∙◌, ◌+◌, Some, ap}
-use Rattle.mg_volume.specs.Numbered.{rows_with}
-use Rattle.mg_volume.proofs.ByNumber.{next_row}
+use Rattle.{mg_volume.{proofs.ByNumber.next_row, specs.Numbered.rows_with}, std.proofs.Common.{◌∙◌, ◌+◌, Some, ap}}
 use Rattle.mg_volume.proofs.threads.Threads.of.Goals as goal
 
 pub loop-row-preserved : goal.loop-row-preserved

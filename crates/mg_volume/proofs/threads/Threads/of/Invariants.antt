@@ -1,5 +1,4 @@
-use Rattle.std.proofs.Common.{◌≡◌, take}
-use Rattle.mg_volume.specs.Numbered.{numbered}
+use Rattle.{mg_volume.specs.Numbered.numbered, std.proofs.Common.{◌≡◌, take}}
 use Rattle.mg_volume.proofs.threads.Threads.of.Given as goal
 
 abbrev pub invariant-loop-row : goal.invariant-loop-row

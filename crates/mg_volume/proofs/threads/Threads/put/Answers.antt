@@ -1,7 +1,5 @@
-use Rattle.std.proofs.Common.{◌∙◌, ◌-◌, ap, arith, slice_set}
-use Rattle.mg_volume.specs.Numbered.{rows_with}
-use Rattle.mg_volume.proofs.ByNumber.{few_are, put_is}
-use Rattle.mg_volume.proofs.ThreadSearch.{put_listed}
+use Rattle.{mg_volume.{proofs.{ByNumber.{few_are, put_is}, ThreadSearch.put_listed}, specs.Numbered.rows_with}, std.proofs.Common.{◌∙◌, ◌-◌, ap}}
+use Rattle.std.proofs.Common.{arith, slice_set}
 use Rattle.mg_volume.proofs.threads.Threads.put.Goals as goal
 
 pub invariant_of-self : goal.invariant_of-self

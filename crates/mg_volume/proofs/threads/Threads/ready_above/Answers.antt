@@ -1,10 +1,6 @@
-use Rattle.std.specs.Prelude.{◌+◌, ◌-◌, ◌≡◌, ◌&&◌, ◌==◌, nat_lt, ℕ, List, drop, length, take, Some, None, find, option_map}
-use Rattle.std.specs.List.{position}
-use Rattle.std.proofs.lemmas.List.{take_rest}
-use Rattle.std.proofs.Common.{subst, sym, ap, ◌∙◌}
-use Rattle.mg_model.specs.State.{ThreadRow}
-use Rattle.mg_model.specs.Turn.{is_ready}
-use Rattle.mg_volume.proofs.ThreadSearch.{ready_is}
+use Rattle.{mg_model.specs.{State.ThreadRow, Turn.is_ready}, mg_volume.proofs.ThreadSearch.ready_is, std.proofs.Common.{subst, sym, ap, ◌∙◌}}
+use Rattle.std.{proofs.lemmas.List.take_rest, specs.{List.position, Prelude.{◌+◌, ◌-◌, ◌≡◌, ◌&&◌, ◌==◌, nat_lt, ℕ, List, drop, length, take, Some}}}
+use Rattle.std.specs.Prelude.{None, find, option_map}
 use Rattle.mg_volume.proofs.threads.Threads.ready_above.Goals as goal
 
 -- what is searched is the rest of them

@@ -1,6 +1,4 @@
-use Rattle.std.proofs.Common.{◌∙◌}
-use Rattle.mg_volume.specs.Meaning.{objects_in}
-use Rattle.mg_volume.proofs.BareRows.{paid_bare}
+use Rattle.{mg_volume.{proofs.BareRows.paid_bare, specs.Meaning.objects_in}, std.proofs.Common.◌∙◌}
 use Rattle.mg_volume.proofs.volume.Volume.bank.Goals as goal
 
 pub returns-clause-pages : goal.returns-clause-pages

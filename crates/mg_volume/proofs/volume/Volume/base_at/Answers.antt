@@ -1,12 +1,7 @@
-use Rattle.std.proofs.Common.{◌≡◌, None, Some, sym, subst}
+use Rattle.{mg_model.specs.Access.covers, mg_volume.{proofs.{Found.row_found, volume.Volume.base_at.Goals.{in-Some, in-None}}, specs.Held.VolumeHeld}}
+use Rattle.{mg_volume.specs.{Meaning.{IsBaseAt, objects_in}, contracts.volume.Volume.the_view}, std.proofs.Common.{◌≡◌, None, Some, sym, subst}}
 use Rattle.std.specs.Prelude.{ℕ, find, MatchOption, Option}
-use Rattle.mg_model.specs.Access.{covers}
-use Rattle.mg_volume.proofs.Found.{row_found}
-use Rattle.mg_volume.specs.Held.{VolumeHeld}
-use Rattle.mg_volume.specs.Meaning.{IsBaseAt, objects_in}
-use Rattle.mg_volume.specs.contracts.volume.Volume.{the_view}
 use Rattle.mg_volume.proofs.volume.Volume.base_at.Goals as goal
-use Rattle.mg_volume.proofs.volume.Volume.base_at.Goals.{in-Some, in-None}
 
 pub returns-clause-base : goal.returns-clause-base
 returns-clause-base c =

@@ -1,5 +1,4 @@
-use Rattle.mg_volume.proofs.FoundOwn.{rows_distinct}
-use Rattle.mg_volume.specs.contracts.volume.Volume.{the_view}
+use Rattle.mg_volume.{proofs.FoundOwn.rows_distinct, specs.contracts.volume.Volume.the_view}
 use Rattle.mg_volume.proofs.volume.Volume.bases_differ.Goals as goal
 
 pub returns : goal.returns

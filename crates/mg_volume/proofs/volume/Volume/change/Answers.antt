@@ -1,9 +1,6 @@
+use Rattle.mg_volume.proofs.{ChangedBy.changed_by, ObjectChanged.{pages_same, put_changes, put_held, put_here, put_low, put_room, there_is}}
+use Rattle.mg_volume.{proofs.RowsApart.changes_there, specs.{Meaning.{now_of, objects_in, staged_of}, contracts.volume.Volume.the_view}}
 use Rattle.std.proofs.Common.{◌∙◌, ap}
-use Rattle.mg_volume.proofs.ChangedBy.{changed_by}
-use Rattle.mg_volume.proofs.ObjectChanged.{pages_same, put_changes, put_held, put_here, put_low, put_room, there_is}
-use Rattle.mg_volume.proofs.RowsApart.{changes_there}
-use Rattle.mg_volume.specs.Meaning.{now_of, objects_in, staged_of}
-use Rattle.mg_volume.specs.contracts.volume.Volume.{the_view}
 use Rattle.mg_volume.proofs.volume.Volume.change.Goals as goal
 
 pub update-place-requires-clause-there : goal.update-place-requires-clause-there

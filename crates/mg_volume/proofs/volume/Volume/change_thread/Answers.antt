@@ -1,5 +1,4 @@
-use Rattle.std.proofs.Common.{◌∙◌}
-use Rattle.mg_volume.proofs.ThreadChanged.{thread_changed}
+use Rattle.{mg_volume.proofs.ThreadChanged.thread_changed, std.proofs.Common.◌∙◌}
 use Rattle.mg_volume.proofs.volume.Volume.change_thread.Goals as goal
 
 pub returns-clause-now : goal.returns-clause-now

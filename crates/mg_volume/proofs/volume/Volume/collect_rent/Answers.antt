@@ -1,16 +1,7 @@
-use Rattle.std.proofs.Common.{◌≡◌, ◌∙◌, List, ap, arith}
-use Rattle.std.specs.Prelude.{nat_lt}
-use Rattle.mg_disk.specs.Disk.{Image}
-use Rattle.mg_model.specs.Bank.{rate_now, rate_of}
-use Rattle.mg_model.specs.Settings.{Settings}
-use Rattle.mg_model.specs.State.{Object}
-use Rattle.mg_space.specs.Space.{AreRowsOf}
-use Rattle.mg_volume.proofs.AccountLists.{all_within}
-use Rattle.mg_volume.proofs.AccountsStaged.{accounts_changes, with_accounts}
-use Rattle.mg_volume.proofs.Collected.{few-pages, pages-are, rate_is, rent_is, rented}
-use Rattle.mg_volume.specs.Changes.{Changes}
-use Rattle.mg_volume.specs.Meaning.{accounts_in, now_of}
-use Rattle.mg_volume.specs.contracts.volume.Volume.{the_view}
+use Rattle.{mg_disk.specs.Disk.Image, mg_model.specs.{Bank.{rate_now, rate_of}, Settings.Settings, State.Object}, mg_space.specs.Space.AreRowsOf}
+use Rattle.mg_volume.proofs.{AccountLists.all_within, AccountsStaged.{accounts_changes, with_accounts}, Collected.{few-pages, pages-are, rate_is}}
+use Rattle.mg_volume.{proofs.Collected.{rent_is, rented}, specs.{Changes.Changes, Meaning.{accounts_in, now_of}, contracts.volume.Volume.the_view}}
+use Rattle.std.{proofs.Common.{◌≡◌, ◌∙◌, List, ap, arith}, specs.Prelude.nat_lt}
 use Rattle.mg_volume.proofs.volume.Volume.collect_rent.Goals as goal
 
 pub collect_rent-requires-clause-pages : goal.collect_rent-requires-clause-pages

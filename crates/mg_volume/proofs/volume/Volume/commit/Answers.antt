@@ -1,19 +1,9 @@
-use Rattle.std.proofs.Common.{◌∙◌}
-use Rattle.std.proofs.lemmas.Result.{on_ok_weaker}
-use Rattle.mg_disk.specs.BecomesLemmas.{becomes-of, becomes-wider}
-use Rattle.mg_disk.specs.Runs.{leaves_wider}
-use Rattle.mg_journal.specs.ResultLemmas.{on_ok_both}
-use Rattle.mg_journal.specs.Contents.{SameContents}
-use Rattle.mg_model.specs.Volume.{Is, volume}
-use Rattle.mg_pages.specs.Committing.{HasContents}
+use Rattle.{mg_disk.specs.{BecomesLemmas.{becomes-of, becomes-wider}, Runs.leaves_wider}, mg_journal.specs.Contents.SameContents}
+use Rattle.{mg_journal.specs.ResultLemmas.on_ok_both, mg_model.specs.Volume.{Is, volume}, mg_pages.specs.Committing.HasContents}
+use Rattle.mg_volume.proofs.{CommitChange.{held_now, left_volume, ready_now, stands_now}, PagesChange.{held_same, same_sound}}
+use Rattle.mg_volume.{proofs.StandingPages.{pages_stand, with_pages}, specs.{Meaning.{is_live, now_of, staged_of}, Opening.IsSaved}}
+use Rattle.{mg_volume.specs.contracts.volume.Volume.the_view, std.{proofs.{Common.◌∙◌, lemmas.Result.on_ok_weaker}, specs.Prelude.{◌≡◌, ◌⊎◌}}}
 use Rattle.mg_pages.specs.Meaning as pages
-use Rattle.mg_volume.proofs.CommitChange.{held_now, left_volume, ready_now, stands_now}
-use Rattle.mg_volume.proofs.PagesChange.{held_same, same_sound}
-use Rattle.mg_volume.proofs.StandingPages.{pages_stand, with_pages}
-use Rattle.mg_volume.specs.Meaning.{is_live, now_of, staged_of}
-use Rattle.mg_volume.specs.Opening.{IsSaved}
-use Rattle.mg_volume.specs.contracts.volume.Volume.{the_view}
-use Rattle.std.specs.Prelude.{◌≡◌, ◌⊎◌}
 use Rattle.mg_volume.proofs.volume.Volume.commit.Goals as goal
 
 pub commit-requires : goal.commit-requires

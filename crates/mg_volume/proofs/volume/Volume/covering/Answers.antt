@@ -1,11 +1,5 @@
-use Rattle.std.proofs.Common.{◌≡◌, None, Some, subst}
-use Rattle.std.specs.Prelude.{find}
-use Rattle.mg_model.specs.Access.{covers}
-use Rattle.mg_volume.proofs.Found.{row_found}
-use Rattle.mg_volume.proofs.FoundOwn.{found_own}
-use Rattle.mg_volume.specs.Held.{VolumeHeld}
-use Rattle.mg_volume.specs.Meaning.{objects_in}
-use Rattle.mg_volume.specs.contracts.volume.Volume.{the_view}
+use Rattle.{mg_model.specs.Access.covers, mg_volume.{proofs.{Found.row_found, FoundOwn.found_own}, specs.{Held.VolumeHeld, Meaning.objects_in}}}
+use Rattle.{mg_volume.specs.contracts.volume.Volume.the_view, std.{proofs.Common.{◌≡◌, None, Some, subst}, specs.Prelude.find}}
 use Rattle.mg_volume.proofs.volume.Volume.covering.Goals as goal
 
 pub returns-in-Some-clause-found : goal.returns-in-Some-clause-found

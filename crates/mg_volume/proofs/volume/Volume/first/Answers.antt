@@ -1,11 +1,5 @@
-use Rattle.std.proofs.Common.{◌≡◌, subst}
-use Rattle.mg_disk.specs.Disk.{Image}
-use Rattle.mg_model.specs.Objects.{lowest_free}
-use Rattle.mg_volume.specs.Held.{VolumeHeld}
-use Rattle.mg_volume.specs.StateLemmas.{now_rows}
-use Rattle.mg_volume.specs.Meaning.{now_of, objects_in}
-use Rattle.mg_volume.specs.contracts.volume.Volume.{the_view}
-use Rattle.mg_volume.proofs.RowTotals.{apart-bare}
+use Rattle.{mg_disk.specs.Disk.Image, mg_model.specs.Objects.lowest_free, mg_volume.{proofs.RowTotals.apart-bare, specs.Held.VolumeHeld}}
+use Rattle.{mg_volume.specs.{Meaning.{now_of, objects_in}, StateLemmas.now_rows, contracts.volume.Volume.the_view}, std.proofs.Common.{◌≡◌, subst}}
 use Rattle.mg_volume.proofs.volume.Volume.first.Goals as goal
 
 pub returns-clause-lowest : goal.returns-clause-lowest

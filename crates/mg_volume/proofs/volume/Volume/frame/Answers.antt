@@ -1,10 +1,6 @@
-use Rattle.std.proofs.Common.{◌≡◌, ◌==◌, ◌∙◌, ◌-◌, None, Some, ap, length, slice_get, subst}
-use Rattle.std.specs.Prelude.{find}
-use Rattle.mg_model.specs.State.{Thread, ThreadRow}
-use Rattle.mg_volume.proofs.Found.{thread_none, thread_some}
-use Rattle.mg_volume.specs.Held.{VolumeHeld}
-use Rattle.mg_volume.specs.Meaning.{threads_in}
-use Rattle.mg_volume.specs.contracts.volume.Volume.{the_view}
+use Rattle.{mg_model.specs.State.{Thread, ThreadRow}, mg_volume.{proofs.Found.{thread_none, thread_some}, specs.Held.VolumeHeld}}
+use Rattle.{mg_volume.specs.{Meaning.threads_in, contracts.volume.Volume.the_view}, std.proofs.Common.{◌≡◌, ◌==◌, ◌∙◌, ◌-◌, None, Some, ap, length}}
+use Rattle.std.{proofs.Common.{slice_get, subst}, specs.Prelude.find}
 use Rattle.mg_volume.proofs.volume.Volume.frame.Goals as goal
 
 pub returns-in-Some-clause-found : goal.returns-in-Some-clause-found

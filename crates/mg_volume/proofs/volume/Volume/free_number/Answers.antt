@@ -1,11 +1,6 @@
-use Rattle.std.proofs.Common.{◌≡◌, ◌<◌, ◌≤◌, false, length, subst}
+use Rattle.{mg_model.specs.Abbreviations.free_number, mg_volume.{proofs.ThreadsFound.free_held, specs.{Held.VolumeHeld, Meaning.threads_in}}}
+use Rattle.{mg_volume.specs.{Staging.lives, contracts.volume.Volume.the_view}, std.proofs.Common.{◌≡◌, ◌<◌, ◌≤◌, false, length, subst}}
 use Rattle.std.specs.Option.{MatchOption}
-use Rattle.mg_model.specs.Abbreviations.{free_number}
-use Rattle.mg_volume.proofs.ThreadsFound.{free_held}
-use Rattle.mg_volume.specs.Held.{VolumeHeld}
-use Rattle.mg_volume.specs.Meaning.{threads_in}
-use Rattle.mg_volume.specs.Staging.{lives}
-use Rattle.mg_volume.specs.contracts.volume.Volume.{the_view}
 use Rattle.mg_volume.proofs.volume.Volume.free_number.Goals as goal
 
 pub returns-clause-number : goal.returns-clause-number

@@ -1,6 +1,4 @@
-use Rattle.std.proofs.Common.{◌==◌, ◌∙◌, ap, is_some}
-use Rattle.mg_volume.proofs.ByBase.{some_found}
-use Rattle.mg_volume.specs.Meaning.{objects_in}
+use Rattle.{mg_volume.{proofs.ByBase.some_found, specs.Meaning.objects_in}, std.proofs.Common.{◌==◌, ◌∙◌, ap, is_some}}
 use Rattle.mg_volume.proofs.volume.Volume.has.Goals as goal
 
 pub returns : goal.returns

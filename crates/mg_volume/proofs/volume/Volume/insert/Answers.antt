@@ -1,5 +1,4 @@
-use Rattle.mg_volume.proofs.ObjectInserted.{inserted_changes, inserted_held, inserted_here, inserted_room, join_meets}
-use Rattle.mg_volume.specs.Meaning.{staged_of}
+use Rattle.mg_volume.{proofs.ObjectInserted.{inserted_changes, inserted_held, inserted_here, inserted_room, join_meets}, specs.Meaning.staged_of}
 use Rattle.mg_volume.specs.contracts.volume.Volume.{the_view}
 use Rattle.mg_volume.proofs.volume.Volume.insert.Goals as goal
 

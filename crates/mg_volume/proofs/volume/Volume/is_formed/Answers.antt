@@ -1,13 +1,7 @@
-use Rattle.std.proofs.Common.{◌≡◌, ℕ, All, List, subst, true}
-use Rattle.mg_disk.specs.Disk.{AreBytes}
-use Rattle.mg_model.specs.Ranges.{IsThreadRow, IsWord}
-use Rattle.mg_model.specs.State.{ThreadRow}
-use Rattle.mg_model.specs.WellFormed.{IsWellFormed}
-use Rattle.mg_model.specs.declared.accounts.AccRow.{AccRow}
-use Rattle.mg_volume.proofs.OpenedFormed.{opened_formed}
-use Rattle.mg_volume.specs.Held.{VolumeHeld}
-use Rattle.mg_volume.specs.Meaning.{IsSpelledBy, is_sound, now_of, staged_of}
-use Rattle.mg_volume.specs.contracts.volume.Volume.{the_view}
+use Rattle.{mg_disk.specs.Disk.AreBytes, mg_model.specs.{Ranges.{IsThreadRow, IsWord}, State.ThreadRow, WellFormed.IsWellFormed}}
+use Rattle.{mg_model.specs.declared.accounts.AccRow.AccRow, mg_volume.{proofs.OpenedFormed.opened_formed, specs.Held.VolumeHeld}}
+use Rattle.{mg_volume.specs.{Meaning.{IsSpelledBy, is_sound, now_of, staged_of}, contracts.volume.Volume.the_view}, std.proofs.Common.{◌≡◌, ℕ, All}}
+use Rattle.std.proofs.Common.{List, subst, true}
 use Rattle.mg_volume.proofs.volume.Volume.is_formed.Goals as goal
 
 pub returns : goal.returns

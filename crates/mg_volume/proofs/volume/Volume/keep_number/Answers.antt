@@ -1,6 +1,4 @@
-use Rattle.std.proofs.Common.{◌≤◌}
-use Rattle.mg_volume.proofs.ThreadChanged.{living}
-use Rattle.mg_volume.specs.Meaning.{threads_in}
+use Rattle.{mg_volume.{proofs.ThreadChanged.living, specs.Meaning.threads_in}, std.proofs.Common.◌≤◌}
 use Rattle.mg_volume.proofs.volume.Volume.keep_number.Goals as goal
 
 in_range : (c : goal.After-frame-frame) → (1 ≤ c.args.number) × (c.args.number ≤ 256)

@@ -1,18 +1,8 @@
-use Rattle.std.proofs.Common.{◌≡◌, ◌∙◌, ◌==◌, Some, ap, find, refl, subst, sym}
-use Rattle.mg_model.specs.State.{Thread}
-use Rattle.mg_pages.specs.declared.pages.Pages.{Pages}
-use Rattle.mg_volume.proofs.Found.{thread_found}
-use Rattle.mg_volume.proofs.Handed.{no, nor}
-use Rattle.mg_volume.proofs.PagesChange.{held_same}
-use Rattle.mg_volume.proofs.StandingPages.{with_pages}
-use Rattle.mg_volume.proofs.Stages.{restaged}
-use Rattle.mg_volume.proofs.StillWaiting.{thread_here}
-use Rattle.mg_volume.proofs.ThreadChanged.{thread_changed}
-use Rattle.mg_volume.proofs.ThreadMoved.{changes_found, moved_read}
-use Rattle.mg_volume.proofs.ThreadStaged.{thread_changes, with_threads}
-use Rattle.mg_volume.specs.Meaning.{IsVolume, threads_in}
-use Rattle.mg_volume.specs.Standing.{stands_at}
-use Rattle.mg_volume.specs.contracts.volume.Volume.{the_view}
+use Rattle.{mg_model.specs.State.Thread, mg_pages.specs.declared.pages.Pages.Pages, mg_volume.proofs.{Found.thread_found, Handed.{no, nor}}}
+use Rattle.mg_volume.proofs.{PagesChange.held_same, Stages.restaged, StandingPages.with_pages, StillWaiting.thread_here, ThreadChanged.thread_changed}
+use Rattle.mg_volume.{proofs.{ThreadMoved.{changes_found, moved_read}, ThreadStaged.{thread_changes, with_threads}}, specs.Meaning.IsVolume}
+use Rattle.{mg_volume.specs.{Meaning.threads_in, Standing.stands_at, contracts.volume.Volume.the_view}, std.proofs.Common.{◌≡◌, ◌∙◌, ◌==◌, Some, ap}}
+use Rattle.std.proofs.Common.{find, refl, subst, sym}
 use Rattle.mg_volume.proofs.volume.Volume.move_staged.Goals as goal
 
 pub returns : goal.returns

@@ -1,9 +1,5 @@
-use Rattle.std.proofs.Common.{List, ◌≡◌, ◌==◌, ℕ, find, refl, subst, IfSome}
-use Rattle.mg_model.specs.Domains.{with_thread}
-use Rattle.mg_model.specs.State.{Thread, ThreadRow}
-use Rattle.mg_volume.specs.Held.{VolumeHeld}
-use Rattle.mg_volume.specs.Meaning.{now_of, threads_in}
-use Rattle.mg_volume.specs.Standing.{stands_at}
+use Rattle.{mg_model.specs.{Domains.with_thread, State.{Thread, ThreadRow}}, mg_volume.specs.{Held.VolumeHeld, Meaning.{now_of, threads_in}}}
+use Rattle.{mg_volume.specs.Standing.stands_at, std.proofs.Common.{List, ◌≡◌, ◌==◌, ℕ, find, refl, subst, IfSome}}
 use Rattle.mg_volume.proofs.volume.Volume.move_thread.Goals as goal
 
 pub returns-then-not-move_staged-clause-now : goal.returns-then-not-move_staged-clause-now

@@ -1,15 +1,7 @@
-use Rattle.std.proofs.Common.{◌==◌, ◌∙◌, ℕ, None, Some, ap, sym}
-use Rattle.std.specs.Prelude.{find, is_some}
-use Rattle.mg_model.specs.State.{Thread}
-use Rattle.mg_volume.proofs.Found.{thread_found, thread_none}
-use Rattle.mg_volume.proofs.PagesChange.{held_same}
-use Rattle.mg_volume.proofs.StillWaiting.{thread_here, thread_room}
-use Rattle.mg_volume.proofs.ThreadChanged.{living, thread_changed}
-use Rattle.mg_volume.proofs.ThreadMoved.{changes_found}
-use Rattle.mg_volume.proofs.ThreadStaged.{thread_changes, with_threads}
-use Rattle.mg_volume.specs.Meaning.{threads_in}
-use Rattle.mg_volume.specs.Standing.{stands_at}
-use Rattle.mg_volume.specs.contracts.volume.Volume.{the_view}
+use Rattle.{mg_model.specs.State.Thread, mg_volume.proofs.{Found.{thread_found, thread_none}, PagesChange.held_same, StillWaiting.thread_here}}
+use Rattle.mg_volume.proofs.{StillWaiting.thread_room, ThreadChanged.{living, thread_changed}, ThreadMoved.changes_found, ThreadStaged.thread_changes}
+use Rattle.mg_volume.{proofs.ThreadStaged.with_threads, specs.{Meaning.threads_in, Standing.stands_at, contracts.volume.Volume.the_view}}
+use Rattle.std.{proofs.Common.{◌==◌, ◌∙◌, ℕ, None, Some, ap, sym}, specs.Prelude.{find, is_some}}
 use Rattle.mg_volume.proofs.volume.Volume.move_whole.Goals as goal
 
 pub unreachable-requires : goal.unreachable-requires

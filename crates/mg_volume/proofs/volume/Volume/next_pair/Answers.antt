@@ -1,15 +1,9 @@
-use Rattle.std.proofs.Common.{◌+◌, ◌*◌, ◌∙◌, ap, refl, slice_index}
-use Rattle.mg_disk.specs.Disk.{block_at}
-use Rattle.mg_model.specs.Objects.{word_at}
-use Rattle.mg_pages.specs.Meaning as pages
-use Rattle.mg_pages.specs.PairLemmas.{same_pairs}
-use Rattle.mg_pages.specs.Pairs.{words_looked_at}
+use Rattle.{mg_disk.specs.Disk.block_at, mg_model.specs.Objects.word_at, mg_pages.specs.{PairLemmas.same_pairs, Pairs.words_looked_at}}
 use Rattle.mg_volume.proofs.PagesChange.{counted_some, held_same, keeps_now, same_objects, some_page, ticked_some, word_now}
-use Rattle.mg_volume.proofs.StillStaged.{objects_wait, still_staged}
-use Rattle.mg_volume.proofs.StandingPages.{pages_stand, stands_same, with_pages}
-use Rattle.mg_volume.specs.Meaning.{now_of, words_in}
-use Rattle.mg_volume.specs.RunLemmas.{reads_of}
-use Rattle.mg_volume.specs.contracts.volume.Volume.{the_view}
+use Rattle.mg_volume.{proofs.{StandingPages.{pages_stand, stands_same, with_pages}, StillStaged.{objects_wait, still_staged}}, specs.Meaning.now_of}
+use Rattle.{mg_volume.specs.{Meaning.words_in, RunLemmas.reads_of, contracts.volume.Volume.the_view}, std.proofs.Common.{◌+◌, ◌*◌, ◌∙◌, ap, refl}}
+use Rattle.std.proofs.Common.{slice_index}
+use Rattle.mg_pages.specs.Meaning as pages
 use Rattle.mg_volume.proofs.volume.Volume.next_pair.Goals as goal
 
 pub next_pair-requires-clause-stands : goal.next_pair-requires-clause-stands

@@ -1,9 +1,5 @@
-use Rattle.std.proofs.Common.{ap, sym, ◌∙◌}
-use Rattle.std.specs.Prelude.{find, option_map}
-use Rattle.mg_model.specs.State.{Counters}
-use Rattle.mg_volume.proofs.ThreadSearch.{takes_turn}
-use Rattle.mg_volume.proofs.ThreadsFound.{next_again, next_first}
-use Rattle.mg_volume.specs.Held.{VolumeHeld}
+use Rattle.{mg_model.specs.State.Counters, mg_volume.{proofs.{ThreadSearch.takes_turn, ThreadsFound.{next_again, next_first}}, specs.Held.VolumeHeld}}
+use Rattle.std.{proofs.Common.{ap, sym, ◌∙◌}, specs.Prelude.{find, option_map}}
 use Rattle.mg_volume.proofs.volume.Volume.next_ready.Goals as goal
 
 pub returns-in-Some : goal.returns-in-Some

@@ -1,5 +1,4 @@
-use Rattle.mg_volume.proofs.ThreadChanged.{numbers_apart}
-use Rattle.mg_volume.specs.contracts.volume.Volume.{the_view}
+use Rattle.mg_volume.{proofs.ThreadChanged.numbers_apart, specs.contracts.volume.Volume.the_view}
 use Rattle.mg_volume.proofs.volume.Volume.numbers_differ.Goals as goal
 
 pub returns : goal.returns

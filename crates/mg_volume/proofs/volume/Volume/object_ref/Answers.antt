@@ -1,10 +1,5 @@
-use Rattle.std.proofs.Common.{◌≡◌, ◌==◌, subst}
-use Rattle.std.specs.Prelude.{find}
-use Rattle.std.specs.Option.{option_copied}
-use Rattle.mg_volume.proofs.Found.{row_found}
-use Rattle.mg_volume.specs.Held.{VolumeHeld}
-use Rattle.mg_volume.specs.Meaning.{objects_in}
-use Rattle.mg_volume.specs.contracts.volume.Volume.{the_view}
+use Rattle.{mg_volume.{proofs.Found.row_found, specs.{Held.VolumeHeld, Meaning.objects_in, contracts.volume.Volume.the_view}}, std.proofs.Common.◌≡◌}
+use Rattle.std.{proofs.Common.{◌==◌, subst}, specs.{Option.option_copied, Prelude.find}}
 use Rattle.mg_volume.proofs.volume.Volume.object_ref.Goals as goal
 
 pub returns : goal.returns

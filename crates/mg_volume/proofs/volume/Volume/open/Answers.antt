@@ -1,10 +1,6 @@
-use Rattle.std.proofs.Common.{◌≡◌, subst, sym, ◌∙◌}
+use Rattle.{mg_disk.specs.Runs.{left_still, left_still_then}, mg_layout.specs.MayFormat.IsNoState, mg_model.specs.Volume.volume}
+use Rattle.{mg_volume.{proofs.Handed.{calls_as, calls_then, same_fault}, specs.Opening.IsOpened}, std.proofs.Common.{◌≡◌, subst, sym, ◌∙◌}}
 use Rattle.std.proofs.lemmas.Result.{IfOk-weaker}
-use Rattle.mg_disk.specs.Runs.{left_still, left_still_then}
-use Rattle.mg_layout.specs.MayFormat.{IsNoState}
-use Rattle.mg_model.specs.Volume.{volume}
-use Rattle.mg_volume.proofs.Handed.{calls_as, calls_then, same_fault}
-use Rattle.mg_volume.specs.Opening.{IsOpened}
 use Rattle.mg_volume.proofs.volume.Volume.open.Goals as goal
 
 pub open_rows-requires-clause-told : goal.open_rows-requires-clause-told

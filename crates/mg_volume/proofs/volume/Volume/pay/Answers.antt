@@ -1,8 +1,5 @@
-use Rattle.std.proofs.Common.{◌∙◌, ap, arith}
-use Rattle.mg_volume.proofs.AccountLists.{are_both, paid_within}
-use Rattle.mg_volume.proofs.AccountsStaged.{accounts_changes}
-use Rattle.mg_volume.specs.Meaning.{accounts_in, now_of}
-use Rattle.mg_volume.specs.contracts.volume.Volume.{the_view}
+use Rattle.mg_volume.{proofs.{AccountLists.{are_both, paid_within}, AccountsStaged.accounts_changes}, specs.Meaning.{accounts_in, now_of}}
+use Rattle.{mg_volume.specs.contracts.volume.Volume.the_view, std.proofs.Common.{◌∙◌, ap, arith}}
 use Rattle.mg_volume.proofs.volume.Volume.pay.Goals as goal
 
 pub returns : goal.returns

@@ -1,8 +1,5 @@
+use Rattle.mg_volume.{proofs.ByBase.{always, put_now}, specs.{Meaning.{now_of, objects_in}, Staging.has_base, StateLemmas.now_rows}}
 use Rattle.std.proofs.Common.{◌≡◌, ◌==◌, ◌∙◌, ap, false, find, refl, sym, true}
-use Rattle.mg_volume.proofs.ByBase.{always, put_now}
-use Rattle.mg_volume.specs.Meaning.{now_of, objects_in}
-use Rattle.mg_volume.specs.StateLemmas.{now_rows}
-use Rattle.mg_volume.specs.Staging.{has_base}
 use Rattle.mg_volume.proofs.volume.Volume.put.Goals as goal
 
 pub returns-then-has-clause-now : goal.returns-then-has-clause-now

@@ -1,15 +1,7 @@
+use Rattle.{mg_model.specs.Layout.globals_block, mg_pages.specs.declared.pages.Pages.Pages, mg_volume.proofs.Handed.{no, nor}}
+use Rattle.mg_volume.proofs.{PagesChange.held_same, Rewritten.counters_read, Staged.{counters_changes, with_counters}, Stages.restaged}
+use Rattle.mg_volume.{proofs.{StandingPages.with_pages, StillWaiting.counters_here}, specs.{Meaning.IsVolume, contracts.volume.Volume.the_view}}
 use Rattle.std.proofs.Common.{◌≡◌, ◌∙◌, ap, refl, subst, sym}
-use Rattle.mg_model.specs.Layout.{globals_block}
-use Rattle.mg_pages.specs.declared.pages.Pages.{Pages}
-use Rattle.mg_volume.proofs.Handed.{no, nor}
-use Rattle.mg_volume.proofs.PagesChange.{held_same}
-use Rattle.mg_volume.proofs.StandingPages.{with_pages}
-use Rattle.mg_volume.proofs.Rewritten.{counters_read}
-use Rattle.mg_volume.proofs.Staged.{counters_changes, with_counters}
-use Rattle.mg_volume.proofs.Stages.{restaged}
-use Rattle.mg_volume.proofs.StillWaiting.{counters_here}
-use Rattle.mg_volume.specs.Meaning.{IsVolume}
-use Rattle.mg_volume.specs.contracts.volume.Volume.{the_view}
 use Rattle.mg_volume.proofs.volume.Volume.put_counters.Goals as goal
 
 pub returns : goal.returns

@@ -1,7 +1,5 @@
-use Rattle.std.proofs.Common.{◌≡◌, ℕ}
-use Rattle.mg_volume.proofs.ObjectChanged.{there_is}
-use Rattle.mg_volume.proofs.ObjectWithout.{Goes, goes, held_without, without_changes}
-use Rattle.mg_volume.specs.contracts.volume.Volume.{the_view}
+use Rattle.mg_volume.proofs.{ObjectChanged.there_is, ObjectWithout.{Goes, goes, held_without, without_changes}}
+use Rattle.{mg_volume.specs.contracts.volume.Volume.the_view, std.proofs.Common.{◌≡◌, ℕ}}
 use Rattle.mg_volume.proofs.volume.Volume.remove.Goals as goal
 
 pub take_object-taken-requires-clause-there : goal.take_object-taken-requires-clause-there

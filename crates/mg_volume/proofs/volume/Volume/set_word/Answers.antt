@@ -1,9 +1,7 @@
-use Rattle.std.proofs.Common.{◌∙◌, ap, inl, inr, refl, ⊎_elim}
 use Rattle.mg_volume.proofs.PagesChange.{counted, frame_free, held_again, rows_same, same_sound, set_or_same, some_page, ticked}
-use Rattle.mg_volume.proofs.StillStaged.{objects_wait, still_staged}
-use Rattle.mg_volume.proofs.StandingPages.{pages_stand, stands_same, with_pages}
+use Rattle.mg_volume.proofs.{StandingPages.{pages_stand, stands_same, with_pages}, StillStaged.{objects_wait, still_staged}}
 use Rattle.mg_volume.specs.Meaning.{accounts_in, counters_in, has_page, is_live, objects_in, settings_in, staged_of, threads_in, total_of, words_in}
-use Rattle.mg_volume.specs.contracts.volume.Volume.{the_view}
+use Rattle.{mg_volume.specs.contracts.volume.Volume.the_view, std.proofs.Common.{◌∙◌, ap, inl, inr, refl, ⊎_elim}}
 use Rattle.mg_volume.proofs.volume.Volume.set_word.Goals as goal
 
 pub set_word-requires-clause-stands : goal.set_word-requires-clause-stands

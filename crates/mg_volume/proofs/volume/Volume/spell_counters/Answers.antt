@@ -1,9 +1,5 @@
-use Rattle.mg_model.specs.Bytes.{padded_to}
-use Rattle.mg_model.specs.Layout.{block_size}
-use Rattle.mg_volume.proofs.PagesChange.{held_same}
-use Rattle.mg_volume.proofs.StillWaiting.{counters_here, counters_room}
-use Rattle.mg_volume.proofs.Staged.{counters_changes, with_counters}
-use Rattle.mg_volume.specs.contracts.volume.Volume.{the_view}
+use Rattle.{mg_model.specs.{Bytes.padded_to, Layout.block_size}, mg_volume.proofs.{PagesChange.held_same, Staged.{counters_changes, with_counters}}}
+use Rattle.mg_volume.{proofs.StillWaiting.{counters_here, counters_room}, specs.contracts.volume.Volume.the_view}
 use Rattle.mg_volume.proofs.volume.Volume.spell_counters.Goals as goal
 
 pub stage_start-requires-clause-staged_or_fewer_than_160 : goal.stage_start-requires-clause-staged_or_fewer_than_160

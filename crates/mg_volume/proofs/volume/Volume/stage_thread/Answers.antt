@@ -1,6 +1,4 @@
-use Rattle.mg_volume.proofs.PagesChange.{held_same}
-use Rattle.mg_volume.proofs.StillWaiting.{thread_here, thread_room}
-use Rattle.mg_volume.proofs.ThreadStaged.{thread_changes, with_threads}
+use Rattle.mg_volume.proofs.{PagesChange.held_same, StillWaiting.{thread_here, thread_room}, ThreadStaged.{thread_changes, with_threads}}
 use Rattle.mg_volume.specs.contracts.volume.Volume.{the_view}
 use Rattle.mg_volume.proofs.volume.Volume.stage_thread.Goals as goal
 

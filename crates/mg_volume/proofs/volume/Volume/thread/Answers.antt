@@ -1,10 +1,5 @@
-use Rattle.std.proofs.Common.{◌≡◌, ◌==◌, None, Some, subst}
-use Rattle.std.specs.Prelude.{find, option_map}
-use Rattle.mg_model.specs.State.{Thread}
-use Rattle.mg_volume.proofs.Found.{thread_found}
-use Rattle.mg_volume.specs.Held.{VolumeHeld}
-use Rattle.mg_volume.specs.Meaning.{threads_in}
-use Rattle.mg_volume.specs.contracts.volume.Volume.{the_view}
+use Rattle.{mg_model.specs.State.Thread, mg_volume.{proofs.Found.thread_found, specs.{Held.VolumeHeld, Meaning.threads_in}}}
+use Rattle.{mg_volume.specs.contracts.volume.Volume.the_view, std.{proofs.Common.{◌≡◌, ◌==◌, None, Some, subst}, specs.Prelude.{find, option_map}}}
 use Rattle.mg_volume.proofs.volume.Volume.thread.Goals as goal
 
 pub returns-in-Some-clause-found : goal.returns-in-Some-clause-found

@@ -1,11 +1,6 @@
-use Rattle.std.proofs.Common.{◌≡◌, ◌==◌, subst}
-use Rattle.std.specs.Prelude.{find, option_map}
-use Rattle.std.specs.Option.{option_copied}
-use Rattle.mg_model.specs.State.{Thread}
-use Rattle.mg_volume.proofs.Found.{thread_found}
-use Rattle.mg_volume.specs.Held.{VolumeHeld}
-use Rattle.mg_volume.specs.Meaning.{threads_in}
-use Rattle.mg_volume.specs.contracts.volume.Volume.{the_view}
+use Rattle.{mg_model.specs.State.Thread, mg_volume.{proofs.Found.thread_found, specs.{Held.VolumeHeld, Meaning.threads_in}}}
+use Rattle.{mg_volume.specs.contracts.volume.Volume.the_view, std.{proofs.Common.{◌≡◌, ◌==◌, subst}, specs.{Option.option_copied, Prelude.find}}}
+use Rattle.std.specs.Prelude.{option_map}
 use Rattle.mg_volume.proofs.volume.Volume.thread_ref.Goals as goal
 
 pub returns-clause-found : goal.returns-clause-found

@@ -1,16 +1,9 @@
-use Rattle.std.proofs.Common.{◌≡◌, ◌∙◌, ap, refl}
-use Rattle.std.proofs.lemmas.Result.{IfOk-weaker}
-use Rattle.std.specs.Option.{ForSome}
-use Rattle.mg_disk.specs.Disk.{block_at}
-use Rattle.mg_model.specs.Objects.{word_at}
+use Rattle.{mg_disk.specs.Disk.block_at, mg_model.specs.Objects.word_at, mg_volume.proofs.PagesChange.{counted, held_same, keeps_now, same_objects}}
+use Rattle.mg_volume.proofs.{PagesChange.{some_page, ticked, word_now}, StandingPages.{pages_stand, stands_same, with_pages}}
+use Rattle.mg_volume.{proofs.StillStaged.{objects_wait, still_staged}, specs.{Meaning.{now_of, words_in}, RunLemmas.reads_of}}
+use Rattle.{mg_volume.specs.contracts.volume.Volume.the_view, std.proofs.{Common.{◌≡◌, ◌∙◌, ap, refl}, lemmas.Result.IfOk-weaker}}
+use Rattle.std.specs.{Option.ForSome, Prelude.{slice_index, ◌+◌, ◌*◌}}
 use Rattle.mg_pages.specs.Meaning as pages
-use Rattle.std.specs.Prelude.{slice_index, ◌+◌, ◌*◌}
-use Rattle.mg_volume.proofs.PagesChange.{counted, held_same, keeps_now, same_objects, some_page, ticked, word_now}
-use Rattle.mg_volume.proofs.StillStaged.{objects_wait, still_staged}
-use Rattle.mg_volume.proofs.StandingPages.{pages_stand, stands_same, with_pages}
-use Rattle.mg_volume.specs.Meaning.{now_of, words_in}
-use Rattle.mg_volume.specs.RunLemmas.{reads_of}
-use Rattle.mg_volume.specs.contracts.volume.Volume.{the_view}
 use Rattle.mg_volume.proofs.volume.Volume.word.Goals as goal
 
 pub page_word-requires-clause-stands : goal.page_word-requires-clause-stands

@@ -1,8 +1,5 @@
-use Rattle.std.proofs.Common.{◌∙◌, ◌≡◌, ap, subst, sym}
+use Rattle.{mg_window.{proofs.Seen.window_seen, specs.{Attached.Listed, Devices.{Held, reading}}}, std.proofs.Common.{◌∙◌, ◌≡◌, ap, subst, sym}}
 use Rattle.std.specs.Prelude.{ℕ, slice_index_or}
-use Rattle.mg_window.proofs.Seen.{window_seen}
-use Rattle.mg_window.specs.Attached.{Listed}
-use Rattle.mg_window.specs.Devices.{Held, reading}
 use Rattle.mg_window.proofs.windows.Windows.load.Goals as goal
 
 pub returns : goal.returns

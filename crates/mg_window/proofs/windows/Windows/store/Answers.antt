@@ -1,10 +1,5 @@
-use Rattle.std.proofs.Common.{◌<◌, ◌≡◌, ◌∙◌, arith, length, slice_set, subst, sym}
-use Rattle.std.specs.Prelude.{MatchResult}
-use Rattle.std.proofs.lemmas.List.{length-set}
-use Rattle.mg_window.proofs.Apart.{apart_set}
-use Rattle.mg_window.proofs.Seen.{store_seen}
-use Rattle.mg_window.specs.Attached.{Listed, device_at, seen, with_device}
-use Rattle.mg_window.specs.Devices.{stored}
+use Rattle.mg_window.{proofs.{Apart.apart_set, Seen.store_seen}, specs.{Attached.{Listed, device_at, seen, with_device}, Devices.stored}}
+use Rattle.std.{proofs.{Common.{◌<◌, ◌≡◌, ◌∙◌, arith, length, slice_set, subst, sym}, lemmas.List.length-set}, specs.Prelude.MatchResult}
 use Rattle.mg_window.proofs.windows.Windows.store.Goals as goal
 
 pub invariant_of-self : goal.invariant_of-self

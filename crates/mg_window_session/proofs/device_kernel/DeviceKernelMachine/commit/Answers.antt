@@ -1,6 +1,4 @@
-use Rattle.mg_kernel.specs.Meaning.{now_of}
-use Rattle.mg_window_session.specs.DeviceKernels.{windows_in}
-use Rattle.mg_window_session.proofs.DeviceSteps.{commits}
+use Rattle.{mg_kernel.specs.Meaning.now_of, mg_window_session.{proofs.DeviceSteps.commits, specs.DeviceKernels.windows_in}}
 use Rattle.mg_window_session.proofs.device_kernel.DeviceKernelMachine.commit.Goals as goal
 
 pub returns-in-Ok-clause-done : goal.returns-in-Ok-clause-done

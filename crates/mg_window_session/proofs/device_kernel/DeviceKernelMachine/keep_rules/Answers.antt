@@ -1,5 +1,4 @@
-use Rattle.std.proofs.Common.{refl}
-use Rattle.mg_kernel.specs.Meaning.{now_kept}
+use Rattle.{mg_kernel.specs.Meaning.now_kept, std.proofs.Common.refl}
 use Rattle.mg_window_session.proofs.device_kernel.DeviceKernelMachine.keep_rules.Goals as goal
 
 pub returns : goal.returns

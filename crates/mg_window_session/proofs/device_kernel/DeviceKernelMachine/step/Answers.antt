@@ -1,6 +1,5 @@
+use Rattle.mg_window_session.{proofs.DeviceSteps.{answers_line, stepped_line, stopped_line}, specs.DeviceKernels.machine_of}
 use Rattle.mg_window_session.specs.declared.device_kernel.DeviceKernel.{DeviceKernel}
-use Rattle.mg_window_session.specs.DeviceKernels.{machine_of}
-use Rattle.mg_window_session.proofs.DeviceSteps.{answers_line, stepped_line, stopped_line}
 use Rattle.mg_window_session.proofs.device_kernel.DeviceKernelMachine.step.Goals as goal
 
 pub returns-in-Ok-clause-answers : goal.returns-in-Ok-clause-answers
