@@ -3,7 +3,7 @@ use Rattle.std.{proofs.{Common.{arith, refl, ap, ◌∙◌}, lemmas.Bool.eq-eqb}
 use Rattle.std.specs.Prelude.{◌&&◌, Bool, not, true, false, List, [], ◌∷◌, ◌++◌, if◌then◌else◌}
 use Rattle.{mg_laws.specs.Costs.SearchesKeepRules, mg_model.specs.Accesses.{Access, accesses, line_words}}
 use Rattle.mg_model.specs.Kept.{KeepsKeys, KeepsLine, KeepsRules, Searches, Validates, access_limit, is_served}
-use Rattle.mg_model.specs.{Kept.{line_limit, searches_limit}, Keys.{Key, is_elsewhere, seat_of, taken}, State.State}
+use Rattle.mg_model.specs.{Kept.{line_limit, searches_limit}, Keys.{Key, is_elsewhere, seat_of, key_taken}, State.State}
 use Rattle.mg_model.specs.{Threads.is_thread, Warmth.{failing, is_disturbing}, declared.calls.Line.Line}
 
 -- a line that was answered
@@ -30,7 +30,7 @@ one_rules state access kept kept' words valid keep = keep state kept (access ∷
 
 -- The keys that would be kept after an access, whether it is allowed or not.
 abbrev pub as_if : State → Access → (Key → Bool) → Key → Bool
-as_if state access kept key = if is_elsewhere (taken state access) key then kept key else true
+as_if state access kept key = if is_elsewhere (key_taken state access) key then kept key else true
 
 -- an access that failed stays within its limit, and so do those before it
 pub failed_access : (state : State) (access : Access) (kept : Key → Bool) (words : ℕ) → words ≤ access_limit kept state access → Validates state access kept (as_if state access kept) words

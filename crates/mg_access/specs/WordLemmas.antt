@@ -5,9 +5,10 @@ use Rattle.mg_access.specs.{LineLemmas.{none_rules, one_limit, one_rules}, Reach
 use Rattle.mg_access.specs.{ReachedLemmas.{reached_allowed, reached_none, thread_gone}, Searching.access_refusal}
 use Rattle.{mg_access.specs.Searching.{allowed_row, word_accesses}, mg_laws.specs.Costs.SearchesKeepRules}
 use Rattle.mg_model.specs.{Access.{allowed, at}, Accesses.{Access, word_access}, Kept.{KeepsRules, Searches, Validates}}
-use Rattle.mg_model.specs.{Kept.{access_limit, searches_limit}, Keys.{Key, is_elsewhere, taken}, ObjectCalls.is_aligned}
-use Rattle.mg_model.specs.{Refused.first_refusal, State.{Object, ObjectRow, State}, Threads.is_thread}
-use Rattle.mg_model.specs.declared.{replies.Refusal.TheVariants.{Align, Denied}, rights.Right.Right}
+use Rattle.mg_model.specs.{Kept.{access_limit, searches_limit}, Keys.{Key, is_elsewhere, key_taken}}
+use Rattle.mg_model.specs.{ObjectCalls.is_aligned, Refused.first_refusal, State.{Object, ObjectRow, State}}
+use Rattle.mg_model.specs.{Threads.is_thread, declared.replies.Refusal.TheVariants.{Align, Denied}}
+use Rattle.mg_model.specs.declared.rights.Right.{Right}
 
 module _ (t a : ℕ) (right : Right) where
   -- an access that reaches nothing takes no seat
@@ -44,7 +45,7 @@ module _ (state : State) (t a : ℕ) (right : Right) where
         by_thread : (v : Bool) → is_thread state t ≡ v → KeepsRules state (word_accesses state t a right) kept kept' (steps' - steps)
         by_thread true is = subst (λ made. KeepsRules state made kept kept' (steps' - steps)) (sym (made-one is on)) (one_rules state access kept kept' (steps' - steps) valid keep)
         by_thread false is =
-            let none : taken state access ≡ [] = taken-none t a right (allowed state t a right) (at state.objects a) (nobody_reaches state t a right (thread_gone state t is)) in
+            let none : key_taken state access ≡ [] = taken-none t a right (allowed state t a right) (at state.objects a) (nobody_reaches state t a right (thread_gone state t is)) in
             let same = gone is in
             subst (λ made. KeepsRules state made kept kept' (steps' - steps)) (sym (made-nobody is))
             (none_rules state kept kept' (steps' - steps) (λ key. valid.others key (ap (λ keys. is_elsewhere keys key) none)) (omega arith) keep)

@@ -27,21 +27,21 @@ settings_of tariff frames seed credits =
     if within_limits f c then Some record { frames = f; seed = s; credits = c; tariff = tariff f } else None)))
 
 -- `F:R`: the number before the first colon, and the one after it
-abbrev pub step_parts : List ℕ → List ℕ → Option (ℕ × ℕ)
-step_parts from [] = None
-step_parts from (colon ∷ rate) = and_then (number_of from) (λ f. and_then (number_of rate) (λ r. Some (f, r)))
+abbrev pub tariff_step_parts : List ℕ → List ℕ → Option (ℕ × ℕ)
+tariff_step_parts from [] = None
+tariff_step_parts from (colon ∷ rate) = and_then (number_of from) (λ f. and_then (number_of rate) (λ r. Some (f, r)))
 
 -- how many bytes are before the first colon
 abbrev pub before_colon : List ℕ → ℕ
 before_colon word = prefix_len (λ b. not (b == 58)) word
 
-abbrev pub step_of : List ℕ → Option (ℕ × ℕ)
-step_of word = step_parts (take (before_colon word) word) (drop (before_colon word) word)
+abbrev pub tariff_step : List ℕ → Option (ℕ × ℕ)
+tariff_step word = tariff_step_parts (take (before_colon word) word) (drop (before_colon word) word)
 
 -- `F:R F:R F:R F:R`, if these steps are a tariff
 abbrev pub tariff_of : List ℕ → List ℕ → List ℕ → List ℕ → Option (List (ℕ × ℕ))
 tariff_of a b c d =
-    and_then (step_of a) (λ p. and_then (step_of b) (λ q. and_then (step_of c) (λ r. and_then (step_of d) (λ s.
+    and_then (tariff_step a) (λ p. and_then (tariff_step b) (λ q. and_then (tariff_step c) (λ r. and_then (tariff_step d) (λ s.
     if is_tariff (p ∷ q ∷ r ∷ s ∷ []) then Some (p ∷ q ∷ r ∷ s ∷ []) else None))))
 
 -- `VOLUME dry FRAMES SEED CREDITS`

@@ -3,11 +3,12 @@ use Rattle.std.proofs.Common.{refl, sym, ap, ◌∙◌, ⊎_elim, inl, inr, suc,
 use Rattle.std.proofs.lemmas.List.FromFn.{length-map-range_with_len, map-range_with_len_more}
 use Rattle.std.specs.{Io.KnownBytes.Appends, List.range_with_len, Prelude.{ℕ, ◌≡◌, ◌⊎◌, ◌≤◌, ◌+◌, List, [], ◌∷◌, ◌++◌}}
 use Rattle.std.specs.Prelude.{filter_map, length, map, Some}
-use Rattle.{mg_commands.specs.Headline.{GenKeeps, replies_from, run_lines}, mg_faults.specs.Faults.Rose}
-use Rattle.mg_gen.specs.{Asked.{LinesAreCalls, line_asked}, Generated.{line_text, run_settings}, Summary.summary_text}
-use Rattle.{mg_gen.specs.Tallies.{CountsAreTold, tally_of, tally_text}, mg_io.specs.Known.AppendsPrefix}
-use Rattle.mg_model.specs.{Fresh.fresh, Lines.line_of, State.State, Step.{after, step}, Warmth.cost}
-use Rattle.{mg_model.specs.declared.calls.Line.Line, mg_serve.specs.{Sessions.use_of, declared.status.Status.Status}}
+use Rattle.{mg_commands.specs.Headline.{GenKeeps, replies_from, generated_lines}, mg_faults.specs.Faults.Rose}
+use Rattle.mg_gen.specs.{Asked.{LinesAreCalls, line_asked}, Generated.{line_text, generated_settings}}
+use Rattle.mg_gen.specs.{Summary.summary_text, Tallies.{CountsAreTold, tally_of, tally_text}}
+use Rattle.{mg_io.specs.Known.AppendsPrefix, mg_model.specs.{Fresh.fresh, Lines.line_of, State.State, Step.after}}
+use Rattle.{mg_model.specs.{Step.step, Warmth.cost, declared.calls.Line.Line}, mg_serve.specs.Sessions.use_of}
+use Rattle.mg_serve.specs.declared.status.Status.{Status}
 use Rattle.mg_io.specs.declared.traits.Sink as sinks
 use Rattle.mg_serve.specs.declared.status.Status.TheVariants as status
 
@@ -26,21 +27,21 @@ all-lines : (text : ℕ → List ℕ) (asked : ℕ → Line) → ((k : ℕ) → 
 all-lines text asked are [] = refl
 all-lines text asked are (k ∷ ks) = rw (are k) (ap (λ v. asked k ∷ v) (all-lines text asked are ks))
 
-run-is : LinesAreCalls → (number k : ℕ) → run_lines number k ≡ map (λ k. line_asked number k) (range_with_len 0 k)
+run-is : LinesAreCalls → (number k : ℕ) → generated_lines number k ≡ map (λ k. line_asked number k) (range_with_len 0 k)
 run-is are number k = all-lines (λ k. line_text number k) (λ k. line_asked number k) (λ k. are number k) (range_with_len 0 k)
 
 -- a line more of a run
-pub run-more : LinesAreCalls → (number k : ℕ) → run_lines number (k + 1) ≡ run_lines number k ++ line_asked number k ∷ []
+pub run-more : LinesAreCalls → (number k : ℕ) → generated_lines number (k + 1) ≡ generated_lines number k ++ line_asked number k ∷ []
 run-more are number k =
     run-is are number (k + 1) ∙ map-range_with_len_more (λ k. line_asked number k) 0 k k (omega arith) ∙ ap (λ v. v ++ line_asked number k ∷ []) (sym (run-is are number k))
 
-pub length-run : LinesAreCalls → (number k : ℕ) → length (run_lines number k) ≡ k
+pub length-run : LinesAreCalls → (number k : ℕ) → length (generated_lines number k) ≡ k
 length-run are number k = ap (λ v. length v) (run-is are number k) ∙ length-map-range_with_len (λ k. line_asked number k) 0 k
 
 -- what a run keeps whose counts were printed, or could not be
 pub run_keeps : {K : Type 0} (to : sinks.Ghosts K) → CountsAreTold → (number count : ℕ) (result : Status) (k k' : K) (n n' : ℕ) (tally : List ℕ)
-    → tally ≡ tally_of (replies_from (fresh run_settings) (run_lines number count))
-    → n' ≤ n + cost (fresh run_settings) (run_lines number count)
+    → tally ≡ tally_of (replies_from (fresh generated_settings) (generated_lines number count))
+    → n' ≤ n + cost (fresh generated_settings) (generated_lines number count)
     → (result ≡ status.Done) ⊎ (result ≡ status.Sink)
     → (result ≡ status.Done → Appends (to.taken k) (to.taken k') (tally_text tally))
     → AppendsPrefix (to.taken k) (to.taken k') (tally_text tally)
@@ -56,8 +57,8 @@ run_keeps to are_told number count result k k' n n' tally counts spent ends put 
   complete = λ quiet. ⊎_elim (λ e. inl e) (λ e. absurd (quiet (rose e))) ends;
 }
   where
-    told : tally_text tally ≡ summary_text (replies_from (fresh run_settings) (run_lines number count))
-    told = ap (λ t. tally_text t) counts ∙ are_told (replies_from (fresh run_settings) (run_lines number count))
+    told : tally_text tally ≡ summary_text (replies_from (fresh generated_settings) (generated_lines number count))
+    told = ap (λ t. tally_text t) counts ∙ are_told (replies_from (fresh generated_settings) (generated_lines number count))
 
     never : result ≡ status.Memory → ⊥
     never h = ⊎_elim (λ (e : result ≡ status.Done). cc) (λ (e : result ≡ status.Sink). cc) ends

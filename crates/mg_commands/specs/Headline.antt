@@ -4,15 +4,15 @@ use Rattle.std.specs.{Fmt.decimal, Io.KnownBytes.Appends, List.range_with_len, O
 use Rattle.std.specs.Prelude.{◌≤◌, ◌≡◌, ◌≢◌, ◌⊎◌, List, [], ◌∷◌, ◌++◌, codes, filter_map, length, Option, IfSome}
 use Rattle.std.specs.Prelude.{IsSomeAnd}
 use Rattle.mg_disk.specs.{Disk.Image, Stops.{FromLeft, LeftOr, MightHaveLeft, NothingPending, WritesNothing}}
-use Rattle.{mg_faults.specs.Faults.Rose, mg_gen.specs.{Generated.{line_text, run_settings}, Summary.summary_text}}
-use Rattle.{mg_io.specs.{Arguments.PutsUsage, Known.AppendsPrefix}, mg_layout.specs.MayFormat.{IsNoState, MayFormat}}
+use Rattle.{mg_faults.specs.Faults.Rose, mg_gen.specs.{Generated.{line_text, generated_settings}, Summary.summary_text}}
+use Rattle.{mg_io.specs.{Arguments.PrintsUsage, Known.AppendsPrefix}, mg_layout.specs.MayFormat.{IsNoState, MayFormat}}
 use Rattle.{mg_layout.specs.MayFormat.ReadsFresh, mg_model.specs.{Bank.used, Draw.password_drawn, Ended.ended_lines}}
 use Rattle.mg_model.specs.{Fresh.{fresh, root_base}, Layout.total_blocks, Lines.{line_of, lines}, Print.hex_text}
 use Rattle.mg_model.specs.{Print.{ok_text, replies_text, spaced}, Settings.Settings, State.State, Step.{after, step}}
 use Rattle.mg_model.specs.{Volume.{Damaged, Is, NotVolume, OldVolume, VolumeRead, volume}, Warmth.cost}
 use Rattle.{mg_model.specs.declared.{calls.Line.Line, replies.Reply.Reply}, mg_serve.specs.Sessions.AlwaysLeft}
 use Rattle.mg_serve.specs.Sessions.{Answers, AreHeld, DiskRose, DiskUse, Ends, EndsSession, HoldsExactly, IfShort}
-use Rattle.mg_serve.specs.Sessions.{IsCut, IsDoneOrMemory, MayLeave, OfInput, OfRest, Puts, PutsPrefix, SinkRose}
+use Rattle.mg_serve.specs.Sessions.{IsCut, IsDoneOrMemory, MayLeave, OfInput, OfRest, Prints, PrintsPrefix, SinkRose}
 use Rattle.mg_serve.specs.Sessions.{SinkUse, SourceRose, SourceUse, SpellsFirst, SpellsNow, input_limit, left_at}
 use Rattle.mg_serve.specs.{Sessions.{left_now, consumed}, declared.status.Status.Status}
 use Rattle.mg_disk.specs.declared.disk.Disk as disks
@@ -159,8 +159,8 @@ pub record DryKeeps {S K : Type 0} (settings : Settings) (result : Status) (i : 
 -- `VOLUME gen NUMBER LINES`
 
 -- the first `count` lines of the run of a number, as they are read
-abbrev pub run_lines : ℕ → ℕ → List Line
-run_lines number count = filter_map (λ k. line_of (line_text number k)) (range_with_len 0 count)
+abbrev pub generated_lines : ℕ → ℕ → List Line
+generated_lines number count = filter_map (λ k. line_of (line_text number k)) (range_with_len 0 count)
 
 -- the machine's replies to these lines
 abbrev pub replies_from : State → List Line → List Reply
@@ -168,16 +168,16 @@ replies_from s [] = []
 replies_from s (line ∷ more) = (step s line).1 ∷ replies_from (step s line).0 more
 
 -- what is printed of a run from the fresh state: a line for `ok` and one for each refusal, each with the number of replies that were so
-abbrev pub run_text : ℕ → ℕ → List ℕ
-run_text number count = summary_text (replies_from (fresh run_settings) (run_lines number count))
+abbrev pub generated_text : ℕ → ℕ → List ℕ
+generated_text number count = summary_text (replies_from (fresh generated_settings) (generated_lines number count))
 
 -- What `gen` keeps.
 pub record GenKeeps {K : Type 0} (number count : ℕ) (result : Status) (o : SinkUse K) (steps steps' : ℕ) : Type 0 where
   -- At the end the counts of the machine's replies were printed; at each status what was printed is a prefix of that.
-  pub done : result ≡ status.Done → Puts o (run_text number count)
-  pub prefix : PutsPrefix o (run_text number count)
+  pub done : result ≡ status.Done → Prints o (generated_text number count)
+  pub prefix : PrintsPrefix o (generated_text number count)
   -- At each status the counter rose by no more than the generated lines may cost.
-  pub cost : steps' ≤ steps + cost (fresh run_settings) (run_lines number count)
+  pub cost : steps' ≤ steps + cost (fresh generated_settings) (generated_lines number count)
   pub which : (result ≡ status.Done) ⊎ ((result ≡ status.Memory) ⊎ (result ≡ status.Sink))
   -- If there was not enough memory nothing was printed; the sink failed only if its count rose.
   pub memory : result ≡ status.Memory → o.new ≡ o.old
@@ -193,7 +193,7 @@ pub record CheckKeeps {D K : Type 0} (result : Status) (d : DiskUse D) (o : Sink
   pub done : result ≡ status.Done →
       TellsLine (λ read. (s : State) × (read ≡ Is s)) (d.facts.seen d.old) (o.facts.taken o.old) (o.facts.taken o.new)
   -- At each status what was printed is a prefix of such a line, that of the image if reads are told.
-  pub prefix : (read : VolumeRead) × ForSome (d.facts.seen d.old) (λ image. volume image ≡ read) × PutsPrefix o (check_line read)
+  pub prefix : (read : VolumeRead) × ForSome (d.facts.seen d.old) (λ image. volume image ≡ read) × PrintsPrefix o (check_line read)
   pub writes : WritesNothing d.facts d.old d.new
   pub without : TellsOfNone d.facts o.facts result d.old d.new o.old o.new
   pub which : (result ≡ status.Done) ⊎ EndsUnopened result
@@ -234,16 +234,16 @@ pub record FormatKeeps {D K : Type 0} (settings : Settings) (result : Status) (d
   -- image that a stop might have left before.
   pub moments : AlwaysLeft d (FromLeft d.facts d.old (λ image. MayFormat image settings))
   -- At the end the fresh volume stands, and the line gives its passwords.
-  pub made : result ≡ status.Done → IsMade d.facts d.old d.new settings × Puts o (made_line settings)
+  pub made : result ≡ status.Done → IsMade d.facts d.old d.new settings × Prints o (made_line settings)
   -- If the disk has enough blocks, that volume stands also if its line could not be printed, and at each status what was printed is a
   -- prefix of that line.
   pub enough : need_of settings ≤ blocks_of d →
-      (result ≡ status.Sink → IsMade d.facts d.old d.new settings) × PutsPrefix o (made_line settings)
+      (result ≡ status.Sink → IsMade d.facts d.old d.new settings) × PrintsPrefix o (made_line settings)
   -- The disk is too small exactly if the volume needs more blocks than it has; it is not called then.
   pub too_small : result ≡ status.TooSmall →
-      (blocks_of d < need_of settings) × Puts o (small_line (need_of settings) (blocks_of d))
+      (blocks_of d < need_of settings) × Prints o (small_line (need_of settings) (blocks_of d))
   pub small : blocks_of d < need_of settings →
-      ((result ≡ status.TooSmall) ⊎ (result ≡ status.Sink)) × (d.new ≡ d.old) × PutsPrefix o (small_line (need_of settings) (blocks_of d))
+      ((result ≡ status.TooSmall) ⊎ (result ≡ status.Sink)) × (d.new ≡ d.old) × PrintsPrefix o (small_line (need_of settings) (blocks_of d))
   pub which : (result ≡ status.Done) ⊎ ((result ≡ status.Disk) ⊎ ((result ≡ status.Sink) ⊎ (result ≡ status.TooSmall)))
   -- If the disk failed nothing was printed; the disk and the sink failed only if their counts rose.
   pub disk_failed : result ≡ status.Disk → DiskRose d × (o.new ≡ o.old)
@@ -254,7 +254,7 @@ pub record FormatKeeps {D K : Type 0} (settings : Settings) (result : Status) (d
 -- Lines after the replies
 
 -- What is printed after the replies once lines ran and ended so, and how the whole ends.
-pub record PutsLast {K : Type 0} (to : sinks.Ghosts K) (ran : Status) (last : List ℕ) (result : Status)
+pub record PrintsLast {K : Type 0} (to : sinks.Ghosts K) (ran : Status) (last : List ℕ) (result : Status)
     (replied sink' : K) : Type 0 where
   -- At the end the last lines are printed, or the sink fails in them.
   pub done : ran ≡ status.Done → ((result ≡ status.Done) × Appends (to.taken replied) (to.taken sink') last)
@@ -268,6 +268,6 @@ pub record PutsLast {K : Type 0} (to : sinks.Ghosts K) (ran : Status) (last : Li
 -- What is kept if the words spell no command.
 pub record UsageKeeps {D S K : Type 0} (to : sinks.Ghosts K) (result : Status)
     (disk disk' : D) (source source' : S) (sink sink' : K) : Type 0 where
-  pub put : PutsUsage to (result ≡ status.Usage) (result ≡ status.Sink) sink sink'
+  pub put : PrintsUsage to (result ≡ status.Usage) (result ≡ status.Sink) sink sink'
   -- The disk and the source are left alone.
   pub alone : (disk' ≡ disk) × (source' ≡ source)

@@ -1,7 +1,7 @@
 -- What follows of how lines ended, and of the lines after their replies.
 use Rattle.std.proofs.Common.{refl, sym, ap, subst, ◌∙◌, inl, inr, ⊎_elim, append_assoc, append-nil}
 use Rattle.std.specs.{Io.KnownBytes.Appends, Prelude.{ℕ, ◌≡◌, ◌≢◌, ◌⊎◌, List, [], ◌++◌, Option, Some, None, IfSome}}
-use Rattle.{mg_commands.specs.Headline.{EndsRun, PutsLast}, mg_faults.specs.Faults.{CountGoesOn, Rose, then_rose}}
+use Rattle.{mg_commands.specs.Headline.{EndsRun, PrintsLast}, mg_faults.specs.Faults.{CountGoesOn, Rose, then_rose}}
 use Rattle.mg_io.specs.Known.{Appends-then, AppendsPrefix, AppendsPrefix-longer}
 use Rattle.{mg_model.specs.declared.calls.Line.Line, mg_serve.specs.{Parts.replies, Sessions.{Answers, IsDoneOrMemory}}}
 use Rattle.mg_serve.specs.{Sessions.{SourceUse, left_at, left_now, use_of}, declared.status.Status.Status}
@@ -36,7 +36,7 @@ done_is_no_disk result done disk = cc
 sink_is_no_disk : (result : Status) → result ≡ status.Sink → result ≡ status.Disk → ⊥
 sink_is_no_disk result sink disk = cc
 
-module _ {K : Type 0} (to : sinks.Ghosts K) (ran : Status) (last : List ℕ) (result : Status) (replied sink' : K) (ends : PutsLast to ran last result replied sink') where
+module _ {K : Type 0} (to : sinks.Ghosts K) (ran : Status) (last : List ℕ) (result : Status) (replied sink' : K) (ends : PrintsLast to ran last result replied sink') where
   -- the disk failed as the lines ran
   pub disk_ran : result ≡ status.Disk → ran ≡ status.Disk
   disk_ran is = ⊎_elim at_end early (is_done_or_not ran)

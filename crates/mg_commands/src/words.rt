@@ -2,7 +2,7 @@
 ghost use Rattle.std.specs.Prelude.{◌≡◌, ◌≤◌, ℕ, IfSome, Some, length};
 ghost use Rattle.mg_model.specs.Tariff.{usual_tariff};
 ghost use Rattle.mg_io.specs.Arguments.{arguments};
-ghost use Rattle.mg_commands.specs.Commands.{before_colon, byte_of, dry_of, format_of, gen_of, is_check, lines_within, run_of, seed_of, settings_of, spelled, step_of, step_parts, tariff_of};
+ghost use Rattle.mg_commands.specs.Commands.{before_colon, byte_of, dry_of, format_of, gen_of, is_check, lines_within, run_of, seed_of, settings_of, spelled, tariff_step, tariff_step_parts, tariff_of};
 ghost use Rattle.mg_commands.specs.Forms.{batch_within, dry_words, format_usual, format_with, gen_with, run_alone, run_with};
 ghost use Rattle.mg_commands.specs.declared.words.Command.TheVariants.{Gen, Run};
 
@@ -259,15 +259,15 @@ fn tariff(first: &[u8], second: &[u8], third: &[u8], fourth: &[u8]) -> Option<Ta
 
 /// The step that `F:R` gives.
 fn step(word: &[u8]) -> Option<(u64, u64)>
-    ensures { result ≡ step_of word.now }
+    ensures { result ≡ tariff_step word.now }
 {
     let (from, rest) = word.split_at(before_colon(word));
-    step_parts(from, rest)
+    tariff_step_parts(from, rest)
 }
 
 /// The step of a number and what follows it, which begins with a colon.
-fn step_parts(from: &[u8], rest: &[u8]) -> Option<(u64, u64)>
-    ensures { result ≡ step_parts from.now rest.now }
+fn tariff_step_parts(from: &[u8], rest: &[u8]) -> Option<(u64, u64)>
+    ensures { result ≡ tariff_step_parts from.now rest.now }
 {
     match rest {
         [_, rate @ ..] => Some((read_number(from)?, read_number(rate)?)),

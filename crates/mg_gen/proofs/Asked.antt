@@ -2,8 +2,8 @@
 use Rattle.mg_gen.proofs.{Numbers.{IsWord, decimal-word, hex-word}, Passwords.password-fits, Spelled.{Spells, call-spells}}
 use Rattle.mg_gen.specs.Asked.{LinesAreCalls, address_of, asked, drawn_line, entry_value, kind_line, kind_of, line_asked, prepared_line, thread_of}
 use Rattle.mg_gen.specs.{Asked.value_of, Generated.{call_text, drawn_text, drawn_word, entry_text, kind_text, line_text, prepared_text}}
-use Rattle.{mg_gen.specs.Generated.{run_object_base, run_password, stored}, mg_model.specs.{Fresh.root_base, Lines.{exactly, line_with, pwadd_of}}}
-use Rattle.mg_model.specs.{Print.hex_text, Words.{and_then, is_some_word, number_of, numbers_of, rights_of}, declared.calls.Line.Line}
+use Rattle.{mg_gen.specs.Generated.{run_object_base, generated_password, stored}, mg_model.specs.{Fresh.root_base, Lines.{exactly, line_with}}}
+use Rattle.mg_model.specs.{Lines.pwadd_of, Print.hex_text, Words.{and_then, is_some_word, number_of, numbers_of, rights_of}, declared.calls.Line.Line}
 use Rattle.{mg_text.specs.NumberLemmas.{High, number_of-back, number_of-hex}, std.proofs.Common.{◌≡◌, ℕ, ◌+◌, ◌-◌, ◌*◌, ◌/◌, ◌%◌, ◌^◌, ◌<◌, ◌==◌}}
 use Rattle.std.proofs.Common.{◌&&◌, nat_le, nat_lt, Bool, true, false, List, [], ◌∷◌, length, Some, None, if◌then◌else◌, codes, slice_index, refl, ap}
 use Rattle.std.{proofs.{Common.{◌∙◌, arith}, lemmas.Bool.{and_parts, leb-true, ltb-true}}, specs.{Fmt.decimal, Option.option_map_or}}
@@ -71,7 +71,7 @@ pwadd-spells t a ft fa =
     (hex-word a, (letters (codes "R") refl refl refl, tt)) (omega arith) refl
     (ap (λ o. line_with t (pwadd_of o (rights_of (codes "R")) (Some None))) (number_of-hex a fa))
 
-treasury-fits : run_password 1 < 2 ^ 64
+treasury-fits : generated_password 1 < 2 ^ 64
 treasury-fits = password-fits 1 (omega arith) (omega arith)
 
 -- by a test of the table
@@ -84,7 +84,7 @@ kind-spells kind t a v ft fa fv =
     by_test (nat_lt kind 6) _ _ _ _ (λ _. load-spells t a ft fa) (λ _.
     by_test (nat_lt kind 11) _ _ _ _ (λ _. store-spells t a v (decimal v) ft fa (decimal-word v fv) (number_of-back v fv)) (λ _.
     by_test (kind == 11) _ _ _ _ (λ _. info-spells t a ft fa) (λ _.
-    by_test (kind == 12) _ _ _ _ (λ _. balance-spells t 1 (run_password 1) ft (omega arith) treasury-fits) (λ _.
+    by_test (kind == 12) _ _ _ _ (λ _. balance-spells t 1 (generated_password 1) ft (omega arith) treasury-fits) (λ _.
     by_test (kind == 13) _ _ _ _ (λ _. record { is = refl }) (λ _.
     by_test (kind == 14) _ _ _ _ (λ _. record { is = refl }) (λ _.
     pwadd-spells t a ft fa))))))
@@ -100,7 +100,7 @@ value-by true x y holds fails = holds refl
 value-by false x y holds fails = fails refl
 
 value-fits : (m : ℕ) → m < 8 → entry_value m < 2 ^ 64
-value-fits m few = value-by (m % 2 == 0) (run_object_base (1 + m / 2)) (run_password (2 + m / 2)) (λ _. omega (arith, few)) (λ _. password-fits (2 + m / 2) (omega arith) (omega (arith, few)))
+value-fits m few = value-by (m % 2 == 0) (run_object_base (1 + m / 2)) (generated_password (2 + m / 2)) (λ _. omega (arith, few)) (λ _. password-fits (2 + m / 2) (omega arith) (omega (arith, few)))
 
 entry-spells : (m : ℕ) → m < 8 → Spells (entry_text m) (asked 1 (call.Store (root_base + 8 * (4 + m)) (entry_value m)))
 entry-spells m few = stored-spells (root_base + 8 * (4 + m)) (entry_value m) (omega (arith, few)) (value-fits m few)
@@ -108,7 +108,7 @@ entry-spells m few = stored-spells (root_base + 8 * (4 + m)) (entry_value m) (om
 prepared-spells : (k : ℕ) → Spells (prepared_text k) (prepared_line k)
 prepared-spells k =
     by_test (nat_lt k 31) _ _ _ _ (λ _. thread-spells 1 root_base (omega arith) (omega arith)) (λ _.
-    by_test (nat_lt k 35) _ _ _ _ (λ _. create-spells 1 16 1 (run_password 1) (omega arith) (omega arith) (omega arith) treasury-fits) (λ _.
+    by_test (nat_lt k 35) _ _ _ _ (λ _. create-spells 1 16 1 (generated_password 1) (omega arith) (omega arith) (omega arith) treasury-fits) (λ _.
     by_test (nat_lt k 43) _ _ _ _ (λ e. entry-spells (k - 35) (let h = ltb-true k 43 e in omega (arith, h))) (λ _.
     stored-spells root_base 5 (omega arith) (omega arith))))
 

@@ -1,7 +1,7 @@
 -- The calls that the lines of a generated run make, and the numbers that they are drawn from.
 use Rattle.std.specs.Prelude.{◌≡◌, ℕ, ◌+◌, ◌-◌, ◌*◌, ◌/◌, ◌%◌, ◌^◌, ◌==◌, nat_lt, [], ◌∷◌, if◌then◌else◌, Some, None}
 use Rattle.std.specs.Prelude.{map}
-use Rattle.mg_gen.specs.Generated.{drawn_word, line_text, run_object_base, run_password}
+use Rattle.mg_gen.specs.Generated.{drawn_word, line_text, run_object_base, generated_password}
 use Rattle.mg_model.specs.{Fresh.root_base, Lines.line_of, declared.calls.{Call.Call, Line.Line}}
 use Rattle.mg_model.specs.declared.calls.Call.TheVariants as call
 
@@ -24,7 +24,7 @@ generator_state number k = (number + (k + 1) * 0x9e3779b97f4a7c15) % 2 ^ 64
 
 -- what is stored at place m of the entries
 abbrev pub entry_value : ℕ → ℕ
-entry_value m = if m % 2 == 0 then run_object_base (1 + m / 2) else run_password (2 + m / 2)
+entry_value m = if m % 2 == 0 then run_object_base (1 + m / 2) else generated_password (2 + m / 2)
 
 -- the passwords, as numbers
 abbrev pub password_number : ℕ → ℕ
@@ -43,7 +43,7 @@ kind_line kind thread a value =
     if nat_lt kind 6 then asked thread (call.Load a)
     else if nat_lt kind 11 then asked thread (call.Store a value)
     else if kind == 11 then asked thread (call.Info a)
-    else if kind == 12 then asked thread (call.Balance 1 (run_password 1))
+    else if kind == 12 then asked thread (call.Balance 1 (generated_password 1))
     else if kind == 13 then asked 0 call.Rent
     else if kind == 14 then asked 0 call.Next
     else asked thread (call.Pwadd a 1 None)
@@ -51,7 +51,7 @@ kind_line kind thread a value =
 abbrev pub prepared_line : ℕ → Line
 prepared_line k =
     if nat_lt k 31 then asked 1 (call.Thread root_base)
-    else if nat_lt k 35 then asked 1 (call.Create 16 1 (run_password 1))
+    else if nat_lt k 35 then asked 1 (call.Create 16 1 (generated_password 1))
     else if nat_lt k 43 then asked 1 (call.Store (root_base + 8 * (4 + (k - 35))) (entry_value (k - 35)))
     else asked 1 (call.Store root_base 5)
 
@@ -68,4 +68,4 @@ LinesAreCalls = (number k : ℕ) → line_of (line_text number k) ≡ Some (line
 
 -- the passwords that the seed draws are these numbers
 abbrev pub PasswordsAreDrawn : Type 0
-PasswordsAreDrawn = map password_number (1 ∷ 2 ∷ 3 ∷ 4 ∷ 5 ∷ []) ≡ map run_password (1 ∷ 2 ∷ 3 ∷ 4 ∷ 5 ∷ [])
+PasswordsAreDrawn = map password_number (1 ∷ 2 ∷ 3 ∷ 4 ∷ 5 ∷ []) ≡ map generated_password (1 ∷ 2 ∷ 3 ∷ 4 ∷ 5 ∷ [])

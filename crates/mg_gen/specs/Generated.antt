@@ -5,8 +5,8 @@ use Rattle.mg_model.specs.{Draw.password_drawn, Fresh.root_base, Print.{hex_text
 use Rattle.mg_model.specs.Tariff.{usual_tariff}
 
 -- The machine that the run is made for is a fresh one with these settings, among them the zero seed.
-abbrev pub run_settings : Settings
-run_settings = record { frames = 4096; seed = replicate 32 0; credits = 2 ^ 40; tariff = usual_tariff 4096 }
+abbrev pub generated_settings : Settings
+generated_settings = record { frames = 4096; seed = replicate 32 0; credits = 2 ^ 40; tariff = usual_tariff 4096 }
 
 -- Its root object has one page. The four objects that the run makes come after it, 16 pages each: the first address of
 -- object j, from 1 to 4.
@@ -14,8 +14,8 @@ abbrev pub run_object_base : ℕ → ℕ
 run_object_base j = root_base + 4096 + (j - 1) * (16 * 4096)
 
 -- The passwords are those that the zero seed draws: password 1 is the treasury's, and from 2 on they are the objects'.
-unfoldable pub run_password : ℕ → ℕ
-run_password k = password_drawn run_settings.seed k
+unfoldable pub generated_password : ℕ → ℕ
+generated_password k = password_drawn generated_settings.seed k
 
 -- a call of a thread: its number, the call word, and then the arguments, with single spaces
 abbrev pub call_text : ℕ → List ℕ → List (List ℕ) → List ℕ
@@ -28,7 +28,7 @@ stored a value = call_text 1 (codes "store") (hex_text a ∷ hex_text value ∷ 
 -- The root object's page is the capability list of thread 1, whose first entry is the root itself: entry j names object j.
 -- Base and password of each of the four are stored one after the other, m from 0 to 7.
 abbrev pub entry_text : ℕ → List ℕ
-entry_text m = stored (root_base + 8 * (4 + m)) (if m % 2 == 0 then run_object_base (1 + m / 2) else run_password (2 + m / 2))
+entry_text m = stored (root_base + 8 * (4 + m)) (if m % 2 == 0 then run_object_base (1 + m / 2) else generated_password (2 + m / 2))
 
 -- the exclusive or of a word and of the same word shifted to the right
 abbrev pub shifted_in : ℕ → ℕ → ℕ
@@ -49,7 +49,7 @@ kind_text kind thread a value =
     if nat_lt kind 6 then call_text thread (codes "load") (hex_text a ∷ [])
     else if nat_lt kind 11 then call_text thread (codes "store") (hex_text a ∷ decimal value ∷ [])
     else if kind == 11 then call_text thread (codes "info") (hex_text a ∷ [])
-    else if kind == 12 then call_text thread (codes "balance") (decimal 1 ∷ hex_text (run_password 1) ∷ [])
+    else if kind == 12 then call_text thread (codes "balance") (decimal 1 ∷ hex_text (generated_password 1) ∷ [])
     else if kind == 13 then codes "rent"
     else if kind == 14 then codes "next"
     else call_text thread (codes "pwadd") (hex_text a ∷ codes "R" ∷ [])
@@ -63,7 +63,7 @@ drawn_text x = kind_text (x / 2 ^ 5 % 16) (1 + x % 32) (run_object_base (1 + x /
 abbrev pub prepared_text : ℕ → List ℕ
 prepared_text k =
     if nat_lt k 31 then call_text 1 (codes "thread") (hex_text root_base ∷ [])
-    else if nat_lt k 35 then call_text 1 (codes "create") (decimal 16 ∷ decimal 1 ∷ hex_text (run_password 1) ∷ [])
+    else if nat_lt k 35 then call_text 1 (codes "create") (decimal 16 ∷ decimal 1 ∷ hex_text (generated_password 1) ∷ [])
     else if nat_lt k 43 then entry_text (k - 35)
     else stored root_base 5
 

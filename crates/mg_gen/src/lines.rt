@@ -1,7 +1,7 @@
 // The line of a place in a run.
 ghost use Rattle.std.specs.Prelude.{◌≡◌, ◌++◌, ◌∷◌, ◌<◌, ◌≤◌, []};
 ghost use Rattle.mg_gen.specs.Asked.{entry_value, password_number};
-ghost use Rattle.mg_gen.specs.Generated.{drawn_text, entry_text, kind_text, line_text, prepared_text, run_password, stored};
+ghost use Rattle.mg_gen.specs.Generated.{drawn_text, entry_text, kind_text, line_text, prepared_text, generated_password, stored};
 ghost use Rattle.arrayvec.specs.ArrayVec.{array_vec_len};
 
 use crate::drawing::{address, draw, kind, run_object_base, thread, value};
@@ -76,7 +76,7 @@ fn entry_value(entry: u64) -> u64
 fn password(k: u64) -> u64
     requires from { 1 ≤ k }
     requires to { k ≤ 5 }
-    ensures { result ≡ run_password k }
+    ensures { result ≡ generated_password k }
 {
     passwords_are_drawn();
     password_number(k)

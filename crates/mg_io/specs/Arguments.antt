@@ -11,7 +11,7 @@ abbrev pub usage_line : List ℕ
 usage_line = codes "usage" ++ 10 ∷ []
 
 -- A call that does no more than print this line, and ends in one of two ways: the line was printed, or the sink failed.
-pub record PutsUsage {K : Type 0} (to : Ghosts K) (printed failed : Type 0) (sink sink' : K) : Type 0 where
+pub record PrintsUsage {K : Type 0} (to : Ghosts K) (printed failed : Type 0) (sink sink' : K) : Type 0 where
   pub which : printed ⊎ failed
   pub line : printed → Appends (to.taken sink) (to.taken sink') usage_line
   -- Whichever it is, a prefix of the line was printed, and the sink failed only if its count rose.

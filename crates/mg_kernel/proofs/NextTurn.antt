@@ -1,7 +1,7 @@
 -- Which thread has the next turn, and what the cursor leaves.
 use Rattle.{mg_disk.specs.Disk.Image, mg_laws.specs.{Backing.BackingRestsOnDomain, Laws.{RanNext, RunsNextReady}, Scripts.RestsOnNoCursor}}
 use Rattle.{mg_laws.specs.Scripts.at_cursor, mg_model.specs.{Access.thread_of, Backed.{KeepsBacked, by_none}, Domains.row_of}}
-use Rattle.mg_model.specs.{KeptListLemmas.{AllPairs-head, AllPairs-tail}, State.{State, Thread, ThreadRow}, Turn.{after_of, is_ready, next, picked}}
+use Rattle.mg_model.specs.{KeptListLemmas.{AllPairs-head, AllPairs-tail}, State.{State, Thread, ThreadRow}, Turn.{outcome_of, is_ready, next, picked}}
 use Rattle.mg_model.specs.{Turn.{ready_above, run_next, thread_is_ready, turn_state}, WellFormed.IsWellFormed, declared.replies.Reply.TheVariants.Ran}
 use Rattle.{mg_model.specs.declared.{seats.Seat.Seat, threads.After.After}, mg_vcache.specs.{SeatLemmas.backed_still, Seats.AllBacked}}
 use Rattle.{mg_volume.specs.{Held.VolumeHeld, Meaning.{now_of, threads_in}, StateLemmas.now_threads}, std.proofs.Common.{arith, refl, sym, ap, subst}}
@@ -92,11 +92,11 @@ module _ (state : State) (n : ℕ) (has : Picks state n) where
       subst (λ k. thread_is_ready state k ≡ true) has.number ran.ready
 
   -- what `next` is answered
-  pub next-runs : (middle last : State) (left : After) → RestsOnNoCursor turn_state → turn_state state n ≡ middle → left ≡ after_of middle n → last ≡ at_cursor middle n → next state ≡ (last, Ran n left)
+  pub next-runs : (middle last : State) (left : After) → RestsOnNoCursor turn_state → turn_state state n ≡ middle → left ≡ outcome_of middle n → last ≡ at_cursor middle n → next state ≡ (last, Ran n left)
   next-runs middle last left law turns after moves =
       ap (λ o. run_next state o) has.is
-      ∙ ap (λ k. (turn_state (at_cursor state k) k, Ran k (after_of (turn_state (at_cursor state k) k) k))) has.number
-      ∙ ap (λ (s : State). (s, Ran n (after_of s n))) (law state n n ∙ ap (λ s. at_cursor s n) turns)
+      ∙ ap (λ k. (turn_state (at_cursor state k) k, Ran k (outcome_of (turn_state (at_cursor state k) k) k))) has.number
+      ∙ ap (λ (s : State). (s, Ran n (outcome_of s n))) (law state n n ∙ ap (λ s. at_cursor s n) turns)
       ∙ ap (λ l. (at_cursor middle n, Ran n l)) (sym after)
       ∙ ap (λ s. (s, Ran n left)) (sym moves)
 

@@ -4,7 +4,7 @@ use Rattle.{mg_kernel.specs.Calls.turn_limit, mg_laws.specs.Costs.{LimitGoesOn, 
 use Rattle.mg_model.specs.{Access.thread_of, Accesses.{Access, accesses, call_accesses, call_words, turn_accesses, turn_words, turning, line_words}}
 use Rattle.mg_model.specs.{Domains.row_of, Kept.{KeepsKeys, KeepsLine, access_limit, is_known, is_served, line_limit, searches_limit}, Keys.Key}
 use Rattle.mg_model.specs.{Keys.{has_seat, key_of}, Limits.search_limit, Refused.checked, State.{State, Thread, ThreadRow}, Step.{of_thread, step}}
-use Rattle.mg_model.specs.{Turn.{after_of, picked, run_next, thread_is_ready, turn, turn_state}, Warmth.{disturbs, is_calm_turn, is_disturbing}}
+use Rattle.mg_model.specs.{Turn.{outcome_of, picked, run_next, thread_is_ready, turn, turn_state}, Warmth.{disturbs, is_calm_turn, is_disturbing}}
 use Rattle.mg_model.specs.{Warmth.is_ok, declared.{calls.Line.Line, replies.{Refusal.TheVariants.{NoThread, NotReady}, Reply.TheVariants.No}}}
 use Rattle.{mg_model.specs.declared.{replies.Reply.TheVariants.Turned, rights.Right.TheVariants.X}, mg_script.specs.TurnCosts.IsSearchedAsCall}
 use Rattle.{mg_script.specs.Turns.turn_call, std.proofs.{Common.{arith, refl, sym, ap, subst, ◌∙◌}, lemmas.Bool.{and_parts, cond_both, eqb-true}}}
@@ -96,7 +96,7 @@ turn-of state t thread found ready = ap (λ v. if v then thread_of state t else 
 turn-ok : (state : State) (t : ℕ) (thread : Thread) → thread_of state t ≡ Some thread → thread_is_ready state t ≡ true → is_ok (of_thread state t (turn state t)).1 ≡ true
 turn-ok state t thread found ready =
     ap (λ o. is_ok (if is_some o then turn state t else (state, No NoThread)).1) found
-    ∙ ap (λ v. is_ok (checked state ((not v, NotReady) ∷ []) (turn_state state t, Turned (after_of (turn_state state t) t))).1) ready
+    ∙ ap (λ v. is_ok (checked state ((not v, NotReady) ∷ []) (turn_state state t, Turned (outcome_of (turn_state state t) t))).1) ready
 
 -- when a line is answered ok and disturbs nothing, its turn is calm
 calm-turn : (ok disturbing calm : Bool) → ok ≡ true → disturbing ≡ not calm → (ok && disturbing) ≡ false → calm ≡ true

@@ -2,7 +2,7 @@
 use Rattle.{mg_access.specs.ReachedLemmas.same_threads, mg_disk.specs.{Disk.Image, declared.disk.Disk.Ghosts}, mg_kernel.proofs.Threads.found-lives}
 use Rattle.{mg_kernel.specs.Calls.IsRowOf, mg_model.specs.{Abbreviations.{advanced, unless_refused}, Backed.{KeepsBacked, by_none}}}
 use Rattle.mg_model.specs.{Counts.CountsAlike, Domains.{row_of, with_thread}, Refused.{Answer, first_refusal}, State.{State, Thread, ThreadRow}}
-use Rattle.mg_model.specs.{Step.of_thread, Threads.is_thread, Turn.{after_of, as_after, is_ready, thread_call, thread_is_ready, turn, turn_state}}
+use Rattle.mg_model.specs.{Step.of_thread, Threads.is_thread, Turn.{outcome_of, as_after, is_ready, thread_call, thread_is_ready, turn, turn_state}}
 use Rattle.mg_model.specs.{WellFormed.IsWellFormed, declared.{calls.Call.Call, replies.{Refusal.TheVariants.{NoThread, NotReady}, Reply.Reply}}}
 use Rattle.mg_model.specs.declared.{replies.Reply.TheVariants.{No, Turned}, seats.Seat.Seat, threads.{After.After, ThrState.ThrState}}
 use Rattle.{mg_model.specs.declared.threads.ThrState.TheVariants.{Faulted, Ready, Stopped}, mg_script.specs.Effects.{HasFrames, IsSpelledBy, begun}}
@@ -113,11 +113,11 @@ module _ (state : State) (t : ℕ) (lives : is_thread state t ≡ true) where
   of-lives : of_thread state t (turn state t) ≡ turn state t
   of-lives = ap (λ v. if v then turn state t else (state, No NoThread)) lives
 
-  tested : (v : Bool) → thread_is_ready state t ≡ v → turn state t ≡ unless_refused (first_refusal ((not v, NotReady) ∷ [])) state (turn_state state t, Turned (after_of (turn_state state t) t))
-  tested v is = ap (λ b. unless_refused (first_refusal ((not b, NotReady) ∷ [])) state (turn_state state t, Turned (after_of (turn_state state t) t))) is
+  tested : (v : Bool) → thread_is_ready state t ≡ v → turn state t ≡ unless_refused (first_refusal ((not v, NotReady) ∷ [])) state (turn_state state t, Turned (outcome_of (turn_state state t) t))
+  tested v is = ap (λ b. unless_refused (first_refusal ((not b, NotReady) ∷ [])) state (turn_state state t, Turned (outcome_of (turn_state state t) t))) is
 
-  pub turn-ready : (next : State) (left : After) → thread_is_ready state t ≡ true → turn_state state t ≡ next → left ≡ after_of next t → of_thread state t (turn state t) ≡ (next, Turned left)
-  turn-ready next left ready is after = of-lives ∙ tested true ready ∙ ap (λ s. (s, Turned (after_of s t))) is ∙ ap (λ l. (next, Turned l)) (sym after)
+  pub turn-ready : (next : State) (left : After) → thread_is_ready state t ≡ true → turn_state state t ≡ next → left ≡ outcome_of next t → of_thread state t (turn state t) ≡ (next, Turned left)
+  turn-ready next left ready is after = of-lives ∙ tested true ready ∙ ap (λ s. (s, Turned (outcome_of s t))) is ∙ ap (λ l. (next, Turned l)) (sym after)
 
   pub turn-refused : thread_is_ready state t ≡ false → of_thread state t (turn state t) ≡ (state, No NotReady)
   turn-refused waits = of-lives ∙ tested false waits
@@ -169,10 +169,10 @@ module _ (t : ℕ) (change : ThreadRow → ThreadRow) where
   changes-row (Some thread) row row' is made = ap change (same_Some thread.row row is) ∙ sym made
 
   -- what the thread is then
-  pub after-change : (state new : State) (row row' : ThreadRow) (left : After) → row_of state t ≡ Some row → new ≡ with_thread state t change → row' ≡ change row → left ≡ as_after row'.state → left ≡ after_of new t
+  pub after-change : (state new : State) (row row' : ThreadRow) (left : After) → row_of state t ≡ Some row → new ≡ with_thread state t change → row' ≡ change row → left ≡ as_after row'.state → left ≡ outcome_of new t
   after-change state new row row' left there is made after =
       after ∙ ap (λ (r : ThreadRow). as_after r.state) made
-      ∙ sym (ap (λ s. after_of s t) is ∙ ap (λ (o : Option ThreadRow). option_map_or (λ (r : ThreadRow). as_after r.state) o after_turn.Ended) (row-with state.threads row there))
+      ∙ sym (ap (λ s. outcome_of s t) is ∙ ap (λ (o : Option ThreadRow). option_map_or (λ (r : ThreadRow). as_after r.state) o after_turn.Ended) (row-with state.threads row there))
 
   -- when the thread does not live, nothing changes
   pub no-change : (v : VolumeHeld) (image : Image) → find (λ (thread : Thread). thread.number == t) (threads_in v) ≡ None → now_of v image ≡ with_thread (now_of v image) t change
@@ -180,7 +180,7 @@ module _ (t : ℕ) (change : ThreadRow → ThreadRow) where
       let state = now_of v image in
       sym (ap (λ threads. record state { threads = threads }) (none-with state.threads (told_thread v image t None none)))
 
-  pub after-none : (v : VolumeHeld) (image : Image) → find (λ (thread : Thread). thread.number == t) (threads_in v) ≡ None → after_turn.Ended ≡ after_of (now_of v image) t
+  pub after-none : (v : VolumeHeld) (image : Image) → find (λ (thread : Thread). thread.number == t) (threads_in v) ≡ None → after_turn.Ended ≡ outcome_of (now_of v image) t
   after-none v image none = sym (ap (λ o. option_map_or (λ (r : ThreadRow). as_after r.state) (option_map_or (λ (x : Thread). Some x.row) o None) after_turn.Ended) (told_thread v image t None none))
 
 pub unmapped : (o : Option Thread) → option_map (λ (thread : Thread). thread.row) o ≡ None → o ≡ None

@@ -4,11 +4,12 @@ use Rattle.std.specs.Prelude.{Option, Some, Result, IfOk, OnErr, OnOk}
 use Rattle.{mg_access.specs.Served.CallRow, mg_disk.specs.{Stops.CountRose, declared.disk.Disk.Ghosts}}
 use Rattle.mg_model.specs.{Abbreviations.advanced, Accesses.{call_accesses, call_words, turn_accesses, turn_words}}
 use Rattle.mg_model.specs.{Kept.{KeepsKeys, searches_limit}, Keys.Key, State.{State, Thread, ThreadRow}}
-use Rattle.mg_model.specs.{Threads.is_thread, Turn.{after_of, thread_call, turn_state}, Warmth.{disturbs, is_calm_turn}}
-use Rattle.mg_model.specs.{Warmth.is_ok, declared.{calls.Call.Call, seats.Seat.Seat, threads.After.After}}
-use Rattle.mg_script.specs.{Effects.{HasFrames, begun, finished, made_by, turned_on}, declared.effects.Effect.Effect}
-use Rattle.{mg_vcache.specs.Seats.{AllBacked, is_kept}, mg_volume.specs.{Calls.Serves, Held.VolumeHeld, Meaning.Keeps}}
-use Rattle.mg_volume.specs.Meaning.{now_of, threads_in}
+use Rattle.mg_model.specs.{Threads.is_thread, Turn.{outcome_of, thread_call, turn_state}, Warmth.disturbs}
+use Rattle.mg_model.specs.{Warmth.{is_calm_turn, is_ok}, declared.{calls.Call.Call, seats.Seat.Seat}}
+use Rattle.{mg_model.specs.declared.threads.After.After, mg_script.specs.Effects.{HasFrames, begun, finished, made_by}}
+use Rattle.{mg_script.specs.{Effects.turned_on, declared.effects.Effect.Effect}, mg_vcache.specs.Seats.AllBacked}
+use Rattle.{mg_vcache.specs.Seats.is_kept, mg_volume.specs.{Calls.Serves, Held.VolumeHeld, Meaning.{Keeps, now_of}}}
+use Rattle.mg_volume.specs.Meaning.{threads_in}
 
 -- the most that it adds to the counter of words
 abbrev pub call_limit : (Key → Bool) → State → ℕ → Call → ℕ
@@ -52,7 +53,7 @@ pub record Asks (row : ThreadRow) (fetched : Option ℕ) (effect : Effect) (made
 -- What the turn of a Ready thread keeps, one fact a field. Nothing is staged if a call of the disk failed.
 pub record TurnServes {D E : Type 0} (facts : Ghosts D) (t : ℕ) (result : Result After E) (old new : VolumeHeld) (seats seats' : List (Option Seat)) (before after : D) (steps steps' : ℕ) : Type 0 where
   pub state : OnOk result (ForSome (facts.seen before) (λ image. turn_state (now_of old image) t ≡ now_of new image))
-  pub left : IfOk result (λ left. ForSome (facts.seen before) (λ image. left ≡ after_of (now_of new image) t))
+  pub left : IfOk result (λ left. ForSome (facts.seen before) (λ image. left ≡ outcome_of (now_of new image) t))
   pub failed : OnErr result (Keeps old new)
   pub backed : ForSome (facts.seen before) (λ image. AllBacked (now_of new image) seats')
   pub keeps : OnOk result ((row : ThreadRow) → IsRowOf old t row → ForSome (facts.seen before) (λ image. KeepsTurn (now_of old image) (record { number = t; row = row }) (λ key. is_kept seats key) (λ key. is_kept seats' key) steps steps'))

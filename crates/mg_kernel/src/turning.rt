@@ -7,7 +7,7 @@ ghost use Rattle.mg_laws.specs.Scripts.{at_cursor};
 ghost use Rattle.mg_model.specs.Domains.{with_thread};
 ghost use Rattle.mg_model.specs.Layout.{body_limit};
 ghost use Rattle.mg_model.specs.State.{ThreadRow};
-ghost use Rattle.mg_model.specs.Turn.{after_of, as_after, is_ready, thread_is_ready};
+ghost use Rattle.mg_model.specs.Turn.{outcome_of, as_after, is_ready, thread_is_ready};
 ghost use Rattle.mg_script.specs.Effects.{HasPlace, IsSpelledBy, resumed};
 ghost use Rattle.mg_vcache.specs.Seats.{AllBacked};
 ghost use Rattle.mg_volume.specs.Calls.{IsSoundOn, Stages};
@@ -164,7 +164,7 @@ fn go_on(volume: &mut Volume, thread: u64, effect: &Effect, reply: &Reply) -> Af
     requires place { HasPlace effect.now }
     requires fewer_than_160_staged { staged_of volume.old < body_limit }
     ensures now { (image : List (List ℕ)) → now_of volume.new image ≡ with_thread (now_of volume.old image) thread (λ row. resumed effect.now reply.now row) }
-    ensures left { (image : List (List ℕ)) → result ≡ after_of (now_of volume.new image) thread }
+    ensures left { (image : List (List ℕ)) → result ≡ outcome_of (now_of volume.new image) thread }
     ensures stages { Stages 1 volume.old volume.new }
 {
     match volume.thread_ref(thread) {
@@ -184,7 +184,7 @@ fn go_on_whole(volume: &mut Volume, thread: u64, effect: &Effect, reply: &Reply)
     requires place { HasPlace effect.now }
     requires fewer_than_160_staged { staged_of volume.old < body_limit }
     ensures now { (image : List (List ℕ)) → now_of volume.new image ≡ with_thread (now_of volume.old image) thread (λ row. resumed effect.now reply.now row) }
-    ensures left { (image : List (List ℕ)) → result ≡ after_of (now_of volume.new image) thread }
+    ensures left { (image : List (List ℕ)) → result ≡ outcome_of (now_of volume.new image) thread }
     ensures stages { Stages 1 volume.old volume.new }
 {
     match volume.thread(thread) {

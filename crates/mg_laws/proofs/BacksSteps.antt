@@ -9,13 +9,13 @@ use Rattle.mg_model.specs.{Abbreviations.{advanced, refusal_number}, Access.{all
 use Rattle.mg_model.specs.{Backed.{by_thread, by_word, ended_by_call, ended_by_instruction, ended_by_turn, ended_of}, Domains.{pdx, ret, row_of}}
 use Rattle.mg_model.specs.{Objects.{with_word, word_at}, Refused.Answer, Script.{decoded, jumped, operand, register, with_register}, State.State}
 use Rattle.mg_model.specs.{State.{Thread, ThreadRow}, Step.{of_thread, step, step_of}, Threads.is_thread, Turn.{faulted, is_ready, picked, put_row}}
-use Rattle.mg_model.specs.Turn.{ready_above, run, run_next, run_word, with_answer, script_call, thread_call, thread_is_ready, turn, turn_state}
-use Rattle.mg_model.specs.{Turn.{turned, unless_faulted, values_of, with_registers}, WellFormed.{IsThread, IsWellFormed}, declared.calls.Call.Call}
-use Rattle.mg_model.specs.declared.{instructions.Instr.Instr, replies.Reply.Reply, rights.Right.TheVariants.{R, W, X}, seats.Seat.Seat}
-use Rattle.{mg_model.specs.declared.threads.{Fault.Fault, ThrState.TheVariants.Faulted}, std.proofs.Common.{arith, ℕ, List, [], ◌∷◌, ◌+◌, ◌%◌}}
-use Rattle.std.proofs.Common.{if◌then◌else◌, ◌≤◌, ◌≡◌, ◌&&◌, Bool, true, false, not, cond, eqb, ltb, Contains, Option, Some, None, refl, sym, ap, ◌∙◌}
-use Rattle.std.proofs.{Common.subst, lemmas.{Bool.{cond_both, cond-true, not-false}, List.Elements.All-contains, Option.same_Some}}
-use Rattle.std.specs.Option.{option_map_or, option_or}
+use Rattle.mg_model.specs.Turn.{ready_above, run_instruction, run_next, run_word, with_answer, script_call, thread_call, thread_is_ready, turn}
+use Rattle.mg_model.specs.{Turn.{turn_state, turned, unless_faulted, values_of, with_registers}, WellFormed.{IsThread, IsWellFormed}}
+use Rattle.mg_model.specs.declared.{calls.Call.Call, instructions.Instr.Instr, replies.Reply.Reply, rights.Right.TheVariants.{R, W, X}}
+use Rattle.{mg_model.specs.declared.{seats.Seat.Seat, threads.{Fault.Fault, ThrState.TheVariants.Faulted}}, std.proofs.Common.{arith, ℕ, List, []}}
+use Rattle.std.proofs.Common.{◌∷◌, ◌+◌, ◌%◌, if◌then◌else◌, ◌≤◌, ◌≡◌, ◌&&◌, Bool, true, false, not, cond, eqb, ltb, Contains, Option, Some, None}
+use Rattle.std.proofs.{Common.{refl, sym, ap, ◌∙◌, subst}, lemmas.{Bool.{cond_both, cond-true, not-false}, List.Elements.All-contains}}
+use Rattle.std.{proofs.lemmas.Option.same_Some, specs.Option.{option_map_or, option_or}}
 use Rattle.mg_model.specs.declared.calls.Call.TheVariants as call
 use Rattle.mg_model.specs.declared.instructions.Instr.TheVariants as op
 use Rattle.mg_model.specs.declared.replies.Refusal.TheVariants as refusal
@@ -80,7 +80,7 @@ module _ (state : State) (t : ℕ) (row : ThreadRow) (formed : IsWellFormed stat
   then-backed : (ended : Seat → Bool) (new : State) → KeepsBacked ended (put_row state t (advanced row)) new → KeepsBacked ended state new
   then-backed ended new keeps = first-backed ended state (put_row state t (advanced row)) new (put-backed (advanced row) refl) keeps
 
-  run-backed : (instr : Instr) → KeepsBacked (ended_by_instruction state t row (Some instr)) state (run state t row.pc (advanced row) instr)
+  run-backed : (instr : Instr) → KeepsBacked (ended_by_instruction state t row (Some instr)) state (run_instruction state t row.pc (advanced row) instr)
   run-backed op.Halt = put-backed _ refl
   run-backed (op.Set a i) = put-backed _ refl
   run-backed (op.High a i) = put-backed _ refl

@@ -2,7 +2,7 @@
 use Rattle.mg_laws.{proofs.{KeysSeats.last_is_kept, KeysTaken.{last-recent, recent-last}}, specs.Costs.{BeginsWarm, BoundedByCost, CostsAddUp}}
 use Rattle.{mg_laws.specs.Costs.{CostsGoOn, EventsGoOn, LimitsWithinCost, PrefixesCostLess, StaysWarm}, mg_model.specs.Accesses.Access}
 use Rattle.mg_model.specs.{Kept.{Follows, KeepsWarm, is_served, line_limit}, Keys.{Key, first_at, seat_of}, State.State, Step.step, Warmth.Event}
-use Rattle.mg_model.specs.{Warmth.{cost, cost_behind, events, failing, is_disturbing, is_warm, recent, taken_in}, declared.calls.Line.Line}
+use Rattle.mg_model.specs.{Warmth.{cost, cost_behind, events, failing, is_disturbing, is_warm, recent, keys_taken_in}, declared.calls.Line.Line}
 use Rattle.std.proofs.{Common.{ℕ, ◌≡◌, ◌≤◌, ◌+◌, Bool, true, false, List, [], ◌∷◌, ◌++◌, Some, refl, sym, ap, ◌∙◌, arith}, lemmas.Bool.and_from}
 use Rattle.std.proofs.lemmas.{Bool.{and_parts, cond-false, cond-true, false≢true}, Option.none-some}
 
@@ -19,8 +19,8 @@ warm-stays past event kept kept' warm keeps = record {
     by_line : (key : Key) (disturbs : Bool) → is_disturbing event.state event.line ≡ disturbs → first_at (seat_of key) (recent (event ∷ past)) ≡ Some key → kept' key ≡ true
     by_line key true is first = grind (arith, none-some, cond-true)
     by_line key false is first =
-        last_is_kept (taken_in event) (recent past) kept kept' (keeps is).stays (keeps is).comes (λ other there. warm.each other (last-recent past other there)) key
-        (ap (λ keys. first_at (seat_of key) keys) (sym (cond-false (is_disturbing event.state event.line) [] (taken_in event ++ recent past) is)) ∙ first)
+        last_is_kept (keys_taken_in event) (recent past) kept kept' (keeps is).stays (keeps is).comes (λ other there. warm.each other (last-recent past other there)) key
+        (ap (λ keys. first_at (seat_of key) keys) (sym (cond-false (is_disturbing event.state event.line) [] (keys_taken_in event ++ recent past) is)) ∙ first)
 
 -- The limit of a line
 

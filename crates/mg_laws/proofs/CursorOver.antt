@@ -3,9 +3,9 @@ use Rattle.{mg_laws.specs.Scripts.{RestsOnNoCursor, at_cursor}, mg_model.specs.A
 use Rattle.mg_model.specs.{Access.domain_of, Bank.{balance_of, credited, owed_by, pages_of, debited}, Domains.{pdx, ret, row_of, with_slots}}
 use Rattle.mg_model.specs.{Domains.with_thread, Limits.never, ObjectCalls.{about, drawn, extension_of, has_password, next_password, row_at}}
 use Rattle.mg_model.specs.{ObjectCalls.{with_entry, with_row_at}, Objects.{lowest_free, new_object, with_object, with_word, without_object, word_at}}
-use Rattle.mg_model.specs.{Refused.Answer, State.{State, Thread, ThreadRow}, Threads.{birth_of, new_thread, with_new_thread}, Turn.{put_row, run}}
-use Rattle.mg_model.specs.Turn.{run_word, with_answer, script_call, thread_call, turn_state, turned, unless_faulted, values_of, with_registers}
-use Rattle.mg_model.specs.declared.{calls.Call.Call, instructions.Instr.Instr, replies.{Refusal.Refusal, Reply.Reply}}
+use Rattle.mg_model.specs.{Refused.Answer, State.{State, Thread, ThreadRow}, Threads.{birth_of, new_thread, with_new_thread}, Turn.put_row}
+use Rattle.mg_model.specs.Turn.{run_instruction, run_word, with_answer, script_call, thread_call, turn_state, turned, unless_faulted, values_of}
+use Rattle.mg_model.specs.{Turn.with_registers, declared.{calls.Call.Call, instructions.Instr.Instr, replies.{Refusal.Refusal, Reply.Reply}}}
 use Rattle.{mg_model.specs.declared.threads.ThrState.TheVariants.Ready, std.proofs.Common.{arith, ℕ, suc, ◌+◌, ◌*◌, ◌++◌, ◌≡◌, Bool, eqb, not, []}}
 use Rattle.std.{proofs.{Common.{◌∷◌, filter, length, Option, Some, None, refl, ap, ◌∙◌}, lemmas.Bool.cond_both}, specs.Option.option_map_or}
 use Rattle.std.specs.Prelude.{drop, take, unwrap_or}
@@ -64,7 +64,7 @@ module _ (n : ℕ) where
   faulted-over : (state : State) (t address : ℕ) (may : Bool) (done : State) → unless_faulted (C state) t address may (C done) ≡ C (unless_faulted state t address may done)
   faulted-over state t address may done = grind arith
 
-  run-over : (state : State) (t here : ℕ) (thread : ThreadRow) (instr : Instr) → run (C state) t here thread instr ≡ C (run state t here thread instr)
+  run-over : (state : State) (t here : ℕ) (thread : ThreadRow) (instr : Instr) → run_instruction (C state) t here thread instr ≡ C (run_instruction state t here thread instr)
   run-over state t here thread (op.Load a b i) = grind (arith, faulted-over)
   run-over state t here thread (op.Store a b i) = grind (arith, faulted-over)
   run-over state t here thread (op.Pdx a b) = grind (arith, cond_both, pdx-over, with_answer-over)

@@ -8,8 +8,8 @@ use Rattle.mg_laws.proofs.KeptRegisters.{kept_register, kept_registers, kept_sam
 use Rattle.{mg_laws.proofs.ReplyWords.{thread_call-words, word_at-word}, mg_model.specs.{Abbreviations.{advanced, refusal_number}, Access.allowed}}
 use Rattle.mg_model.specs.{Domains.{pdx, ret, row_of}, Objects.{with_word, word_at}, Ranges.{IsThreadRow, IsWord}, Refused.Answer, Script.decoded}
 use Rattle.mg_model.specs.{Script.{jumped, operand, register, with_register}, State.{State, Thread, ThreadRow}, Turn.{faulted, is_ready, next}}
-use Rattle.mg_model.specs.Turn.{picked, put_row, ready_above, run, run_next, run_word, with_answer, script_call, thread_call, turn, turn_state}
-use Rattle.mg_model.specs.{Turn.{turned, unless_faulted, values_of, with_registers}, WellFormed.{HasRanges, IsThread, IsWellFormed}}
+use Rattle.mg_model.specs.Turn.{picked, put_row, ready_above, run_instruction, run_next, run_word, with_answer, script_call, thread_call, turn}
+use Rattle.mg_model.specs.{Turn.{turn_state, turned, unless_faulted, values_of, with_registers}, WellFormed.{HasRanges, IsThread, IsWellFormed}}
 use Rattle.mg_model.specs.declared.{calls.Call.Call, instructions.Instr.Instr, replies.Reply.Reply, rights.Right.TheVariants.{R, W, X}}
 use Rattle.{mg_model.specs.declared.threads.{Fault.Fault, ThrState.TheVariants.{Faulted, Stopped}}, std.proofs.Common.{ℕ, ◌+◌, ◌*◌, ◌%◌, ◌^◌, ◌≤◌}}
 use Rattle.std.proofs.Common.{◌≡◌, Bool, not, cond, eqb, ltb, ◌&&◌, All, ◌∷◌, length, Option, Some, None, refl, sym, ◌∙◌, subst, arith}
@@ -76,7 +76,7 @@ with_word-keeps state a value formed word =
     objects-keep state (with_word state.objects a value) formed (AreObjects-with_word state.settings.frames (length state.accounts) a value state.objects word formed.objects)
 
 module _ (state : State) (t : ℕ) (row thread : ThreadRow) (here : ℕ) (formed : IsWellFormed state) (there : row_of state t ≡ Some row) (kept : KeepsRow row thread) (aligned : here % 8 ≡ 0) where
-  run-keeps : (instr : Instr) → HasImmediate instr → IsWellFormed (run state t here thread instr)
+  run-keeps : (instr : Instr) → HasImmediate instr → IsWellFormed (run_instruction state t here thread instr)
   run-keeps op.Halt has = put_row-keeps state t row _ formed there (kept_state row thread Stopped kept)
   run-keeps (op.Set a i) has = put_row-keeps state t row _ formed there (kept_register row thread a i kept (omega arith))
   run-keeps (op.High a i) has = put_row-keeps state t row _ formed there (kept_register row thread a (register thread a % 2 ^ 32 + i * 2 ^ 32) kept (omega arith))

@@ -1,10 +1,10 @@
 -- From one access to a line: accesses one after another, each with its own rule, keep the rules of a line.
 use Rattle.mg_laws.{proofs.KeysSeats.{has_seat-append, is_key-same, last_is_kept}, specs.Costs.{LimitGoesOn, RulesGoOn, SearchesGoOn}}
 use Rattle.{mg_laws.specs.Costs.SearchesKeepRules, mg_model.specs.{Abbreviations.is_allowed, Accesses.Access, Kept.{KeepsKeys, Searches, Validates}}}
-use Rattle.mg_model.specs.{Kept.{is_known, is_served, searches_limit}, Keys.{Key, first_at, has_seat, is_elsewhere, key_of, seat_of, taken, taken_by}}
-use Rattle.{mg_model.specs.{Limits.search_limit, State.State, Warmth.failing}, std.proofs.Common.{ℕ, ◌≡◌, ◌≤◌, ◌+◌, ◌*◌, Bool, true, false, cond}}
-use Rattle.std.proofs.{Common.{List, [], ◌∷◌, ◌++◌, Option, Some, None, refl, sym, ap, ◌∙◌, arith, append-nil}, lemmas.Bool.{and_from, and_parts}}
-use Rattle.std.{proofs.lemmas.{Bool.{cond_both, false≢true}, Option.none-some}, specs.Option.option_to_list}
+use Rattle.mg_model.specs.{Kept.{is_known, is_served, searches_limit}, Keys.{Key, first_at, has_seat, is_elsewhere, key_of, seat_of, key_taken}}
+use Rattle.{mg_model.specs.{Keys.keys_taken, Limits.search_limit, State.State, Warmth.failing}, std.proofs.Common.{ℕ, ◌≡◌, ◌≤◌, ◌+◌, ◌*◌, Bool, true}}
+use Rattle.std.proofs.{Common.{false, cond, List, [], ◌∷◌, ◌++◌, Option, Some, None, refl, sym, ap, ◌∙◌, arith, append-nil}, lemmas.Bool.and_from}
+use Rattle.std.{proofs.lemmas.{Bool.{and_parts, cond_both, false≢true}, Option.none-some}, specs.Option.option_to_list}
 
 -- One access
 
@@ -14,7 +14,7 @@ one_or_none false o P none one = none
 one_or_none true None P none one = none
 one_or_none true (Some key) P none one = one key refl
 
-by_taken : (state : State) (access : Access) (P : List Key → Type 0) → P [] → ((key : Key) → taken state access ≡ key ∷ [] → P (key ∷ [])) → P (taken state access)
+by_taken : (state : State) (access : Access) (P : List Key → Type 0) → P [] → ((key : Key) → key_taken state access ≡ key ∷ [] → P (key ∷ [])) → P (key_taken state access)
 by_taken state access P none one = one_or_none (is_allowed state access) (key_of state access) P none one
 
 -- if one key took a seat and the seat is left to a key, then it is that key, or has another seat
@@ -22,11 +22,11 @@ own_or_other : (x key : Key) (P : Type 0) → has_seat (x ∷ []) key ≡ true �
 own_or_other x key P leaves own other = grind (arith, and_parts, is_key-same, and_from)
 
 validates-stays : (state : State) (access : Access) (kept kept' : Key → Bool) (words : ℕ) → Validates state access kept kept' words
-    → (key : Key) → kept key ≡ true → has_seat (taken state access) key ≡ true → kept' key ≡ true
+    → (key : Key) → kept key ≡ true → has_seat (key_taken state access) key ≡ true → kept' key ≡ true
 validates-stays state access kept kept' words v key was leaves = grind (arith, by_taken, own_or_other)
 
 validates-comes : (state : State) (access : Access) (kept kept' : Key → Bool) (words : ℕ) → Validates state access kept kept' words
-    → (key : Key) → first_at (seat_of key) (taken state access) ≡ Some key → kept' key ≡ true
+    → (key : Key) → first_at (seat_of key) (key_taken state access) ≡ Some key → kept' key ≡ true
 validates-comes state access kept kept' words v key first = grind (arith, by_taken, none-some, cond_both)
 
 -- Accesses one after another
@@ -36,20 +36,20 @@ searches-keep_keys state kept [] kept' words (same, none) = grind (arith, none-s
 searches-keep_keys state kept (access ∷ more) kept' words (middle, first, rest, sum, v, searches) =
     let later = searches-keep_keys state middle more kept' rest searches in record {
       stays = λ key was leaves.
-          let both = has_seat-append key (taken_by state more) (taken state access) leaves in
+          let both = has_seat-append key (keys_taken state more) (key_taken state access) leaves in
           later.stays key (validates-stays state access kept middle first v key was both.1) both.0;
       comes = λ key is.
-          last_is_kept (taken_by state more) (taken state access) middle kept' later.stays later.comes (λ other there. validates-comes state access kept middle first v other there) key is;
+          last_is_kept (keys_taken state more) (key_taken state access) middle kept' later.stays later.comes (λ other there. validates-comes state access kept middle first v other there) key is;
     }
 
 -- the keys of one access more
-taken_by-push : (state : State) (before : List Access) (access : Access) → taken_by state (before ++ access ∷ []) ≡ taken state access ++ taken_by state before
-taken_by-push state [] access = sym (append-nil (taken state access))
+taken_by-push : (state : State) (before : List Access) (access : Access) → keys_taken state (before ++ access ∷ []) ≡ key_taken state access ++ keys_taken state before
+taken_by-push state [] access = sym (append-nil (key_taken state access))
 taken_by-push state (x ∷ before) access = grind (arith, (taken_by-push state before access))
 
 -- after these accesses of a line each key is kept that was kept before it and whose seat no other key took
 abbrev StillKeeps : State → (Key → Bool) → List Access → (Key → Bool) → Type 0
-StillKeeps state kept before now = (key : Key) → kept key ≡ true → has_seat (taken_by state before) key ≡ true → now key ≡ true
+StillKeeps state kept before now = (key : Key) → kept key ≡ true → has_seat (keys_taken state before) key ≡ true → now key ≡ true
 
 still_more : (state : State) (kept now middle : Key → Bool) (before : List Access) (access : Access) (words : ℕ)
     → StillKeeps state kept before now → Validates state access now middle words → StillKeeps state kept (before ++ access ∷ []) middle
@@ -110,10 +110,10 @@ pub rules-go_on : RulesGoOn
 rules-go_on state access more kept middle kept' first rest v later = record {
   keys = record {
     stays = λ key was leaves.
-        let both = has_seat-append key (taken_by state more) (taken state access) leaves in
+        let both = has_seat-append key (keys_taken state more) (key_taken state access) leaves in
         later.keys.stays key (validates-stays state access kept middle first v key was both.1) both.0;
     comes = λ key is.
-        last_is_kept (taken_by state more) (taken state access) middle kept' later.keys.stays later.keys.comes (λ other there. validates-comes state access kept middle first v other there) key is;
+        last_is_kept (keys_taken state more) (key_taken state access) middle kept' later.keys.stays later.keys.comes (λ other there. validates-comes state access kept middle first v other there) key is;
   };
   few = limit-goes_on state access more kept middle first rest v later.few;
 }

@@ -1,7 +1,7 @@
 -- A line that is refused leaves the state as it was.
 use Rattle.{mg_laws.specs.Laws.RefusedLeaves, mg_model.specs.{Abbreviations.{free_number, unless_refused}, Access.domain_of, Bank.balance_of}}
 use Rattle.mg_model.specs.{Bank.{owed_by, pages_of, rate_now, rent_paid}, Domains.frames_of, ObjectCalls.{about, next_password, row_at}}
-use Rattle.mg_model.specs.{Objects.{lowest_free, word_at}, Refused.Answer, State.{State, Thread}, Step.{of_thread, step, step_of}, Turn.after_of}
+use Rattle.mg_model.specs.{Objects.{lowest_free, word_at}, Refused.Answer, State.{State, Thread}, Step.{of_thread, step, step_of}, Turn.outcome_of}
 use Rattle.mg_model.specs.{Turn.{picked, run_next, thread_call, turn, turn_state}, declared.{calls.Call.Call, replies.{Refusal.Refusal, Reply.Reply}}}
 use Rattle.{mg_model.specs.declared.threads.After.After, std.proofs.Common.{arith, ℕ, ◌+◌, ◌-◌, ◌*◌, ◌≡◌, length, Option, Some, None, refl}}
 use Rattle.std.proofs.lemmas.Bool.{cond_both}
@@ -89,7 +89,7 @@ step_of-leaves : (state : State) (t : ℕ) (made : Call) → Leaves state (step_
 step_of-leaves state t call.Bad = same-leaves state (reply.No refusal.Syntax)
 step_of-leaves state t call.Rent = row-leaves _ state _ (collected-ok (state.counters.period + 1) (rate_now state) (rent_paid state))
 step_of-leaves state t call.Next = run_next-leaves state (picked state)
-step_of-leaves state t call.Turn = of_thread-leaves state t (turn state t) (row-leaves _ state _ (turned-ok (after_of (turn_state state t) t)))
+step_of-leaves state t call.Turn = of_thread-leaves state t (turn state t) (row-leaves _ state _ (turned-ok (outcome_of (turn_state state t) t)))
 step_of-leaves state t other = of_thread-leaves state t (thread_call state t other) (thread_call-leaves state t other)
 
 pub refused-leaves : RefusedLeaves step

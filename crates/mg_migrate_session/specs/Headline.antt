@@ -4,12 +4,12 @@ use Rattle.std.specs.Prelude.{◌++◌, if◌then◌else◌, codes}
 use Rattle.{mg_check.specs.declared.examining.Summary.Summary, mg_commands.specs.Headline.{blocks_of, check_line}}
 use Rattle.{mg_commands.specs.{Headline.small_line, Unopened.summary_line}, mg_disk.specs.{Disk.Image, Stops.FromLeft}}
 use Rattle.{mg_disk.specs.Stops.{NothingPending, WritesNothing}, mg_faults.specs.Faults.Rose}
-use Rattle.{mg_io.specs.{Arguments.PutsUsage, Known.AppendsPrefix}, mg_migrate.specs.Copied.{ReadsNow, StandsClosed}}
+use Rattle.{mg_io.specs.{Arguments.PrintsUsage, Known.AppendsPrefix}, mg_migrate.specs.Copied.{ReadsNow, StandsClosed}}
 use Rattle.mg_migrate.specs.{Migrated.{Fits1, HasLifted, IsLiftOf, MayMigrate, StandsBack, needed}, Version1.Damaged1}
 use Rattle.mg_migrate.specs.Version1.{Is1, NewVolume1, NotVolume1, OldVolume1, Volume1Read, lift, volume1}
 use Rattle.mg_model.specs.{State.State, Volume.{Damaged, Is, NotVolume, OldVolume}}
-use Rattle.mg_serve.specs.Sessions.{AlwaysLeft, DiskRose, DiskUse, IsDoneOrMemory, Puts, PutsPrefix, SinkRose, SinkUse}
-use Rattle.mg_serve.specs.declared.status.Status.{Status}
+use Rattle.mg_serve.specs.Sessions.{AlwaysLeft, DiskRose, DiskUse, IsDoneOrMemory, Prints, PrintsPrefix, SinkRose}
+use Rattle.mg_serve.specs.{Sessions.SinkUse, declared.status.Status.Status}
 use Rattle.mg_disk.specs.declared.disk.Disk as disks
 use Rattle.mg_io.specs.declared.traits.Sink as sinks
 use Rattle.mg_serve.specs.declared.status.Status.TheVariants as status
@@ -82,10 +82,10 @@ pub record MigrateKeeps {D E K : Type 0} (result : Status) (to : DiskUse D) (fro
   pub ends : OfBefore from (λ before. (result ≡ migrate_status (blocks_of to) (volume1 before)) ⊎ HasFailed result)
   pub which : HasPut result ⊎ HasFailed result
   -- At 0, 2 and 8 the line of the old image was printed, and at each status a prefix of it.
-  pub line : HasPut result → OfBefore from (λ before. Puts o (migrate_line (blocks_of to) (volume1 before)))
-  pub prefix : OfBefore from (λ before. PutsPrefix o (migrate_line (blocks_of to) (volume1 before)))
+  pub line : HasPut result → OfBefore from (λ before. Prints o (migrate_line (blocks_of to) (volume1 before)))
+  pub prefix : OfBefore from (λ before. PrintsPrefix o (migrate_line (blocks_of to) (volume1 before)))
   -- Of an old disk that does not tell its reads too, what was printed at 0, 2 and 8 is a line of that status.
-  pub some_line : HasPut result → (line : List ℕ) × GoesWith result line × Puts o line
+  pub some_line : HasPut result → (line : List ℕ) × GoesWith result line × Prints o line
   -- At each moment a stop leaves on the new disk no state, the migrated one, or, whatever was pending there, what the blocks after
   -- the gate spelled in an image that a stop might have left before.
   pub moments : OfBefore from (λ before. AlwaysLeft to (FromLeft to.facts to.old (λ image. MayMigrate image (volume1 before))))
@@ -115,6 +115,6 @@ pub record MigrateKeeps {D E K : Type 0} (result : Status) (to : DiskUse D) (fro
 -- What is kept if the words spell no migration.
 pub record NoMigrateKeeps {D E K : Type 0} (to : sinks.Ghosts K) (result : Status) (new new' : D) (old old' : E)
     (sink sink' : K) : Type 0 where
-  pub put : PutsUsage to (result ≡ status.Usage) (result ≡ status.Sink) sink sink'
+  pub put : PrintsUsage to (result ≡ status.Usage) (result ≡ status.Sink) sink sink'
   -- Both disks are left alone.
   pub disks : (new' ≡ new) × (old' ≡ old)

@@ -1,13 +1,13 @@
 -- What a run over a mirror promises. An object that does not tell its content has None for it; a promise on content is then empty.
 use Rattle.std.specs.{Option.ForSome, Prelude.{ℕ, ◌≡◌, ◌≢◌, ◌⊎◌, IsTrue, List, [], ◌∷◌, ◌++◌, codes, min, take}}
 use Rattle.std.specs.Prelude.{option_map, Option, Some, None}
-use Rattle.mg_commands.specs.Headline.{EndsRun, OnVolume, PutsLast, RunKeeps, UsageKeeps, check_line, session_of}
+use Rattle.mg_commands.specs.Headline.{EndsRun, OnVolume, PrintsLast, RunKeeps, UsageKeeps, check_line, session_of}
 use Rattle.mg_disk.specs.{Disk.Image, Stops.{FromLeft, Leaves, MightHaveLeft, WritesNothing}}
 use Rattle.{mg_layout.specs.MayFormat.{IsNoState, opened}, mg_mirror.specs.Mirror.{CutOf, told_cut}}
 use Rattle.mg_mirror.specs.declared.mirror.Side.{Side, TheVariants.{Left, Right}}
 use Rattle.{mg_mirror_session.specs.{Judged.first_fault, Mirrored.{Two, mirror}}, mg_model.specs.Lines.lines}
 use Rattle.mg_model.specs.{Print.replies_text, Volume.{NotVolume, VolumeRead, volume}}
-use Rattle.mg_serve.specs.Sessions.{DiskRose, DiskUse, IfShort, IsDoneOrMemory, MayLeave, OfInput, Puts, PutsPrefix}
+use Rattle.mg_serve.specs.Sessions.{DiskRose, DiskUse, IfShort, IsDoneOrMemory, MayLeave, OfInput, Prints, PrintsPrefix}
 use Rattle.mg_serve.specs.Sessions.{SinkRose, SinkUse, SourceRose, SourceUse, use_of, left_now}
 use Rattle.mg_serve.specs.declared.status.Status.{Status}
 use Rattle.mg_disk.specs.declared.disk.Disk as disks
@@ -79,7 +79,7 @@ last_line (Some Right) = codes "alone right" ++ 10 ∷ []
 pub record PutsSide {K : Type 0} (to : sinks.Ghosts K) (ran : Status) (alone : Option Side) (result : Status)
     (replied sink' : K) : Type 0 where
   -- After a run that is done the line of the side is put, or the sink fails in it; after one that ended early nothing more is put.
-  pub last : PutsLast to ran (last_line alone) result replied sink'
+  pub last : PrintsLast to ran (last_line alone) result replied sink'
   -- Nor while both sides are in use.
   pub both : alone ≡ None → (result ≡ ran) × (sink' ≡ replied)
 
@@ -154,8 +154,8 @@ pub record IsRefused {D E S K : Type 0} (m : MirrorSession D E S K) : Type 0 whe
   pub is : OfMirrorRead m (λ image. volume image ≡ kind)
   pub no_state : IsNoState kind
   -- Its line was put, or the sink failed in it.
-  pub line : ((m.result ≡ status.NoVolume) × Puts m.sink (check_line kind))
-      ⊎ ((m.result ≡ status.Sink) × PutsPrefix m.sink (check_line kind) × SinkRose m.sink)
+  pub line : ((m.result ≡ status.NoVolume) × Prints m.sink (check_line kind))
+      ⊎ ((m.result ≡ status.Sink) × PrintsPrefix m.sink (check_line kind) × SinkRose m.sink)
   pub none : m.alone ≡ None
   -- SIDE's disk was read alone, and the other one was left alone.
   pub kept : OfSide m.from
@@ -186,9 +186,9 @@ pub record RanOnMirror {D E S K : Type 0} (m : MirrorSession D E S K) : Type 0 w
   pub ends : PutsSide m.sink.facts ran m.alone m.result replied m.sink.new
   -- What was put is a prefix of the replies to the whole input and that line; at the end it is all of them.
   pub prefix : OnVolume ((both m).seen opened) (λ state. OfInput m.source (λ input.
-      PutsPrefix m.sink (replies_text state (lines input) ++ last_line m.alone)))
+      PrintsPrefix m.sink (replies_text state (lines input) ++ last_line m.alone)))
   pub done : m.result ≡ status.Done → OnVolume ((both m).seen opened) (λ state. OfInput m.source (λ input.
-      (left_now m.source ≡ Some []) × Puts m.sink (replies_text state (lines input) ++ last_line m.alone)))
+      (left_now m.source ≡ Some []) × Prints m.sink (replies_text state (lines input) ++ last_line m.alone)))
   -- What a stop may leave now of a disk that is in use, cut to the mirror's blocks, it may leave of the mirror: what is kept of the
   -- mirror is kept of that disk.
   pub left_held : m.alone ≢ Some Right → IsTrue (m.right.facts.tells_stops m.right.new) →

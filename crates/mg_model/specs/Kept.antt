@@ -4,8 +4,8 @@
 use Rattle.std.specs.{Option.option_map_or, Prelude.{ℕ, ◌≡◌, ◌≤◌, ◌+◌, ◌*◌, ◌&&◌, Bool, true, false, List, [], ◌∷◌}}
 use Rattle.std.specs.Prelude.{if◌then◌else◌, Some}
 use Rattle.mg_model.specs.{Accesses.{Access, accesses, line_words}, Keys.{Key, first_at, has_seat, is_elsewhere}}
-use Rattle.mg_model.specs.{Keys.{key_of, seat_of, taken, taken_by}, State.State, Step.step, Warmth.{Event, failing}}
-use Rattle.mg_model.specs.{Warmth.{is_disturbing, is_recent}, declared.calls.Line.Line}
+use Rattle.mg_model.specs.{Keys.{key_of, seat_of, key_taken, keys_taken}, State.State, Step.step, Warmth.Event}
+use Rattle.mg_model.specs.{Warmth.{failing, is_disturbing, is_recent}, declared.calls.Line.Line}
 use Rattle.mg_model.specs.declared.limits.TheConstants.{SEARCH_LIMIT as search_limit}
 
 -- whether the key of an access is kept
@@ -18,8 +18,8 @@ access_limit kept state access = if is_known kept state access then 0 else searc
 
 -- One access, for which this number of words was searched. If it is allowed, its key is kept, and no other seat changes.
 pub record Validates (state : State) (access : Access) (kept kept' : Key → Bool) (words : ℕ) : Type 0 where
-  pub own : (key : Key) → taken state access ≡ key ∷ [] → kept' key ≡ true
-  pub others : (key : Key) → is_elsewhere (taken state access) key ≡ true → kept' key ≡ kept key
+  pub own : (key : Key) → key_taken state access ≡ key ∷ [] → kept' key ≡ true
+  pub others : (key : Key) → is_elsewhere (key_taken state access) key ≡ true → kept' key ≡ kept key
   pub few : words ≤ access_limit kept state access
 
 -- accesses one after another, for which this number of words was searched in all
@@ -31,12 +31,12 @@ Searches state kept (access ∷ more) kept' words =
 -- What accesses leave of the keys that are kept, if nothing else changes them: a key stays unless another one took its seat,
 -- and the last key that took a seat is kept.
 pub record KeepsKeys (state : State) (made : List Access) (kept kept' : Key → Bool) : Type 0 where
-  pub stays : (key : Key) → kept key ≡ true → has_seat (taken_by state made) key ≡ true → kept' key ≡ true
-  pub comes : (key : Key) → first_at (seat_of key) (taken_by state made) ≡ Some key → kept' key ≡ true
+  pub stays : (key : Key) → kept key ≡ true → has_seat (keys_taken state made) key ≡ true → kept' key ≡ true
+  pub comes : (key : Key) → first_at (seat_of key) (keys_taken state made) ≡ Some key → kept' key ≡ true
 
 -- whether an access is served without a search: its key was kept before the line, and no other key took its seat in the line
 abbrev pub is_served : (Key → Bool) → State → List Access → Access → Bool
-is_served kept state before access = option_map_or (λ key. kept key && has_seat (taken_by state before) key) (key_of state access) false
+is_served kept state before access = option_map_or (λ key. kept key && has_seat (keys_taken state before) key) (key_of state access) false
 
 -- the most that is searched for the accesses of a line
 abbrev pub searches_limit : (Key → Bool) → State → List Access → ℕ

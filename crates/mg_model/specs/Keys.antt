@@ -26,13 +26,13 @@ key_of state access =
     (at state.objects access.address)
 
 -- the key that takes its seat by an access; an access that is not allowed gives no key
-abbrev pub taken : State → Access → List Key
-taken state access = if allowed state access.thread access.address access.right then option_to_list (key_of state access) else []
+abbrev pub key_taken : State → Access → List Key
+key_taken state access = if allowed state access.thread access.address access.right then option_to_list (key_of state access) else []
 
 -- the keys that take their seats by accesses one after another, the last one first
-abbrev pub taken_by : State → List Access → List Key
-taken_by state [] = []
-taken_by state (access ∷ more) = taken_by state more ++ taken state access
+abbrev pub keys_taken : State → List Access → List Key
+keys_taken state [] = []
+keys_taken state (access ∷ more) = keys_taken state more ++ key_taken state access
 
 -- of keys that took their seats, the last one first, the key that has this seat now
 abbrev pub first_at : ℕ → List Key → Option Key

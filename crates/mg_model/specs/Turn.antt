@@ -112,40 +112,40 @@ unless_faulted state t address may done =
 
 -- Runs the instruction at `here`. `state` has the thread as it was before, and `moved` is its row with the pc advanced. An
 -- instruction that faults leaves the pc at `here`: the row of before gets the fault.
-abbrev pub run : State → ℕ → ℕ → ThreadRow → Instr → State
-run state t here moved op.Halt = put_row state t (record moved { state = Stopped })
-run state t here moved (op.Set a i) = put_row state t (with_register moved a i)
-run state t here moved (op.High a i) = put_row state t (with_register moved a (register moved a % 2 ^ 32 + i * 2 ^ 32))
-run state t here moved (op.Add a b c) = put_row state t (with_register moved a ((register moved b + register moved c) % word_end))
-run state t here moved (op.Sub a b c) =
+abbrev pub run_instruction : State → ℕ → ℕ → ThreadRow → Instr → State
+run_instruction state t here moved op.Halt = put_row state t (record moved { state = Stopped })
+run_instruction state t here moved (op.Set a i) = put_row state t (with_register moved a i)
+run_instruction state t here moved (op.High a i) = put_row state t (with_register moved a (register moved a % 2 ^ 32 + i * 2 ^ 32))
+run_instruction state t here moved (op.Add a b c) = put_row state t (with_register moved a ((register moved b + register moved c) % word_end))
+run_instruction state t here moved (op.Sub a b c) =
     put_row state t (with_register moved a ((register moved b + word_end - register moved c) % word_end))
-run state t here moved (op.Lt a b c) =
+run_instruction state t here moved (op.Lt a b c) =
     put_row state t (with_register moved a (if nat_lt (register moved b) (register moved c) then 1 else 0))
-run state t here moved (op.Load a b i) =
+run_instruction state t here moved (op.Load a b i) =
     let address = operand moved b i in
     unless_faulted state t address (allowed state t address R) (put_row state t (with_register moved a (word_at state.objects address)))
-run state t here moved (op.Store a b i) =
+run_instruction state t here moved (op.Store a b i) =
     let address = operand moved b i in
     unless_faulted state t address (allowed state t address W)
     (put_row (record state { objects = with_word state.objects address (register moved a) }) t moved)
-run state t here moved (op.Jump i) = put_row state t (jumped moved here i)
-run state t here moved (op.Jz a i) = put_row state t (if register moved a == 0 then jumped moved here i else moved)
-run state t here moved (op.Jnz a i) = put_row state t (if register moved a == 0 then moved else jumped moved here i)
-run state t here moved (op.Pdx a b) =
+run_instruction state t here moved (op.Jump i) = put_row state t (jumped moved here i)
+run_instruction state t here moved (op.Jz a i) = put_row state t (if register moved a == 0 then jumped moved here i else moved)
+run_instruction state t here moved (op.Jnz a i) = put_row state t (if register moved a == 0 then moved else jumped moved here i)
+run_instruction state t here moved (op.Pdx a b) =
     let advanced = put_row state t moved in
     let mask = register moved b in
     with_answer t (λ _ entered. with_register entered 0 0)
     (if nat_lt 255 mask then (advanced, reply.No refusal.Syntax) else pdx advanced t (register moved a) mask)
-run state t here moved op.Ret = with_answer t (λ _ returned. returned) (ret (put_row state t moved) t)
-run state t here moved op.Yield = put_row state t moved
-run state t here moved op.Sys =
+run_instruction state t here moved op.Ret = with_answer t (λ _ returned. returned) (ret (put_row state t moved) t)
+run_instruction state t here moved op.Yield = put_row state t moved
+run_instruction state t here moved op.Sys =
     with_answer t (λ said caller. with_registers caller 0 (0 ∷ values_of said))
     (thread_call (put_row state t moved) t (script_call moved))
 
 -- the pc is first advanced by the width of a word; a word that is no instruction faults, and the pc stays
 abbrev pub run_word : State → ℕ → ThreadRow → Option Instr → State
 run_word state t thread None = faulted state t fault.Opcode
-run_word state t thread (Some instr) = run state t thread.pc (record thread { pc = (thread.pc + 8) % word_end }) instr
+run_word state t thread (Some instr) = run_instruction state t thread.pc (record thread { pc = (thread.pc + 8) % word_end }) instr
 
 -- a thread that is left in this state by its turn
 abbrev pub as_after : ThrState → After
@@ -154,8 +154,8 @@ as_after Stopped = after_turn.Stopped
 as_after (Faulted kind) = after_turn.Faulted kind
 
 -- what the thread is after its turn
-abbrev pub after_of : State → ℕ → After
-after_of state t = option_map_or (λ (thread : ThreadRow). as_after thread.state) (row_of state t) after_turn.Ended
+abbrev pub outcome_of : State → ℕ → After
+outcome_of state t = option_map_or (λ (thread : ThreadRow). as_after thread.state) (row_of state t) after_turn.Ended
 
 -- the state after the turn of a thread with this row
 abbrev pub turned : State → ℕ → ThreadRow → State
@@ -177,7 +177,7 @@ thread_is_ready state t = option_map_or (λ (thread : ThreadRow). is_ready threa
 abbrev pub turn : State → ℕ → Answer
 turn state t =
     checked state ((not (thread_is_ready state t), refusal.NotReady) ∷ [])
-    (turn_state state t, reply.Turned (after_of (turn_state state t) t))
+    (turn_state state t, reply.Turned (outcome_of (turn_state state t) t))
 
 -- the least number above the cursor of a thread that is Ready, else the least of a Ready thread; the threads are in order
 abbrev pub ready_above : ℕ → List Thread → Option Thread
@@ -191,7 +191,7 @@ abbrev pub run_next : State → Option Thread → Answer
 run_next state None = (state, reply.No refusal.Idle)
 run_next state (Some thread) =
     let before = record state { counters = record state.counters { cursor = thread.number } } in
-    (turn_state before thread.number, reply.Ran thread.number (after_of (turn_state before thread.number) thread.number))
+    (turn_state before thread.number, reply.Ran thread.number (outcome_of (turn_state before thread.number) thread.number))
 
 -- `next`
 abbrev pub next : State → Answer

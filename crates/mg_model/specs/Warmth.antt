@@ -6,7 +6,7 @@
 use Rattle.std.specs.{List.list_any, Option.option_map_or, Prelude.{ℕ, ◌≡◌, ◌↔◌, ◌+◌, ◌*◌, ◌&&◌, nat_le, nat_lt, Bool}}
 use Rattle.std.specs.Prelude.{true, false, not, List, [], ◌∷◌, ◌++◌, All, if◌then◌else◌, Option, Some}
 use Rattle.mg_model.specs.{Access.allowed, Accesses.{Access, accesses, fetched, turning, line_words}, Keys.Key}
-use Rattle.mg_model.specs.{Keys.{first_at, has_seat, is_key, key_of, seat_of, taken_by}, ObjectCalls.is_aligned}
+use Rattle.mg_model.specs.{Keys.{first_at, has_seat, is_key, key_of, seat_of, keys_taken}, ObjectCalls.is_aligned}
 use Rattle.mg_model.specs.{Script.operand, State.{Object, State, Thread, ThreadRow}, Step.step, Turn.picked}
 use Rattle.mg_model.specs.declared.{calls.{Call.Call, Line.Line}, instructions.Instr.Instr}
 use Rattle.mg_model.specs.declared.limits.TheConstants.{PAGE_SIZE as page_size, SEARCH_LIMIT as search_limit}
@@ -69,7 +69,7 @@ events past state (line ∷ more) = events (record { state = state; line = line 
 abbrev pub recent : List Event → List Key
 recent [] = []
 recent (event ∷ past) =
-    if is_disturbing event.state event.line then [] else taken_by event.state (accesses event.state event.line) ++ recent past
+    if is_disturbing event.state event.line then [] else keys_taken event.state (accesses event.state event.line) ++ recent past
 
 -- whether a key was taken since then, and after that no other key took its seat
 abbrev pub is_recent : List Event → Key → Bool
@@ -78,7 +78,7 @@ is_recent past key = option_map_or (λ last. is_key last key) (first_at (seat_of
 -- whether an access is warm after earlier lines and, in its own line, after earlier accesses
 abbrev pub is_warm : List Event → State → List Access → Access → Bool
 is_warm past state before access =
-    option_map_or (λ key. is_recent past key && has_seat (taken_by state before) key) (key_of state access) false
+    option_map_or (λ key. is_recent past key && has_seat (keys_taken state before) key) (key_of state access) false
 
 -- how many accesses fail a test; the test gets each access with those that came before it in its line
 abbrev pub failing : (List Access → Access → Bool) → List Access → List Access → ℕ
@@ -100,8 +100,8 @@ abbrev pub cost : State → List Line → ℕ
 cost state lines = cost_behind [] state lines
 
 -- the keys that an earlier line took, the last one first
-abbrev pub taken_in : Event → List Key
-taken_in event = taken_by event.state (accesses event.state event.line)
+abbrev pub keys_taken_in : Event → List Key
+keys_taken_in event = keys_taken event.state (accesses event.state event.line)
 
 abbrev pub DisturbsNothing : Event → Type 0
 DisturbsNothing event = is_disturbing event.state event.line ≡ false
@@ -117,9 +117,9 @@ pub record WasTaken (past : List Event) (key : Key) : Type 0 where
   pub all_quiet : All DisturbsNothing later
   pub after : List Key
   pub before : List Key
-  pub took : taken_in event ≡ after ++ key ∷ before
+  pub took : keys_taken_in event ≡ after ++ key ∷ before
   pub seat : has_seat after key ≡ true
-  pub seats : All (λ other. has_seat (taken_in other) key ≡ true) later
+  pub seats : All (λ other. has_seat (keys_taken_in other) key ≡ true) later
 
 -- the test says just what these words say
 abbrev pub TellsTaken : (List Event → Key → Bool) → Type 0

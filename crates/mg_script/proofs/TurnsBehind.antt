@@ -3,16 +3,16 @@ use Rattle.mg_laws.specs.{Backing.{BackingRestsOnDomain, FramesKeepBacked}, Scri
 use Rattle.mg_model.specs.{Abbreviations.{advanced, entered_slots, refusal_number, unless_refused}, Access.{allowed, domain_of, last_slots}}
 use Rattle.mg_model.specs.{Access.thread_of, Backed.{KeepsBacked, by_none}, Domains.{frames_of, last_back, pdx, ret, row_of, with_thread}}
 use Rattle.mg_model.specs.{ObjectCalls.is_aligned, Objects.{with_word, word_at}, Ranges.IsThreadRow, Refused.{Answer, checked}, Script.decoded}
-use Rattle.mg_model.specs.{Script.with_register, State.{State, Thread, ThreadRow}, Turn.{faulted, put_row, run, run_word, with_answer, script_call}}
-use Rattle.mg_model.specs.{Turn.{thread_call, turned, values_of, with_registers}, WellFormed.{IsThread, IsWellFormed}, declared.calls.Call.Call}
-use Rattle.mg_model.specs.declared.{instructions.Instr.Instr, replies.{Refusal.Refusal, Reply.Reply}, rights.Right.TheVariants.{R, W, X}}
-use Rattle.{mg_model.specs.declared.{slots.Slot.Slot, threads.ThrState.TheVariants.Ready}, mg_script.proofs.FramesBehind.returning_on-put}
-use Rattle.mg_script.proofs.{FramesBehind.returning_on-slots, RowChanges.{domain-changed, frames-changed, with_thread-like, with_thread-same}}
-use Rattle.mg_script.{proofs.RowChanges.with_thread-then, specs.{Actions.settled, Effects.{HasFrames, IsSpelledBy, entered, faulted_row, finished}}}
-use Rattle.mg_script.specs.{Effects.{is_spelled, loaded, made_by, resumed, returned, stood, stored, turned_on}, Turns.TurnsAreCalls}
-use Rattle.{mg_script.specs.{Turns.{TurnsRowsKeepBacked, fetched_word}, declared.effects.Effect.Effect}, std.proofs.Common.{arith, ℕ, ◌+◌, ◌-◌, ◌≤◌}}
-use Rattle.std.proofs.Common.{◌≡◌, ◌++◌, Bool, true, false, cond, eqb, ltb, not, List, [], ◌∷◌, length, take, Option, Some, None, refl, sym, ap, ◌∙◌}
-use Rattle.std.proofs.{Common.{subst, All}, lemmas.{Bool.cond_both, List.Elements.{All-head, All-tail}, Option.same_Some}}
+use Rattle.mg_model.specs.{Script.with_register, State.{State, Thread, ThreadRow}, Turn.{faulted, put_row, run_instruction, run_word, with_answer}}
+use Rattle.mg_model.specs.{Turn.{script_call, thread_call, turned, values_of, with_registers}, WellFormed.{IsThread, IsWellFormed}}
+use Rattle.mg_model.specs.declared.{calls.Call.Call, instructions.Instr.Instr, replies.{Refusal.Refusal, Reply.Reply}, rights.Right.TheVariants.R}
+use Rattle.mg_model.specs.declared.{rights.Right.TheVariants.{W, X}, slots.Slot.Slot, threads.ThrState.TheVariants.Ready}
+use Rattle.mg_script.proofs.{FramesBehind.{returning_on-put, returning_on-slots}, RowChanges.{domain-changed, frames-changed, with_thread-like}}
+use Rattle.mg_script.{proofs.RowChanges.{with_thread-same, with_thread-then}, specs.{Actions.settled, Effects.{HasFrames, IsSpelledBy, entered}}}
+use Rattle.mg_script.specs.Effects.{faulted_row, finished, is_spelled, loaded, made_by, resumed, returned, stood, stored, turned_on}
+use Rattle.{mg_script.specs.{Turns.{TurnsAreCalls, TurnsRowsKeepBacked, fetched_word}, declared.effects.Effect.Effect}, std.proofs.Common.{arith, ℕ}}
+use Rattle.std.proofs.Common.{◌+◌, ◌-◌, ◌≤◌, ◌≡◌, ◌++◌, Bool, true, false, cond, eqb, ltb, not, List, [], ◌∷◌, length, take, Option, Some, None, refl}
+use Rattle.std.proofs.{Common.{sym, ap, ◌∙◌, subst, All}, lemmas.{Bool.cond_both, List.Elements.{All-head, All-tail}, Option.same_Some}}
 use Rattle.std.specs.{Option.option_map_or, Prelude.find}
 use Rattle.mg_model.specs.declared.calls.Call.TheVariants as call
 use Rattle.mg_model.specs.declared.replies.Refusal.TheVariants as refusal
@@ -81,7 +81,7 @@ module _ (state : State) (t : ℕ) (thread : ThreadRow) (formed : IsWellFormed s
   turned-on : turned state t thread ≡ turned_on state t thread (fetched_word state t thread)
   turned-on = by_fetch (allowed state t thread.pc X)
     where
-      by_decoded : (d : Option Instr) → run_word state t thread d ≡ option_map_or (λ instr. run state t thread.pc (advanced thread) instr) d (put_row state t (faulted_row fault.Opcode thread))
+      by_decoded : (d : Option Instr) → run_word state t thread d ≡ option_map_or (λ instr. run_instruction state t thread.pc (advanced thread) instr) d (put_row state t (faulted_row fault.Opcode thread))
       by_decoded None = like (faulted_row fault.Opcode) (λ _. faulted_row fault.Opcode thread) refl
       by_decoded (Some instr) = refl
 

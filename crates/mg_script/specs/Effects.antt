@@ -3,7 +3,7 @@ use Rattle.std.specs.{Option.option_map_or, Prelude.{ℕ, ◌≡◌, ◌<◌, �
 use Rattle.std.specs.Prelude.{[], ◌∷◌, if◌then◌else◌, length, take, Option, Some, None}
 use Rattle.mg_model.specs.{Abbreviations.{advanced, refusal_number}, Access.last_slots, Domains.last_back}
 use Rattle.mg_model.specs.{Script.{decoded, with_register, word_end}, State.{CallFrame, State, ThreadRow}, Turn.put_row}
-use Rattle.mg_model.specs.{Turn.run, declared.{calls.Call.Call, replies.{Refusal.Refusal, Reply.Reply}}}
+use Rattle.mg_model.specs.{Turn.run_instruction, declared.{calls.Call.Call, replies.{Refusal.Refusal, Reply.Reply}}}
 use Rattle.mg_model.specs.declared.threads.{Fault.Fault, ThrState.TheVariants.Faulted}
 use Rattle.mg_script.specs.{Actions.{call_of, called_by, carried_out, settled}, declared.actions.Action.Action}
 use Rattle.mg_script.specs.declared.effects.{Effect.Effect, Standing.Standing}
@@ -80,7 +80,7 @@ faulted_row kind thread = record thread { state = Faulted kind }
 -- the state after the turn of a thread with this row, by the word that was fetched
 abbrev pub turned_on : State → ℕ → ThreadRow → Option ℕ → State
 turned_on state t thread None = put_row state t (faulted_row fault.Denied thread)
-turned_on state t thread (Some word) = option_map_or (λ instr. run state t thread.pc (advanced thread) instr) (decoded word) (put_row state t (faulted_row fault.Opcode thread))
+turned_on state t thread (Some word) = option_map_or (λ instr. run_instruction state t thread.pc (advanced thread) instr) (decoded word) (put_row state t (faulted_row fault.Opcode thread))
 
 -- the row after a call that was refused
 abbrev pub refused_row : Refusal → ThreadRow → ThreadRow

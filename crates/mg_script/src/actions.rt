@@ -2,7 +2,7 @@
 ghost use Rattle.std.specs.Prelude.{◌≡◌, ℕ};
 ghost use Rattle.mg_model.specs.Abbreviations.{advanced};
 ghost use Rattle.mg_model.specs.State.{State};
-ghost use Rattle.mg_model.specs.Turn.{run};
+ghost use Rattle.mg_model.specs.Turn.{run_instruction};
 ghost use Rattle.mg_script.specs.Actions.{HasRegister, OnlyMoves, call_of, called_by, carried_out};
 ghost use Rattle.mg_script.specs.Effects.{HasPlace, action_of};
 ghost use Rattle.mg_script.specs.Encoded.{HasRegisters};
@@ -36,7 +36,7 @@ pub enum Action {
 /// The kernel uses [`effect_of`], which copies no row.
 pub fn execute(instr: &Instr, row: &ThrRow) -> Action
     requires { HasRegisters instr.now }
-    ensures turn { (state : State) (t : ℕ) → run state t row.now.pc (advanced row.now) instr.now ≡ carried_out state t (advanced row.now) result }
+    ensures turn { (state : State) (t : ℕ) → run_instruction state t row.now.pc (advanced row.now) instr.now ≡ carried_out state t (advanced row.now) result }
     ensures register { HasRegister result }
     ensures moves { OnlyMoves row.now result }
     ensures call { called_by row.now result ≡ call_of row.now instr.now }

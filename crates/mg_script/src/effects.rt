@@ -4,7 +4,7 @@ ghost use Rattle.mg_model.specs.Abbreviations.{advanced};
 ghost use Rattle.mg_model.specs.Ranges.{IsThreadRow};
 ghost use Rattle.mg_model.specs.Script.{jump_by, word_end};
 ghost use Rattle.mg_model.specs.State.{State};
-ghost use Rattle.mg_model.specs.Turn.{run};
+ghost use Rattle.mg_model.specs.Turn.{run_instruction};
 ghost use Rattle.mg_script.specs.Actions.{call_of};
 ghost use Rattle.mg_script.specs.Effects.{HasFrames, HasPlace, finished, made_by, standing};
 ghost use Rattle.mg_script.specs.Encoded.{HasRegisters};
@@ -48,7 +48,7 @@ pub(crate) fn advance(row: &mut ThrRow)
 /// instruction's registers are below 8, and so is the register that a `Load` names.
 pub fn effect_of(instr: &Instr, row: &ThrRow) -> Effect
     requires { HasRegisters instr.now }
-    ensures turn { (state : State) (t : ℕ) → run state t row.now.pc (advanced row.now) instr.now ≡ finished state t (advanced row.now) result }
+    ensures turn { (state : State) (t : ℕ) → run_instruction state t row.now.pc (advanced row.now) instr.now ≡ finished state t (advanced row.now) result }
     ensures place { HasPlace result }
     ensures frames { HasFrames row.now result }
     ensures call { made_by row.now result ≡ call_of row.now instr.now }

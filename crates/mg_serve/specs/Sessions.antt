@@ -112,12 +112,12 @@ abbrev pub OfRest : {S : Type 0} → SourceUse S → (List ℕ → List ℕ → 
 OfRest i P = OfInput i (λ input. IsSomeAnd (left_now i) (λ rest. P input rest))
 
 -- the sink took this text
-abbrev pub Puts : {K : Type 0} → SinkUse K → List ℕ → Type 0
-Puts o said = Appends (o.facts.taken o.old) (o.facts.taken o.new) said
+abbrev pub Prints : {K : Type 0} → SinkUse K → List ℕ → Type 0
+Prints o said = Appends (o.facts.taken o.old) (o.facts.taken o.new) said
 
 -- the sink took a prefix of it
-abbrev pub PutsPrefix : {K : Type 0} → SinkUse K → List ℕ → Type 0
-PutsPrefix o said = AppendsPrefix (o.facts.taken o.old) (o.facts.taken o.new) said
+abbrev pub PrintsPrefix : {K : Type 0} → SinkUse K → List ℕ → Type 0
+PrintsPrefix o said = AppendsPrefix (o.facts.taken o.old) (o.facts.taken o.new) said
 
 -- what holds of the number of answered lines, if it is told what the sink took: it is that of the newlines
 abbrev pub OfAnswered : {K : Type 0} → SinkUse K → (ℕ → Type 0) → Type 0
@@ -153,12 +153,12 @@ IsCut result rest = (rest ≢ []) ⊎ EndsTaking result
 -- What the sink took of a session that ended with this status.
 pub record Answers {S K : Type 0} (said : List Line → List ℕ) (result : Status) (i : SourceUse S) (o : SinkUse K) : Type 0 where
   -- At each status it is a prefix of the replies to the whole input.
-  pub prefix : OfInput i (λ input. PutsPrefix o (said (lines input)))
+  pub prefix : OfInput i (λ input. PrintsPrefix o (said (lines input)))
   -- At the end the source was read whole, and the sink took the replies to all of it.
-  pub done : result ≡ status.Done → OfInput i (λ input. (left_now i ≡ Some []) × Puts o (said (lines input)))
+  pub done : result ≡ status.Done → OfInput i (λ input. (left_now i ≡ Some []) × Prints o (said (lines input)))
   -- If the disk or the source failed, or too much came, it is the replies to some first lines, each of them whole.
   pub first_lines : (result ≡ status.Disk) ⊎ EndsTaking result →
-      OfInput i (λ input. (k : ℕ) × (k ≤ length (lines input)) × Puts o (said (take k (lines input))))
+      OfInput i (λ input. (k : ℕ) × (k ≤ length (lines input)) × Prints o (said (take k (lines input))))
 
 -- A session: what a stop leaves
 

@@ -1,5 +1,5 @@
 -- What the calls of the kernel do to a generated run.
-use Rattle.mg_commands.specs.{GeneratedLemmas.{length-replies, length-run, replies-more, run-more}, Headline.{replies_from, run_lines}}
+use Rattle.mg_commands.specs.{GeneratedLemmas.{length-replies, length-run, replies-more, run-more}, Headline.{replies_from, generated_lines}}
 use Rattle.{mg_disk.specs.{Disk.Image, Stops.WritesNothing, declared.disk.Disk.Ghosts}, mg_gen.specs.Asked.{LinesAreCalls, line_asked}}
 use Rattle.{mg_gen.specs.Tallies.tally_of, mg_kernel.specs.{Meaning.{keeps_key, now_of, seats_in}, Opening.Holds, SteppingLemmas.GoesOn}}
 use Rattle.{mg_kernel.specs.{SteppingLemmas.{spent-line, warm-more, warm-same}, declared.kernel.Kernel.Kernel}, mg_laws.specs.Costs.BeginsWarm}
@@ -54,7 +54,7 @@ module _ {D : Type 0} (facts : Ghosts D) where
 
   -- a line more of a run
   pub Counted-more : LinesAreCalls → (seen : Image → State) (told : (image : Image) → Type 0) (number at first : ℕ) (p q : At D) → at ≤ 1000000 → Counts facts p (line_asked number at) q
-      → ((image : Image) → told image → Counted facts first (seen image) (run_lines number at) p) → (image : Image) → told image → Counted facts first (seen image) (run_lines number (at + 1)) q
+      → ((image : Image) → told image → Counted facts first (seen image) (generated_lines number at) p) → (image : Image) → told image → Counted facts first (seen image) (generated_lines number (at + 1)) q
   Counted-more are seen told number at first p q few goes before image is =
       subst (λ (v : List Line). Counted facts first (seen image) v q) (sym (run-more are number at))
-      (goes first (seen image) (run_lines number at) (omega (arith, length-run are number at)) (before image is))
+      (goes first (seen image) (generated_lines number at) (omega (arith, length-run are number at)) (before image is))

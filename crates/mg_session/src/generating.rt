@@ -11,7 +11,7 @@ ghost use Rattle.mg_kernel.specs.Meaning.{StandsOn, is_live, now_of, staged_of};
 ghost use Rattle.mg_model.specs.Warmth.{cost};
 ghost use Rattle.mg_serve.specs.Sessions.{use_of};
 ghost use Rattle.mg_session.specs.Generating.{Counts, IsFresh};
-ghost use Rattle.mg_commands.specs.Headline.{GenKeeps, replies_from, run_lines};
+ghost use Rattle.mg_commands.specs.Headline.{GenKeeps, replies_from, generated_lines};
 
 use arrayvec::ArrayVec;
 use mg_disk::{Disk, ScratchDisk};
@@ -83,8 +83,8 @@ fn tally_lines<D: Disk, L: Ledger>(
     requires stands { StandsOn D.Disk kernel.old disk.old }
     requires staged { staged_of kernel.old ≡ 0 }
     requires count_at_most_1000000 { count ≤ 1000000 }
-    ensures counts { IfOk result (λ tally. ForSome (D.seen disk.old) (λ image. tally ≡ tally_of (replies_from (now_of kernel.old image) (run_lines number count)))) }
-    ensures cost { OnOk result (ForSome (D.seen disk.old) (λ image. steps.new ≤ steps.old + cost (now_of kernel.old image) (run_lines number count))) }
+    ensures counts { IfOk result (λ tally. ForSome (D.seen disk.old) (λ image. tally ≡ tally_of (replies_from (now_of kernel.old image) (generated_lines number count)))) }
+    ensures cost { OnOk result (ForSome (D.seen disk.old) (λ image. steps.new ≤ steps.old + cost (now_of kernel.old image) (generated_lines number count))) }
     ensures calls { DiskCalls D.Disk disk.old disk.new result }
 {
     warm_keys_are_kept();

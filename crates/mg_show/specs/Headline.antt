@@ -1,7 +1,7 @@
 -- What the program promises: the text of the volume that reads give, all of it, and no write.
 use Rattle.std.specs.{Io.KnownBytes.Appends, Option.ForSome, Prelude.{◌≡◌, ◌⊎◌}}
 use Rattle.{mg_commands.specs.Headline.{EndsUnopened, OnVolume, TellsOfNone}, mg_disk.specs.Stops.CountRose}
-use Rattle.{mg_disk.specs.Stops.WritesNothing, mg_faults.specs.Faults.Rose, mg_io.specs.Arguments.PutsUsage}
+use Rattle.{mg_disk.specs.Stops.WritesNothing, mg_faults.specs.Faults.Rose, mg_io.specs.Arguments.PrintsUsage}
 use Rattle.{mg_io.specs.Known.AppendsPrefix, mg_model.specs.{State.State, Volume.{Is, volume}}}
 use Rattle.{mg_serve.specs.{Sessions.IsDoneOrMemory, declared.status.Status.Status}, mg_show.specs.Commands.text_of}
 use Rattle.mg_show.specs.declared.command.Text.{Text}
@@ -30,5 +30,5 @@ pub record ShowKeeps {D K : Type 0} (facts : disks.Ghosts D) (to : sinks.Ghosts 
 
 -- What is kept where the words ask for none: the line `usage` was put, or a first part of it where the sink failed.
 pub record UsageKeeps {D K : Type 0} (to : sinks.Ghosts K) (result : Status) (disk disk' : D) (sink sink' : K) : Type 0 where
-  pub put : PutsUsage to (result ≡ status.Usage) (result ≡ status.Sink) sink sink'
+  pub put : PrintsUsage to (result ≡ status.Usage) (result ≡ status.Sink) sink sink'
   pub alone : disk' ≡ disk

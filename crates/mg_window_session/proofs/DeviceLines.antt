@@ -1,5 +1,5 @@
 -- What follows of how the lines ended, and of the lines of the devices after the replies.
-use Rattle.mg_commands.specs.{Headline.{OnVolume, PutsLast, session_of}, LastLemmas.{disk_ran, done_or_memory, ends_run, put_all, put_prefix}}
+use Rattle.mg_commands.specs.{Headline.{OnVolume, PrintsLast, session_of}, LastLemmas.{disk_ran, done_or_memory, ends_run, put_all, put_prefix}}
 use Rattle.{mg_commands.specs.{LastLemmas.sink_failed, OpeningLemmas.{lines_unopened, unopened}}, mg_disk.specs.{Disk.Image, Runs.leaves_yet}}
 use Rattle.{mg_disk.specs.{Runs.nothing_none, Stops.LeftOr}, mg_faults.specs.Faults.{CountGoesOn, count_none, rose_then}}
 use Rattle.{mg_io.specs.Known.AppendsPrefix-none, mg_model.specs.{Lines.lines, State.State, Volume.volume}, mg_serve.specs.Serving.IsWithin}
@@ -27,7 +27,7 @@ on_volume_both told P Q R then p q = λ image is s spelled. then s (p image is s
 
 -- what is kept once the lines of the devices are printed
 pub dev_keeps : {D S K : Type 0} (facts : disks.Ghosts D) (from : sources.Ghosts S) (to : sinks.Ghosts K) (ran result : Status) (windows windows' : Attached) (d d' : D) (source source' : S) (sink replied sink' : K) (steps steps' : ℕ)
-    → DevicesKeep windows windows' (session_of 1 ran (use_of facts d d') (use_of from source source') (use_of to sink replied) steps steps') → PutsLast to ran (device_lines windows') result replied sink'
+    → DevicesKeep windows windows' (session_of 1 ran (use_of facts d d') (use_of from source source') (use_of to sink replied) steps steps') → PrintsLast to ran (device_lines windows') result replied sink'
     → CountGoesOn (to.faults sink) (to.faults replied) (to.is_spent sink) (to.is_spent replied) → CountGoesOn (to.faults replied) (to.faults sink') (to.is_spent replied) (to.is_spent sink')
     → DevKeeps windows windows' (session_of 1 result (use_of facts d d') (use_of from source source') (use_of to sink sink') steps steps')
 dev_keeps facts from to ran result windows windows' d d' source source' sink replied sink' steps steps' keeps ends before after = record {

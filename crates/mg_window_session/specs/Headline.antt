@@ -1,10 +1,10 @@
 -- What a run with device windows promises. An object that does not tell its content has None for it; a promise on content is then empty.
 use Rattle.std.specs.{Fmt.decimal, Prelude.{ℕ, ◌+◌, ◌≤◌, ◌≡◌, List, [], ◌∷◌, ◌++◌, codes, drop, length, take, Option}}
 use Rattle.std.specs.Prelude.{Some, IfSome, IsSomeAnd}
-use Rattle.mg_commands.specs.Headline.{EndsRun, LinesKeep, OfNoState, OfState, PutsLast, Session, UsageKeeps}
+use Rattle.mg_commands.specs.Headline.{EndsRun, LinesKeep, OfNoState, OfState, PrintsLast, Session, UsageKeeps}
 use Rattle.{mg_commands.specs.Headline.session_of, mg_model.specs.{Lines.lines, Print.{answered, hex_text, spaced}}}
-use Rattle.{mg_model.specs.State.State, mg_serve.specs.Sessions.{DiskRose, IfShort, IsDoneOrMemory, OfInput, Puts}}
-use Rattle.mg_serve.specs.Sessions.{PutsPrefix, SinkRose, SourceRose, left_at, left_now, use_of}
+use Rattle.{mg_model.specs.State.State, mg_serve.specs.Sessions.{DiskRose, IfShort, IsDoneOrMemory, OfInput, Prints}}
+use Rattle.mg_serve.specs.Sessions.{PrintsPrefix, SinkRose, SourceRose, left_at, left_now, use_of}
 use Rattle.{mg_serve.specs.declared.status.Status.Status, mg_window.specs.{Attached.Attached, Devices.Held}}
 use Rattle.mg_window_session.specs.Machine.{Equipped, device_after, device_state, device_text}
 use Rattle.mg_io.specs.declared.traits.Sink as sinks
@@ -87,11 +87,11 @@ pub record DevKeeps {D S K : Type 0} (windows windows' : Attached) (s : Session 
   pub keeps : DevicesKeep windows windows' (session_of s.batch ran s.disk s.source (use_of s.sink.facts s.sink.old replied)
       s.steps s.steps')
   -- Then the lines of the devices that are left are printed.
-  pub ends : PutsLast s.sink.facts ran (device_lines windows') s.result replied s.sink.new
+  pub ends : PrintsLast s.sink.facts ran (device_lines windows') s.result replied s.sink.new
   -- What was printed is a prefix of the replies to the whole input and those lines; at the end it is all of them.
-  pub prefix : OfState s.disk (λ state. OfInput s.source (λ input. PutsPrefix s.sink (whole_text (equipped windows state) input)))
+  pub prefix : OfState s.disk (λ state. OfInput s.source (λ input. PrintsPrefix s.sink (whole_text (equipped windows state) input)))
   pub done : s.result ≡ status.Done → OfState s.disk (λ state. OfInput s.source (λ input.
-      (left_now s.source ≡ Some []) × Puts s.sink (whole_text (equipped windows state) input)))
+      (left_now s.source ≡ Some []) × Prints s.sink (whole_text (equipped windows state) input)))
   -- It ends in one of the ways of `run`, and the disk and the sink failed only if their counts rose.
   pub which : EndsRun s.result
   pub disk_failed : s.result ≡ status.Disk → DiskRose s.disk

@@ -4,7 +4,7 @@ ghost use Rattle.std.specs.Io.KnownBytes.{Appends};
 ghost use Rattle.arrayvec.specs.ArrayVec.{array_vec_len};
 ghost use Rattle.mg_faults.specs.Faults.{CountGoesOn, Rose};
 ghost use Rattle.mg_io.specs.Known.{AppendsPrefix};
-ghost use Rattle.mg_commands.specs.Headline.{PutsLast};
+ghost use Rattle.mg_commands.specs.Headline.{PrintsLast};
 ghost use Rattle.mg_window.specs.Attached.{seen, window_at};
 ghost use Rattle.mg_window_session.specs.Headline.{device_line, device_lines};
 
@@ -23,7 +23,7 @@ pub(crate) fn put_devices<T: Device, K: Sink>(
     windows: &Windows<T>,
     sink: &mut K,
 ) -> Status
-    ensures ends { PutsLast K.Sink ran (device_lines (seen T.held windows.now)) result sink.old sink.new }
+    ensures ends { PrintsLast K.Sink ran (device_lines (seen T.held windows.now)) result sink.old sink.new }
     ensures sink_count { CountGoesOn (K.faults sink.old) (K.faults sink.new) (K.is_spent sink.old) (K.is_spent sink.new) }
 {
     match ran {
@@ -33,7 +33,7 @@ pub(crate) fn put_devices<T: Device, K: Sink>(
 }
 
 fn put_lines<T: Device, K: Sink>(windows: &Windows<T>, sink: &mut K) -> Status
-    ensures ends { PutsLast K.Sink Status.Done (device_lines (seen T.held windows.now)) result sink.old sink.new }
+    ensures ends { PrintsLast K.Sink Status.Done (device_lines (seen T.held windows.now)) result sink.old sink.new }
     ensures sink_count { CountGoesOn (K.faults sink.old) (K.faults sink.new) (K.is_spent sink.old) (K.is_spent sink.new) }
 {
     let text = device_text(windows);
