@@ -1,6 +1,6 @@
 -- The rule of one access, from what was found.
 use Rattle.{mg_access.specs.{Known.rows_know, Searching.allowed_row, WordLemmas.taken-none}, mg_model.specs.Access.{allowed, at, covers}}
-use Rattle.mg_model.specs.{Kept.{Validates, access_limit}, Keys.{Key, is_elsewhere, is_key, seat_of}, Limits.search_limit, State.{Object, ObjectRow}}
+use Rattle.mg_model.specs.{Kept.{Validates, access_limit, is_elsewhere}, Keys.{Key, is_key, seat_of}, Limits.search_limit, State.{Object, ObjectRow}}
 use Rattle.{mg_model.specs.{State.State, declared.{rights.Right.Right, seats.Seat.Seat}}, mg_vcache.specs.Seats.{is_kept, key_in}}
 use Rattle.std.proofs.Common.{ℕ, ◌≡◌, ◌≢◌, ◌≤◌, ◌+◌, ◌-◌, ◌==◌, Bool, not, true, false, List, [], ◌∷◌, if◌then◌else◌, Option, Some, None, refl, sym}
 use Rattle.std.{proofs.{Common.{ap, subst, ◌∙◌, arith}, lemmas.{Bool.{and_parts, eq-eqb}, List.get_or-set_other}}, specs.Option.option_map_or}

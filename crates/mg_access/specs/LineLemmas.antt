@@ -3,7 +3,7 @@ use Rattle.std.{proofs.{Common.{arith, refl, ap, ◌∙◌}, lemmas.Bool.eq-eqb}
 use Rattle.std.specs.Prelude.{◌&&◌, Bool, not, true, false, List, [], ◌∷◌, ◌++◌, if◌then◌else◌}
 use Rattle.{mg_laws.specs.Costs.SearchesKeepRules, mg_model.specs.Accesses.{Access, accesses, line_words}}
 use Rattle.mg_model.specs.Kept.{KeepsKeys, KeepsLine, KeepsRules, Searches, Validates, access_limit, is_served}
-use Rattle.mg_model.specs.{Kept.{line_limit, searches_limit}, Keys.{Key, is_elsewhere, seat_of, key_taken}, State.State}
+use Rattle.mg_model.specs.{Kept.{line_limit, searches_limit, is_elsewhere}, Keys.{Key, seat_of, key_taken}, State.State}
 use Rattle.mg_model.specs.{Threads.is_thread, Warmth.{failing, is_disturbing}, declared.calls.Line.Line}
 
 -- a line that was answered

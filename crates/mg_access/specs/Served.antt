@@ -1,8 +1,8 @@
 -- What a call with the disk keeps, one fact a field.
 use Rattle.std.specs.{Option.ForSome, Prelude.{ℕ, ◌≡◌, ◌≤◌, ◌+◌, Bool, List, Option, Result, IfOk, OnErr, OnOk}}
 use Rattle.{mg_disk.specs.{Stops.CountRose, declared.disk.Disk.Ghosts}, mg_model.specs.FewSlots.HasFewSlots}
-use Rattle.mg_model.specs.{Kept.{KeepsLine, line_limit}, Keys.Key, Refused.{Answer, IsRefusal}, State.State, Step.step}
-use Rattle.mg_model.specs.{Turn.thread_call, declared.{calls.{Call.Call, Line.Line}, replies.Reply.Reply}}
+use Rattle.mg_model.specs.{FewSlots.IsRefusal, Kept.{KeepsLine, line_limit}, Keys.Key, Refused.Answer, State.State}
+use Rattle.mg_model.specs.{Step.step, Turn.thread_call, declared.{calls.{Call.Call, Line.Line}, replies.Reply.Reply}}
 use Rattle.{mg_model.specs.declared.seats.Seat.Seat, mg_vcache.specs.Seats.{AllBacked, is_kept}}
 use Rattle.mg_volume.specs.{Calls.{Reads, Serves}, Held.VolumeHeld, Meaning.{Keeps, now_of, staged_in}}
 

@@ -5,7 +5,7 @@ use Rattle.mg_access.specs.{LineLemmas.{none_rules, one_limit, one_rules}, Reach
 use Rattle.mg_access.specs.{ReachedLemmas.{reached_allowed, reached_none, thread_gone}, Searching.access_refusal}
 use Rattle.{mg_access.specs.Searching.{allowed_row, word_accesses}, mg_laws.specs.Costs.SearchesKeepRules}
 use Rattle.mg_model.specs.{Access.{allowed, at}, Accesses.{Access, word_access}, Kept.{KeepsRules, Searches, Validates}}
-use Rattle.mg_model.specs.{Kept.{access_limit, searches_limit}, Keys.{Key, is_elsewhere, key_taken}}
+use Rattle.mg_model.specs.{Kept.{access_limit, searches_limit, is_elsewhere}, Keys.{Key, key_taken}}
 use Rattle.mg_model.specs.{ObjectCalls.is_aligned, Refused.first_refusal, State.{Object, ObjectRow, State}}
 use Rattle.mg_model.specs.{Threads.is_thread, declared.replies.Refusal.TheVariants.{Align, Denied}}
 use Rattle.mg_model.specs.declared.rights.Right.{Right}

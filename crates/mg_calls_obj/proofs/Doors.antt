@@ -1,9 +1,9 @@
 -- What a call on an object keeps and costs, after one search.
 use Rattle.{mg_access.specs.LineLemmas.{drops_line, limit_line, one_limit, thread_limit, thread_rules}, mg_calls_obj.specs.Door.{EndsBy, asked}}
 use Rattle.{mg_calls_obj.specs.Door.{is_on_object, named}, mg_laws.specs.Costs.SearchesKeepRules, mg_model.specs.{Access.allowed, Accesses.Access}}
-use Rattle.mg_model.specs.{Accesses.{accesses, line_words}, Backed.{KeepsBacked, by_via, ended_by_call}, Kept.{KeepsKeys, KeepsLine, KeepsRules}}
-use Rattle.mg_model.specs.{Kept.{Searches, Validates, access_limit, line_limit, searches_limit}, Keys.Key, ObjectCalls.row_at, Refused.Answer}
-use Rattle.mg_model.specs.{Refused.IsRefusal, State.{ObjectRow, State}, Step.{of_thread, step}, Threads.is_thread, Turn.thread_call, Warmth.disturbs}
+use Rattle.mg_model.specs.{Accesses.{accesses, line_words}, Backed.{KeepsBacked, by_via, ended_by_call}, FewSlots.IsRefusal, Kept.KeepsKeys}
+use Rattle.mg_model.specs.{Kept.{KeepsLine, KeepsRules, Searches, Validates, access_limit, line_limit, searches_limit}, Keys.Key, ObjectCalls.row_at}
+use Rattle.mg_model.specs.{Refused.Answer, State.{ObjectRow, State}, Step.{of_thread, step}, Threads.is_thread, Turn.thread_call, Warmth.disturbs}
 use Rattle.mg_model.specs.{Warmth.{is_disturbing, is_ok}, declared.{calls.{Call.Call, Line.Line}, replies.Refusal.TheVariants.{Denied, NoThread}}}
 use Rattle.mg_model.specs.declared.{replies.Reply.{Reply, TheVariants.No}, rights.Right.Right, seats.Seat.Seat}
 use Rattle.{mg_vcache.specs.{SeatLemmas.{drops_backed, drops_none, same_backed}, Seats.{AllBacked, is_kept}}, std.proofs.Common.{refl, sym, ap}}

@@ -1,6 +1,6 @@
 -- What a call on an object that ends rights leaves of them, by the law on what a change of one object ends.
 use Rattle.{mg_access.specs.Backing.StayBacked, mg_calls_obj.specs.Based.KeepsOthers, mg_laws.specs.Backing.{ChangeKeepsOthers, GoneKeepsOthers}}
-use Rattle.mg_model.specs.{Backed.{KeepsBacked, by_via}, Objects.{with_row, without_object}, Refused.IsRefusal, State.{ObjectRow, State}}
+use Rattle.mg_model.specs.{Backed.{KeepsBacked, by_via}, FewSlots.IsRefusal, Objects.{with_row, without_object}, State.{ObjectRow, State}}
 use Rattle.{mg_model.specs.declared.{replies.Reply.Reply, seats.Seat.Seat}, mg_vcache.specs.{Drops.Drops, SeatLemmas.drops_backed}}
 use Rattle.{mg_volume.specs.{Held.VolumeHeld, Meaning.now_of}, std.{proofs.Common.{ap, subst, sym}, specs.Prelude.{◌≡◌, ℕ, List, Option}}}
 

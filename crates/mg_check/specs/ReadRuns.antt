@@ -1,8 +1,8 @@
 -- Lemmas on how runs of reads join.
 use Rattle.std.{proofs.Common.{refl, sym, ap, subst, ◌∙◌, arith}, specs.{Option.ForSome, Prelude.{◌≡◌, ℕ, length}}}
 use Rattle.std.specs.Prelude.{OnErr, Option, Result, Err, Some}
-use Rattle.{mg_check.specs.Reads.{CanRead, contents}, mg_disk.specs.{Disk.Image, PlaceLemmas.HasFirst}}
-use Rattle.mg_disk.specs.{Runs.{nothing_none, nothing_then}, Stops.{CountRose, OnlyRead, OnlyReads, OnlyReadsBy}}
+use Rattle.{mg_check.specs.Reads.{CanRead, contents}, mg_disk.specs.{Disk.Image, PlaceLemmas.HasFirst, Reads.OnlyRead}}
+use Rattle.mg_disk.specs.{Reads.{OnlyReads, OnlyReadsBy}, Runs.{nothing_none, nothing_then}, Stops.CountRose}
 use Rattle.{mg_disk.specs.declared.disk.Disk.Ghosts, mg_faults.specs.Faults.{count_none, count_then, then_rose}}
 use Rattle.mg_model.specs.Words.{and_then}
 
@@ -14,7 +14,7 @@ pub only_by : {D : Type 0} {facts : Ghosts D} {old new : D} {failed : Type 0} �
 only_by reads = record { writes = reads.writes; count = reads.calls.count; blocks = reads.calls.blocks }
 
 module _ {D : Type 0} (facts : Ghosts D) where
-  pub only_none : (disk : D) → facts.has_been disk (facts.moment disk) → OnlyRead facts disk disk
+  pub only_none : (disk : D) → (facts.time disk).has_been (facts.time disk).moment → OnlyRead facts disk disk
   only_none disk been = record { writes = nothing_none facts disk been; count = count_none (facts.faults disk) (facts.is_spent disk); blocks = refl }
 
   pub only_then : (old mid new : D) → OnlyRead facts old mid → OnlyRead facts mid new → OnlyRead facts old new

@@ -1,7 +1,7 @@
 // Whether what reads give is a volume.
 ghost use Rattle.std.specs.Prelude.{◌≡◌, ◌≤◌, IfOk, length, sum_by};
 ghost use Rattle.std.specs.Option.{ForSome};
-ghost use Rattle.mg_disk.specs.Stops.{OnlyReadsBy};
+ghost use Rattle.mg_disk.specs.Reads.{OnlyReadsBy};
 ghost use Rattle.mg_rules.specs.RowsRead.{AreHeld};
 ghost use Rattle.mg_check.specs.Summaries.{Tells, TellsOf};
 ghost use Rattle.mg_rules.specs.Tables.{count_in, pages_in};

@@ -1,7 +1,7 @@
 // Reading the volume of a disk.
 ghost use Rattle.std.specs.Prelude.{◌≡◌, ◌≤◌, IfOk, IsSome, None, OnOk};
 ghost use Rattle.std.specs.Option.{ForSome};
-ghost use Rattle.mg_disk.specs.Stops.{OnlyReadsBy};
+ghost use Rattle.mg_disk.specs.Reads.{OnlyReadsBy};
 ghost use Rattle.mg_rules.specs.RowsRead.{AreKept, IsReadAs};
 ghost use Rattle.mg_rules.specs.Settled.{IsSettled};
 ghost use Rattle.mg_journal.specs.Looked.{Fits};

@@ -2,7 +2,7 @@
 ghost use Rattle.std.specs.Prelude.{◌≡◌, ◌+◌, ◌-◌, ◌^◌, ◌≤◌, ◌<◌, ℕ, Option, OnOk, length};
 ghost use Rattle.std.specs.Option.{ForSome};
 ghost use Rattle.mg_disk.specs.Disk.{HasBlocks, Image, InRange, block_at};
-ghost use Rattle.mg_disk.specs.Stops.{OnlyReads};
+ghost use Rattle.mg_disk.specs.Reads.{OnlyReads};
 ghost use Rattle.mg_journal.specs.Looked.{Fits};
 ghost use Rattle.mg_model.specs.Replay.{block_of, replay};
 ghost use Rattle.mg_check.specs.Reads.{CanRead, IsRun, contents};

@@ -1,7 +1,7 @@
 // What the volume of a disk was made with.
 ghost use Rattle.std.specs.Prelude.{◌≡◌, ◌≤◌, ◌==◌, IfOk};
 ghost use Rattle.std.specs.Option.{ForSome};
-ghost use Rattle.mg_disk.specs.Stops.{OnlyReads, OnlyReadsBy};
+ghost use Rattle.mg_disk.specs.Reads.{OnlyReads, OnlyReadsBy};
 ghost use Rattle.mg_rules.specs.Settled.{HasSettings};
 ghost use Rattle.mg_layout.specs.SuperBlock.{IsSuper};
 ghost use Rattle.mg_model.specs.Layout.{gate_open, super_block};

@@ -1,7 +1,7 @@
 // The frame table of a volume.
 ghost use Rattle.std.specs.Prelude.{◌≡◌, ◌≢◌, ◌≤◌, ◌+◌, ◌%◌, ◌==◌, ℕ, IfOk, OnOk, false, [], length, min};
 ghost use Rattle.std.specs.Option.{ForSome};
-ghost use Rattle.mg_disk.specs.Stops.{OnlyReadsBy};
+ghost use Rattle.mg_disk.specs.Reads.{OnlyReadsBy};
 ghost use Rattle.mg_model.specs.Layout.{first_frame};
 ghost use Rattle.mg_check.specs.Reads.{CanRead, contents};
 ghost use Rattle.mg_rules.specs.TableTold.{AreEntries, HasRest, IsTable, entry_in};

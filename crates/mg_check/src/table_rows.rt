@@ -1,7 +1,7 @@
 // Tables of rows.
 ghost use Rattle.std.specs.Prelude.{◌≡◌, ◌≢◌, ◌≤◌, ◌<◌, ◌+◌, ℕ, List, IfOk, OnOk, None, Some, length, vec_capacity};
 ghost use Rattle.std.specs.Option.{ForSome};
-ghost use Rattle.mg_disk.specs.Stops.{OnlyReadsBy};
+ghost use Rattle.mg_disk.specs.Reads.{OnlyReadsBy};
 ghost use Rattle.mg_model.specs.Layout.{table_block};
 ghost use Rattle.mg_model.specs.Replay.{block_of};
 ghost use Rattle.mg_model.specs.Spelling.{Read};

@@ -1,7 +1,7 @@
 // All tables of a volume.
 ghost use Rattle.std.specs.Prelude.{◌≡◌, ◌≤◌, IfOk, Some};
 ghost use Rattle.std.specs.Option.{ForSome};
-ghost use Rattle.mg_disk.specs.Stops.{OnlyReadsBy};
+ghost use Rattle.mg_disk.specs.Reads.{OnlyReadsBy};
 ghost use Rattle.mg_check.specs.Reads.{CanRead, contents};
 ghost use Rattle.mg_rules.specs.RowsRead.{AreHeld, AreKept};
 ghost use Rattle.mg_rules.specs.RowsTold.{AreTold, HasNoState, NoCounters, TellsRows};

@@ -218,7 +218,7 @@ small_line need have = codes "small" ++ spaced (decimal need ∷ decimal have �
 -- the fresh volume stands: reads give it, a stop leaves it and no other state, and nothing is pending
 pub record IsMade {D : Type 0} (facts : disks.Ghosts D) (old new : D) (settings : Settings) : Type 0 where
   pub reads : ReadsFresh settings (facts.seen old) (facts.seen new)
-  pub left : (c : Image) → facts.left_since new (facts.moment new) c → volume c ≡ Is (fresh settings)
+  pub left : (c : Image) → (facts.time new).left_since (facts.time new).moment c → volume c ≡ Is (fresh settings)
   pub settled : NothingPending facts new
 
 -- the blocks of the volume, and those of the disk

@@ -38,14 +38,14 @@ module _ {D S K : Type 0} (d : disks.Ghosts D) (i : sources.Ghosts S) (o : sinks
   -- the images that a stop may leave after runs that began on a volume of the state s
   abbrev pub LeftBy : State → Runs D S K → Image → Type 0
   LeftBy s None c = volume c ≡ Is s
-  LeftBy s (Ended runs r) c = d.left_since r.disk' (d.moment r.disk') c
-  LeftBy s (CutOff runs r) c = d.left_since r.disk' (d.moment r.disk) c
+  LeftBy s (Ended runs r) c = (d.time r.disk').left_since (d.time r.disk').moment c
+  LeftBy s (CutOff runs r) c = (d.time r.disk').left_since (d.time r.disk).moment c
 
   -- A run finds its disk as these left it: reads give one of the images, and a stop may leave no others. So it is after a process
   -- that ended or was killed, with what is pending, and after a machine that stopped and left one of them.
   pub record Finds (s : State) (runs : Runs D S K) (r : Run D S K) : Type 0 where
     pub reads : IsSomeAnd (d.seen r.disk) (LeftBy s runs)
-    pub no_others : (c : Image) → d.left_since r.disk (d.moment r.disk) c → LeftBy s runs c
+    pub no_others : (c : Image) → (d.time r.disk).left_since (d.time r.disk).moment c → LeftBy s runs c
     -- Its source tells what it has left.
     pub told : IsSomeAnd (i.left r.source) (λ input. IsSome (i.left r.source'))
     -- It kept what `run` keeps, and no lines leave a state as it is.

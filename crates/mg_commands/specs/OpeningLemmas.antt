@@ -249,7 +249,7 @@ no_lines kept ls c is = (0, omega arith, is)
 module _ {D : Type 0} (facts : Ghosts D) (d mid : D) where
   -- what a stop might have left before, or the state after some first lines
   abbrev Since : (List Line → State) → List Line → Image → Type 0
-  Since kept ls c = facts.left_since d (facts.moment d) c ⊎ IsPrefix kept ls c
+  Since kept ls c = (facts.time d).left_since (facts.time d).moment c ⊎ IsPrefix kept ls c
 
   -- what it might have left before, or the same volume
   prefix_yet : (left : Option (List ℕ)) (image : Image) (kept : List Line → State) → volume image ≡ Is (kept []) → Leaves facts d mid (LeftOr facts d (λ c. volume c ≡ volume image))
@@ -266,17 +266,17 @@ module _ {D : Type 0} (facts : Ghosts D) (d mid : D) where
 
   -- what is held at the end, of a session on a settled disk, or of an opening that failed
   held_since : {S K : Type 0} (i : SourceUse S) (o : SinkUse K) (kept : List Line → State) (d' : D) (l l' : Option (List ℕ))
-      → IfSome l (λ input. IsSomeAnd l' (λ rest. (c : Image) → facts.left_since d' (facts.moment d') c → (k : ℕ) × AreHeld o input rest k × SpellsFirst kept input k c))
-      → IfSome l (λ input. IsSomeAnd l' (λ rest. (c : Image) → facts.left_since d' (facts.moment d') c
-      → (facts.left_since d (facts.moment d) c × AreHeld o input rest 0) ⊎ ((k : ℕ) × AreHeld o input rest k × SpellsFirst kept input k c)))
+      → IfSome l (λ input. IsSomeAnd l' (λ rest. (c : Image) → (facts.time d').left_since (facts.time d').moment c → (k : ℕ) × AreHeld o input rest k × SpellsFirst kept input k c))
+      → IfSome l (λ input. IsSomeAnd l' (λ rest. (c : Image) → (facts.time d').left_since (facts.time d').moment c
+      → ((facts.time d).left_since (facts.time d).moment c × AreHeld o input rest 0) ⊎ ((k : ℕ) × AreHeld o input rest k × SpellsFirst kept input k c)))
   held_since i o kept d' None l' held = tt
   held_since i o kept d' (Some input) None held = held
   held_since i o kept d' (Some input) (Some rest) held = λ c left. inr (held c left)
 
   none_since : {K : Type 0} (o : SinkUse K) (kept : List Line → State) (image : Image) → volume image ≡ Is (kept []) → o.facts.taken o.new ≡ o.facts.taken o.old
       → Leaves facts d mid (LeftOr facts d (λ c. volume c ≡ volume image)) → (l : Option (List ℕ))
-      → IfSome l (λ input. IsSomeAnd l (λ rest. (c : Image) → facts.left_since mid (facts.moment mid) c
-      → (facts.left_since d (facts.moment d) c × AreHeld o input rest 0) ⊎ ((k : ℕ) × AreHeld o input rest k × SpellsFirst kept input k c)))
+      → IfSome l (λ input. IsSomeAnd l (λ rest. (c : Image) → (facts.time mid).left_since (facts.time mid).moment c
+      → ((facts.time d).left_since (facts.time d).moment c × AreHeld o input rest 0) ⊎ ((k : ℕ) × AreHeld o input rest k × SpellsFirst kept input k c)))
   none_since o kept image spelled same first None = tt
   none_since o kept image spelled same first (Some input) = λ c left.
       let none : AreHeld o input input 0 = record { all_answered = subst (λ t. AreAnswered (o.facts.taken o.old) t 0) (sym same) (none_answered (o.facts.taken o.old)); came = omega arith } in

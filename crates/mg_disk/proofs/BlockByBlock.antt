@@ -7,7 +7,7 @@ module _ {D : Type 0} (facts : Ghosts D) where
   pub record ArePutSoFar (first : ℕ) (from : Image) (n : ℕ) (old new : D) : Type 0 where
     pub put : ForSome (facts.seen new) (HasFirst first from n)
     pub seen : SeenBut (InRange first n) (facts.seen old) (facts.seen new)
-    pub stops : TimeGoes facts old new (TornAt (InRange first n) (facts.left_since old (facts.moment old)))
+    pub stops : TimeGoes facts old new (TornAt (InRange first n) ((facts.time old).left_since (facts.time old).moment))
     pub blocks : facts.block_count new ≡ facts.block_count old
     pub tells : facts.tells_stops new ≡ facts.tells_stops old
     pub count : CountGoes facts old new

@@ -1,10 +1,10 @@
 -- A run of calls of a `MemDisk`, call by call.
-use Rattle.mg_disk.{proofs.BlockByBlock.ArePutSoFar, specs.{Blocks.gates_block, Disk.{At, Image, InRange, SameBut, block_at, only_place}}}
-use Rattle.mg_disk.specs.{Held.{BeenIn, LeftIn}, Memory.{FailsAt, FailsFirst, IsCutAt, Numbered, NumberedRun, content_of, counts_of, fails_of}}
-use Rattle.mg_disk.specs.{Memory.{more_reads, more_writes, calls_made, one_read, one_write, room_of}, PlaceLemmas.{same_after, same_as, same_set}}
-use Rattle.{mg_disk.specs.declared.{disk.Disk.Ghosts, memory.{Counts.Counts, MemDisk.MemDisk}}, mg_faults.specs.Faults.is_last, std.proofs.Common.ap}
-use Rattle.std.proofs.{Common.{arith, inl, inr, refl, subst, sym, ◌∙◌, ⊎_elim}, lemmas.{Bool.{cases_lt, Decides.nat_tests}, List.get_or-set_same}}
-use Rattle.std.specs.{Prelude.{◌≡◌, ◌+◌, ◌<◌, ◌≤◌, ℕ, Contains, Ok, Err, IsErr, Some, length, slice_set, true}, Vec.vec_len}
+use Rattle.mg_disk.{proofs.BlockByBlock.ArePutSoFar, specs.{Blocks.gates_block, Disk.{Image, InRange, SameBut, block_at, only_place}, Held.time_of}}
+use Rattle.mg_disk.specs.Memory.{FailsAt, FailsFirst, IsCutAt, Numbered, NumberedRun, content_of, counts_of, fails_of, more_reads, more_writes}
+use Rattle.mg_disk.specs.{Memory.{calls_made, one_read, one_write, room_of}, PlaceLemmas.{same_after, same_as, same_set}, declared.disk.Disk.Ghosts}
+use Rattle.{mg_disk.specs.declared.memory.{Counts.Counts, MemDisk.MemDisk}, mg_faults.specs.Faults.is_last, std.proofs.Common.{ap, arith, inl, inr}}
+use Rattle.std.{proofs.{Common.{refl, subst, sym, ◌∙◌, ⊎_elim}, lemmas.{Bool.{cases_lt, Decides.nat_tests}, List.get_or-set_same}}, specs.Prelude.◌≡◌}
+use Rattle.std.specs.{Prelude.{◌+◌, ◌<◌, ◌≤◌, ℕ, Contains, Ok, Err, IsErr, Some, length, slice_set, true}, Vec.vec_len}
 
 -- one call of a kind more
 pub one_more_read : (a b : Counts) (n : ℕ) → b ≡ more_reads a n → one_read b ≡ more_reads a (n + 1)
@@ -19,9 +19,7 @@ told_by = record {
   block_count = λ disk. vec_len disk.content;
   seen = λ disk. Some disk.content.items;
   tells_stops = λ disk. true;
-  moment = λ disk. At (length disk.events.items);
-  has_been = λ disk. BeenIn disk.events.items;
-  left_since = λ disk. LeftIn disk.first.items disk.events.items;
+  time = λ disk. time_of disk.first.items disk.events.items;
   faults = λ disk. disk.count;
   is_spent = λ disk. is_last disk.count;
 }

@@ -70,10 +70,10 @@ module _ {D : Type 0} (facts : Ghosts D) (first n : ℕ) (old mid new : D) where
       the_last : (k : ℕ) → only_place i k → InRange first m k
       the_last k is = record { from = omega arith; before = omega arith }
 
-      torn : (c : Image) → TornAt (only_place i) (facts.left_since mid (facts.moment mid)) c → TornAt (InRange first m) (facts.left_since old (facts.moment old)) c
+      torn : (c : Image) → TornAt (only_place i) ((facts.time mid).left_since (facts.time mid).moment) c → TornAt (InRange first m) ((facts.time old).left_since (facts.time old).moment) c
       torn c t = grind (arith, nat_tests, same_after, the_last, among)
 
-      goes : TimeGoes facts mid new (TornAt (only_place i) (facts.left_since mid (facts.moment mid))) → TimeGoes facts old new (TornAt (InRange first m) (facts.left_since old (facts.moment old)))
+      goes : TimeGoes facts mid new (TornAt (only_place i) ((facts.time mid).left_since (facts.time mid).moment)) → TimeGoes facts old new (TornAt (InRange first m) ((facts.time old).left_since (facts.time old).moment))
       goes call = grind (arith, same_after, among, torn)
 
     pub put_more : {T E : Type 0} (x : T) → block ≡ block_at from n → ForSome (facts.seen mid) (λ image. i < length image) → IsWrite {T = T} {E = E} facts mid new i block (Ok x) → ArePutSoFar facts first from (n + 1) old new

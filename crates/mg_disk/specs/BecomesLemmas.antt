@@ -1,6 +1,6 @@
 -- Lemmas on what reads give before and after.
 use Rattle.std.{proofs.Common.{refl, subst, sym}, specs.Prelude.{◌≡◌, ℕ, Option, None, Some, option_map}}
-use Rattle.mg_disk.specs.{Disk.{Image, SameBut, SeenBut}, Stops.Becomes}
+use Rattle.mg_disk.specs.{Disk.{Image, SameBut, SeenBut}, Reads.Becomes}
 
 some_inj : (a b : Image) → Some a ≡ Some b → a ≡ b
 some_inj a b is = cc

@@ -22,7 +22,7 @@ module _ {D T E : Type 0} (facts : Ghosts D) (old new : D) where
   pub record IsWrite (i : ℕ) (from : List ℕ) (result : Result T E) : Type 0 where
     pub written : OnOk result (facts.seen new ≡ option_map (λ image. slice_set image i from) (facts.seen old))
     pub unknown : OnErr result (SeenBut (only_place i) (facts.seen old) (facts.seen new))
-    pub rules : KeepsRules (TornAt (only_place i) (facts.left_since old (facts.moment old))) result
+    pub rules : KeepsRules (TornAt (only_place i) ((facts.time old).left_since (facts.time old).moment)) result
 
   -- a read of `count` blocks next to each other, the first of them at this place
   pub record IsReadRun (first count : ℕ) (out : Image) (result : Result T E) : Type 0 where
@@ -35,7 +35,7 @@ module _ {D T E : Type 0} (facts : Ghosts D) (old new : D) where
   pub record IsWriteRun (first : ℕ) (from : Image) (result : Result T E) : Type 0 where
     pub written : OnOk result (ForSome (facts.seen new) (HasBlocks first from))
     pub unknown : SeenBut (InRange first (length from)) (facts.seen old) (facts.seen new)
-    pub rules : KeepsRules (TornAt (InRange first (length from)) (facts.left_since old (facts.moment old))) result
+    pub rules : KeepsRules (TornAt (InRange first (length from)) ((facts.time old).left_since (facts.time old).moment)) result
 
   -- a sync
   pub record IsSync (result : Result T E) : Type 0 where

@@ -43,15 +43,20 @@ SeenBut places (Some old) (Some new) = SameBut places old new
 SeenBut places None None = Unit {0}
 SeenBut places _ _ = ⊥
 
+-- The time of a disk: the moment now, the moments up to now, and which images a stop at some moment since one may leave.
+pub record Time : Type 1 where
+  pub moment : Moment
+  pub has_been : Moment → Type 0
+  pub left_since : Moment → Image → Type 0
+
 -- Time continues: since a moment that has been, a stop may leave what it might have left before, or a fresh image.
-pub record GoesOn (old_moment new_moment : Moment) (old_been new_been : Moment → Type 0)
-    (old_since new_since : Moment → Image → Type 0) (fresh : Image → Type 0) : Type 0 where
-  pub begins : old_been old_moment
-  pub past : (t : Moment) → old_been t → new_been t
-  pub keeps : (t : Moment) (c : Image) → old_been t → old_since t c → new_since t c
-  pub nothing_else : (t : Moment) (c : Image) → old_been t → new_since t c → old_since t c ⊎ fresh c
+pub record GoesOn (old new : Time) (fresh : Image → Type 0) : Type 0 where
+  pub begins : old.has_been old.moment
+  pub past : (t : Moment) → old.has_been t → new.has_been t
+  pub keeps : (t : Moment) (c : Image) → old.has_been t → old.left_since t c → new.left_since t c
+  pub nothing_else : (t : Moment) (c : Image) → old.has_been t → new.left_since t c → old.left_since t c ⊎ fresh c
   -- the same for what a stop may leave now
-  pub now : (c : Image) → new_since new_moment c → old_since old_moment c ⊎ fresh c
+  pub now : (c : Image) → new.left_since new.moment c → old.left_since old.moment c ⊎ fresh c
 
 -- no image is fresh
 abbrev pub no_image : Image → Type 0

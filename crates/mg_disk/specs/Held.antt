@@ -1,6 +1,6 @@
 -- The replay by which a `MemDisk` knows what a stop at each of its moments may leave.
 use Rattle.std.specs.Prelude.{◌≤◌, ℕ, List, [], ◌∷◌, ◌++◌, length, take, slice_set, Contains}
-use Rattle.mg_disk.specs.{Disk.{Image, Moment, At, Both, Alone, SameBut}, declared.memory.Event.Event}
+use Rattle.mg_disk.specs.{Disk.{Image, Moment, At, Both, Alone, SameBut, Time}, declared.memory.Event.Event}
 use Rattle.mg_disk.specs.declared.memory.Event.TheVariants.{Wrote, Synced}
 
 -- what the last good sync left, what reads give, and the places written since
@@ -37,3 +37,7 @@ abbrev pub LeftIn : Image → List Event → Moment → Image → Type 0
 LeftIn first events (At t) c = (k : ℕ) × (t ≤ k) × (k ≤ length events) × MayLeave (run (start first) (take k events)) c
 LeftIn first events (Both x y) c = ⊥
 LeftIn first events (Alone x) c = ⊥
+
+-- the time of such a disk
+abbrev pub time_of : Image → List Event → Time
+time_of first events = record { moment = At (length events); has_been = BeenIn events; left_since = LeftIn first events }

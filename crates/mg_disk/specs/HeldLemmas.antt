@@ -4,7 +4,7 @@ use Rattle.std.proofs.lemmas.List.{take-append-le, take_all, length-append, leng
 use Rattle.std.{proofs.lemmas.List.get_or-set_other, specs.Prelude.{◌≡◌, ◌≢◌, ◌⊎◌, ◌<◌, ◌≤◌, ℕ, List, [], ◌∷◌, ◌++◌}}
 use Rattle.std.specs.Prelude.{length, slice_set, Contains, Some}
 use Rattle.mg_disk.specs.Disk.{Image, block_at, Moment, At, Both, Alone, SameBut, only_place, GoesOn, no_image}
-use Rattle.mg_disk.specs.{Disk.{OnlySeen, TornAt}, Held.{BeenIn, Held, LeftIn, MayLeave, after, run, start}}
+use Rattle.mg_disk.specs.{Disk.{OnlySeen, TornAt}, Held.{BeenIn, Held, LeftIn, MayLeave, after, run, start, time_of}}
 use Rattle.mg_disk.specs.PlaceLemmas.{same_or_not, none_in_none, not_in_longer, nothing_differs}
 use Rattle.mg_disk.specs.declared.memory.Event.{Event, TheVariants.{Wrote, Synced}}
 
@@ -51,7 +51,7 @@ module _ (first : Image) (events : List Event) (e : Event) (F : Image → Type 0
           inl (l.0, (let a = l.1 in omega arith), k, subst (λ es. MayLeave (run (start first) es) c) (take-append-le l.0 events (e ∷ []) k) l.3)
 
   goes_more : ((c : Image) → MayLeave (after (run (start first) events) e) c → MayLeave (run (start first) events) c ⊎ F c)
-      → GoesOn (At (length events)) (At (length (events ++ e ∷ []))) (BeenIn events) (BeenIn (events ++ e ∷ [])) (LeftIn first events) (LeftIn first (events ++ e ∷ [])) F
+      → GoesOn (time_of first events) (time_of first (events ++ e ∷ [])) F
   goes_more new = record {
     begins = omega arith;
     past = past_more;
@@ -67,11 +67,11 @@ module _ (first : Image) (events : List Event) (e : Event) (F : Image → Type 0
       else_at new (Alone x) c was l = inl l
 
 with_these : (first first' : Image) (events events' : List Event) (e : Event) (F : Image → Type 0) → first' ≡ first → events' ≡ events ++ e ∷ []
-    → GoesOn (At (length events)) (At (length (events ++ e ∷ []))) (BeenIn events) (BeenIn (events ++ e ∷ [])) (LeftIn first events) (LeftIn first (events ++ e ∷ [])) F
-    → GoesOn (At (length events)) (At (length events')) (BeenIn events) (BeenIn events') (LeftIn first events) (LeftIn first' events') F
+    → GoesOn (time_of first events) (time_of first (events ++ e ∷ [])) F
+    → GoesOn (time_of first events) (time_of first' events') F
 with_these first first' events events' e F same more goes =
-    subst (λ f. GoesOn (At (length events)) (At (length events')) (BeenIn events) (BeenIn events') (LeftIn first events) (LeftIn f events') F) (sym same)
-    (subst (λ es. GoesOn (At (length events)) (At (length es)) (BeenIn events) (BeenIn es) (LeftIn first events) (LeftIn first es) F) (sym more) goes)
+    subst (λ f. GoesOn (time_of first events) (time_of f events') F) (sym same)
+    (subst (λ es. GoesOn (time_of first events) (time_of first es) F) (sym more) goes)
 
 -- what may be left after a write at i is an older image with any bytes there
 torn_of : (h : Held) (i : ℕ) (b : List ℕ) (c : Image) → i < length h.base → MayLeave (after h (Wrote i b)) c → (d : Image) × MayLeave h d × SameBut (only_place i) d c
@@ -95,7 +95,7 @@ torn_of h i b c inside may =
 
 -- a write
 pub wrote_goes : (first first' : Image) (events events' : List Event) (h : Held) (i : ℕ) (b : List ℕ) → run (start first) events ≡ h → i < length h.base → first' ≡ first → events' ≡ events ++ Wrote i b ∷ []
-    → GoesOn (At (length events)) (At (length events')) (BeenIn events) (BeenIn events') (LeftIn first events) (LeftIn first' events') (TornAt (only_place i) (LeftIn first events (At (length events))))
+    → GoesOn (time_of first events) (time_of first' events') (TornAt (only_place i) (LeftIn first events (At (length events))))
 wrote_goes first first' events events' h i b is inside same more =
     let F : Image → Type 0 = TornAt (only_place i) (LeftIn first events (At (length events))) in
     with_these first first' events events' (Wrote i b) F same more (goes_more first events (Wrote i b) F (λ c may. inr (step c may)))
@@ -108,7 +108,7 @@ wrote_goes first first' events events' h i b is inside same more =
 
 -- a good sync
 pub synced_goes : (first first' : Image) (events events' : List Event) (h : Held) → run (start first) events ≡ h → SameBut (Contains h.touched) h.base h.now → first' ≡ first → events' ≡ events ++ Synced ∷ []
-    → GoesOn (At (length events)) (At (length events')) (BeenIn events) (BeenIn events') (LeftIn first events) (LeftIn first' events') no_image
+    → GoesOn (time_of first events) (time_of first' events') no_image
 synced_goes first first' events events' h is pending same more =
     with_these first first' events events' Synced no_image same more (goes_more first events Synced no_image (λ c may. inl (step c (subst (λ x. MayLeave (after x Synced) c) is may))))
   where

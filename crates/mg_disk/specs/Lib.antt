@@ -1,6 +1,7 @@
 -- Definitions, in the order in which one reads them: what a disk promises, and the same in the words of the layers above.
 pub mod Disk
 pub mod Stops
+pub mod Reads
 pub mod Calls
 -- What the disks of this crate show.
 pub mod Blocks

@@ -1,38 +1,26 @@
 -- What the layers above say of a disk, each in one word. The trait's members are one value, `D.Disk` in a clause.
-use Rattle.std.specs.Prelude.{◌≡◌, ◌⊎◌, OnErr, Option, Result, None, Some}
+use Rattle.std.specs.Prelude.{◌≡◌, ◌⊎◌, OnErr, Result}
 use Rattle.mg_disk.specs.{Disk.{Image, GoesOn, no_image, OnlySeen}, declared.disk.Disk.Ghosts}
 use Rattle.mg_faults.specs.Faults.{CountGoesOn, Rose}
 
--- What reads give is told before and after and the two images are related, or it is told neither before nor after.
-abbrev pub Becomes : (Image → Image → Type 0) → Option Image → Option Image → Type 0
-Becomes R (Some old) (Some new) = R old new
-Becomes R None None = Unit {0}
-Becomes R _ _ = ⊥
-
 -- nothing is pending: a stop now leaves what reads give and nothing else
 abbrev pub NothingPending : {D : Type 0} → Ghosts D → D → Type 0
-NothingPending facts disk = OnlySeen (facts.seen disk) (facts.left_since disk (facts.moment disk))
-
--- the disk is settled at this image: reads give it, and a stop now leaves it and no other
-pub record StandsAt {D : Type 0} (facts : Ghosts D) (disk : D) (image : Image) : Type 0 where
-  pub told : facts.seen disk ≡ Some image
-  pub settled : NothingPending facts disk
+NothingPending facts disk = OnlySeen (facts.seen disk) ((facts.time disk).left_since (facts.time disk).moment)
 
 -- time continued from old to new, and these images are fresh
 abbrev pub TimeGoes : {D : Type 0} → Ghosts D → D → D → (Image → Type 0) → Type 0
 TimeGoes facts old new fresh =
-    GoesOn (facts.moment old) (facts.moment new) (facts.has_been old) (facts.has_been new)
-    (facts.left_since old) (facts.left_since new) fresh
+    GoesOn (facts.time old) (facts.time new) fresh
 
 -- at each moment since old, each image that a stop may leave has P
 pub record Leaves {D : Type 0} (facts : Ghosts D) (old new : D) (P : Image → Type 0) : Type 0 where
-  pub each : (c : Image) → facts.left_since new (facts.moment old) c → P c
+  pub each : (c : Image) → (facts.time new).left_since (facts.time old).moment c → P c
   -- for a run that began earlier
   pub time : TimeGoes facts old new P
 
 -- as a run began, a stop might have left this image
 abbrev pub MightHaveLeft : {D : Type 0} → Ghosts D → D → Image → Type 0
-MightHaveLeft facts old c = facts.left_since old (facts.moment old) c
+MightHaveLeft facts old c = (facts.time old).left_since (facts.time old).moment c
 
 -- so it might, or the image has P
 abbrev pub LeftOr : {D : Type 0} → Ghosts D → D → (Image → Type 0) → Image → Type 0
@@ -67,19 +55,3 @@ pub record DiskCalls {D T E : Type 0} (facts : Ghosts D) (old new : D) (result :
   pub count : CountGoes facts old new
   pub blocks : facts.block_count new ≡ facts.block_count old
   pub cause : OnErr result (CountRose facts old new)
-
--- calls that only read
-pub record OnlyReads {D T E : Type 0} (facts : Ghosts D) (old new : D) (result : Result T E) : Type 0 where
-  pub writes : WritesNothing facts old new
-  pub calls : DiskCalls facts old new result
-
--- the same if it failed in this case alone
-pub record OnlyReadsBy {D : Type 0} (facts : Ghosts D) (old new : D) (failed : Type 0) : Type 0 where
-  pub writes : WritesNothing facts old new
-  pub calls : DiskCallsBy facts old new failed
-
--- the same, with nothing said of an answer
-pub record OnlyRead {D : Type 0} (facts : Ghosts D) (old new : D) : Type 0 where
-  pub writes : WritesNothing facts old new
-  pub count : CountGoes facts old new
-  pub blocks : facts.block_count new ≡ facts.block_count old

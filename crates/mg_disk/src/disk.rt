@@ -2,7 +2,7 @@
 ghost use Rattle.std.specs.Prelude.{◌≡◌, ◌+◌, ◌<◌, ◌≤◌, ◌^◌, ℕ, Bool, IsTrue, Option, length, slice_set, option_map, OnOk, OnErr, IsSomeAnd};
 ghost use Rattle.std.specs.Option.{ForSome};
 ghost use Rattle.mg_faults.specs.Faults.{CountGoesOn, Rose};
-ghost use Rattle.mg_disk.specs.Disk.{Moment, Image, block_at, AreBytes, HasBlocks, InRange, SeenBut, only_place, GoesOn, no_image, TornAt, OnlySeen};
+ghost use Rattle.mg_disk.specs.Disk.{Moment, Time, Image, block_at, AreBytes, HasBlocks, InRange, SeenBut, only_place, GoesOn, no_image, TornAt, OnlySeen};
 
 use mg_faults::Failed;
 
@@ -32,15 +32,9 @@ pub trait Disk {
     /// Whether the disk tells which images a stop may leave.
     ghost tells_stops: { Self → Bool };
 
-    /// The moment now.
-    ghost moment: { Self → Moment };
-
-    /// The moments up to now.
-    ghost has_been: { Self → Moment → Type 0 };
-
-    /// A stop at some moment since that one may leave this image. There is no such image if the disk does not tell of stops,
-    /// nor since a moment of a form that the disk does not name.
-    ghost left_since: { Self → Moment → Image → Type 0 };
+    /// Its time: the moment now, the moments up to now, and what a stop may leave. A stop at some moment since one may leave
+    /// no image if the disk does not tell of stops, nor since a moment of a form that the disk does not name.
+    ghost time: { Self → Time };
 
     /// The count of faults.
     ghost faults: { Self → ℕ };
@@ -64,8 +58,7 @@ pub trait Disk {
         requires in_range { i < block_count self.old }
         ensures block { OnOk result (ForSome (seen self.old) (λ image. out.new ≡ block_at image i)) }
         ensures seen { seen self.new ≡ seen self.old }
-        ensures stops { GoesOn (moment self.old) (moment self.new) (has_been self.old) (has_been self.new)
-            (left_since self.old) (left_since self.new) no_image }
+        ensures stops { GoesOn (time self.old) (time self.new) no_image }
         ensures blocks { block_count self.new ≡ block_count self.old }
         ensures tells { tells_stops self.new ≡ tells_stops self.old }
         ensures count { CountGoesOn (faults self.old) (faults self.new) (is_spent self.old) (is_spent self.new) }
@@ -76,8 +69,7 @@ pub trait Disk {
         requires in_range { i < block_count self.old }
         ensures written { OnOk result (seen self.new ≡ option_map (λ image. slice_set image i from.now) (seen self.old)) }
         ensures unknown { OnErr result (SeenBut (only_place i) (seen self.old) (seen self.new)) }
-        ensures stops { GoesOn (moment self.old) (moment self.new) (has_been self.old) (has_been self.new)
-            (left_since self.old) (left_since self.new) (TornAt (only_place i) (left_since self.old (moment self.old))) }
+        ensures stops { GoesOn (time self.old) (time self.new) (TornAt (only_place i) ((time self.old).left_since (time self.old).moment)) }
         ensures blocks { block_count self.new ≡ block_count self.old }
         ensures tells { tells_stops self.new ≡ tells_stops self.old }
         ensures count { CountGoesOn (faults self.old) (faults self.new) (is_spent self.old) (is_spent self.new) }
@@ -92,8 +84,7 @@ pub trait Disk {
         ensures read { OnOk result (ForSome (seen self.old) (HasBlocks first out.new)) }
         ensures same_length { length out.new ≡ length out.old }
         ensures seen { seen self.new ≡ seen self.old }
-        ensures stops { GoesOn (moment self.old) (moment self.new) (has_been self.old) (has_been self.new)
-            (left_since self.old) (left_since self.new) no_image }
+        ensures stops { GoesOn (time self.old) (time self.new) no_image }
         ensures blocks { block_count self.new ≡ block_count self.old }
         ensures tells { tells_stops self.new ≡ tells_stops self.old }
         ensures count { CountGoesOn (faults self.old) (faults self.new) (is_spent self.old) (is_spent self.new) }
@@ -117,8 +108,7 @@ pub trait Disk {
         requires in_range { first + length from.now ≤ block_count self.old }
         ensures written { OnOk result (ForSome (seen self.new) (HasBlocks first from.now)) }
         ensures unknown { SeenBut (InRange first (length from.now)) (seen self.old) (seen self.new) }
-        ensures stops { GoesOn (moment self.old) (moment self.new) (has_been self.old) (has_been self.new)
-            (left_since self.old) (left_since self.new) (TornAt (InRange first (length from.now)) (left_since self.old (moment self.old))) }
+        ensures stops { GoesOn (time self.old) (time self.new) (TornAt (InRange first (length from.now)) ((time self.old).left_since (time self.old).moment)) }
         ensures blocks { block_count self.new ≡ block_count self.old }
         ensures tells { tells_stops self.new ≡ tells_stops self.old }
         ensures count { CountGoesOn (faults self.old) (faults self.new) (is_spent self.old) (is_spent self.new) }
@@ -136,27 +126,26 @@ pub trait Disk {
 
     /// After Ok a stop leaves what reads give. A sync that fails changes nothing.
     fn sync(&mut self) -> Result<(), Failed>
-        ensures durable { OnOk result (OnlySeen (seen self.new) (left_since self.new (moment self.new))) }
+        ensures durable { OnOk result (OnlySeen (seen self.new) ((time self.new).left_since (time self.new).moment)) }
         ensures seen { seen self.new ≡ seen self.old }
-        ensures stops { GoesOn (moment self.old) (moment self.new) (has_been self.old) (has_been self.new)
-            (left_since self.old) (left_since self.new) no_image }
+        ensures stops { GoesOn (time self.old) (time self.new) no_image }
         ensures blocks { block_count self.new ≡ block_count self.old }
         ensures tells { tells_stops self.new ≡ tells_stops self.old }
         ensures count { CountGoesOn (faults self.old) (faults self.new) (is_spent self.old) (is_spent self.new) }
         ensures cause { OnErr result (Rose (faults self.old) (faults self.new) (is_spent self.new)) };
 
     /// The moment now has been.
-    ghost now_has_been: { (disk : Self) → has_been disk (moment disk) };
+    ghost now_has_been: { (disk : Self) → (time disk).has_been (time disk).moment };
 
     /// What a stop may leave now, it may leave since any earlier moment.
-    ghost counts_now: { (disk : Self) (t : Moment) (c : Image) → has_been disk t → left_since disk (moment disk) c → left_since disk t c };
+    ghost counts_now: { (disk : Self) (t : Moment) (c : Image) → (time disk).has_been t → (time disk).left_since (time disk).moment c → (time disk).left_since t c };
 
     /// What reads give is one of the images that a stop may leave now. So a disk that tells of stops also tells what reads
     /// give.
-    ghost seen_may_stay: { (disk : Self) → IsTrue (tells_stops disk) → IsSomeAnd (seen disk) (left_since disk (moment disk)) };
+    ghost seen_may_stay: { (disk : Self) → IsTrue (tells_stops disk) → IsSomeAnd (seen disk) ((time disk).left_since (time disk).moment) };
 
     /// If the disk does not tell of stops, no image may be left.
-    ghost only_told: { (disk : Self) (t : Moment) (c : Image) → left_since disk t c → IsTrue (tells_stops disk) };
+    ghost only_told: { (disk : Self) (t : Moment) (c : Image) → (time disk).left_since t c → IsTrue (tells_stops disk) };
 
     /// What reads give has `block_count` blocks.
     ghost seen_count: { (disk : Self) → ForSome (seen disk) (λ image. length image ≡ block_count disk) };

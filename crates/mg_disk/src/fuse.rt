@@ -52,11 +52,7 @@ impl<D: Disk> Disk for Fuse<D> {
 
     ghost tells_stops = { λ f. D.Disk.tells_stops f.inner };
 
-    ghost moment = { λ f. D.Disk.moment f.inner };
-
-    ghost has_been = { λ f. D.Disk.has_been f.inner };
-
-    ghost left_since = { λ f. D.Disk.left_since f.inner };
+    ghost time = { λ f. D.Disk.time f.inner };
 
     ghost faults = { λ f. f.count };
 

@@ -3,7 +3,7 @@ ghost use Rattle.std.specs.Prelude.{◌≡◌, ◌+◌, ◌<◌, ◌≤◌, ◌+
 ghost use Rattle.mg_faults.specs.Faults.{CountGoesOn, Rose, is_last};
 ghost use Rattle.mg_disk.specs.Disk.{SameBut, At, AreBytes};
 ghost use Rattle.mg_disk.specs.Blocks.{told_count, told_bytes, zeros_of, gates_block};
-ghost use Rattle.mg_disk.specs.Stops.{StandsAt};
+ghost use Rattle.mg_disk.specs.Reads.{StandsAt};
 ghost use Rattle.mg_disk.specs.Held.{run, start, BeenIn, LeftIn};
 ghost use Rattle.mg_disk.specs.HeldLemmas.{been_now, counted_now, seen_stays};
 
@@ -132,7 +132,7 @@ impl MemDisk {
     /// A new disk with an image that a stop now may leave of this one, with the same room and no call that fails by its
     /// number.
     pub fn stopped(&self, alloc: Global, left: Left) -> Result<MemDisk, AllocError>
-        ensures may_be_left { IfOk result (λ disk. ⟦<MemDisk as Disk>⟧.left_since self.now (⟦<MemDisk as Disk>⟧.moment self.now) (content_of disk)) }
+        ensures may_be_left { IfOk result (λ disk. (⟦<MemDisk as Disk>⟧.time self.now).left_since (⟦<MemDisk as Disk>⟧.time self.now).moment (content_of disk)) }
         ensures left { IfOk result (λ disk. IsLeft left self.now (content_of disk)) }
         ensures stands { IfOk result (λ disk. StandsAt ⟦<MemDisk as Disk>⟧ disk (content_of disk)) }
         ensures blocks { IfOk result (λ disk. ⟦<MemDisk as Disk>⟧.block_count disk ≡ ⟦<MemDisk as Disk>⟧.block_count self.now) }
@@ -236,11 +236,7 @@ impl Disk for MemDisk {
 
     ghost tells_stops = { λ _. true };
 
-    ghost moment = { λ d. At (length d.events.items) };
-
-    ghost has_been = { λ d. BeenIn d.events.items };
-
-    ghost left_since = { λ d. LeftIn d.first.items d.events.items };
+    ghost time = { λ d. time_of d.first.items d.events.items };
 
     ghost faults = { λ d. d.count };
 

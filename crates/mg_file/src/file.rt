@@ -425,11 +425,7 @@ where
 
     ghost tells_stops = { λ _. false };
 
-    ghost moment = { λ _. At 0 };
-
-    ghost has_been = { λ _ _. Unit {0} };
-
-    ghost left_since = { λ _ _ _. ⊥ };
+    ghost time = { λ _. record { moment = At 0; has_been = λ _. Unit {0}; left_since = λ _ _. ⊥ } };
 
     ghost faults = { λ d. d.count };
 

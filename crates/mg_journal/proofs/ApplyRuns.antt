@@ -1,6 +1,6 @@
 -- Bodies that are read together, and homes that are written together.
 use Rattle.mg_disk.specs.{BecomesLemmas.{becomes-kept, becomes-seen, becomes-then}, Disk.{HasBlocks, Image, InRange, SameBut, SeenBut, block_at}}
-use Rattle.mg_disk.specs.{Disk.no_image, PlaceLemmas.same_after, Runs.{Tracks, quiet}, Stops.{Becomes, Leaves, NothingPending, TimeGoes}}
+use Rattle.mg_disk.specs.{Disk.no_image, PlaceLemmas.same_after, Reads.Becomes, Runs.{Tracks, quiet}, Stops.{Leaves, NothingPending, TimeGoes}}
 use Rattle.{mg_disk.specs.declared.disk.Disk.Ghosts, mg_journal.{proofs.ApplySteps.{filled_more, named_place}, specs.Applied.{AreInRow, HasBodies}}}
 use Rattle.mg_journal.specs.{Applied.{HasRun, filled, nth_body, nth_home}, Contents.names, Places.IsPlace, WrittenLemmas.written_elsewhere}
 use Rattle.{mg_model.specs.{Layout.globals_block, Replay.written}, std.proofs.Common.{refl, sym, ap, subst, ◌∙◌, ⊎_elim, arith}}

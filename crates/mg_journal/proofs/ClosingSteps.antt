@@ -1,6 +1,6 @@
 -- Lemmas on the closing of gates.
 use Rattle.mg_disk.specs.{BecomesLemmas.{becomes-of, becomes-same, becomes-then, becomes-to, becomes-wider}, Disk.{Image, only_place}}
-use Rattle.mg_disk.specs.{PlaceLemmas.same_as, Runs.{leaves_then, leaves_yet, only_image}, Stops.{Becomes, Leaves, NothingPending}}
+use Rattle.mg_disk.specs.{PlaceLemmas.same_as, Reads.Becomes, Runs.{leaves_then, leaves_yet, only_image}, Stops.{Leaves, NothingPending}}
 use Rattle.{mg_disk.specs.declared.disk.Disk.Ghosts, mg_journal.{proofs.{CommitSteps.same_then, Homes.first_gate_torn}, specs.Contents.InJournal}}
 use Rattle.mg_journal.specs.{JournalLemmas.{same_gate, same_wider}, Recovery.{AreOpen, ClosedOne, ClosesUpTo, IsClosedUpTo, IsStill, MayCloseOne}}
 use Rattle.{mg_journal.specs.Recovery.StaysStill, mg_model.specs.{Layout.{segment_count, segment_gate}, Replay.{is_open, replay}}}
@@ -58,7 +58,7 @@ none_closed old now same = becomes-same (ClosesUpTo 0) old now same (λ a told t
 
 module _ {D : Type 0} (facts : Ghosts D) (total : ℕ) (a : Image) (old : D) (told : facts.seen old ≡ Some a) (own : replay a total ≡ Some a) where
   -- what a stop left, before the first gate is closed and after one more
-  pub begin_run : facts.has_been old (facts.moment old) → NothingPending facts old → Leaves facts old old (IsStill total a)
+  pub begin_run : (facts.time old).has_been (facts.time old).moment → NothingPending facts old → Leaves facts old old (IsStill total a)
   begin_run been pending = leaves_yet facts old (IsStill total a) been (λ c left. subst (IsStill total a) (sym (only_image facts old a c (record { told = told; settled = pending }) left)) (here_still total a own))
 
   pub close_run : (s : ℕ) (mid new : D) → s < segment_count → Becomes (ClosesUpTo s) (facts.seen old) (facts.seen mid) → Leaves facts old mid (IsStill total a) → ForSome (facts.seen mid) (λ b. Leaves facts mid new (MayCloseOne s b))

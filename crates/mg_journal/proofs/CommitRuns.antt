@@ -1,6 +1,6 @@
 -- Lemmas on what a stop may leave over the phases of a commit.
-use Rattle.mg_disk.specs.{BecomesLemmas.{becomes-then, becomes-to}, Disk.{Image, SameBut, SeenBut, only_place}, Runs.{leaves_then, leaves_wider}}
-use Rattle.mg_disk.specs.{Runs.{leaves_yet, only_image}, Stops.{Becomes, Leaves, NothingPending}, declared.disk.Disk.Ghosts}
+use Rattle.mg_disk.specs.{BecomesLemmas.{becomes-then, becomes-to}, Disk.{Image, SameBut, SeenBut, only_place}, Reads.Becomes, Runs.leaves_then}
+use Rattle.mg_disk.specs.{Runs.{leaves_wider, leaves_yet, only_image}, Stops.{Leaves, NothingPending}, declared.disk.Disk.Ghosts}
 use Rattle.mg_journal.{proofs.CommitSteps.{bodies_may, either_then, gate_may, new_then}, specs.Contents.{InJournal, NewContents, SameContents}}
 use Rattle.{mg_journal.specs.{Phases.{HoldsWrites, IsBehind, IsNext}, Standing.OldOrNew}, mg_model.specs.Layout.{body_limit, segment_count}}
 use Rattle.{mg_model.specs.{Layout.segment_gate, Replay.{homes_fit, is_open, replay, written}}, std.proofs.Common.{refl, sym, subst, inl, arith}}
@@ -38,12 +38,12 @@ pub new_itself : (total : ℕ) (a : Image) → NewContents total a [] a
 new_itself total a = no_writes InJournal (replay a total)
 
 -- when no call was made
-pub yet_same : {D : Type 0} (facts : Ghosts D) (total : ℕ) (disk : D) (a : Image) → facts.has_been disk (facts.moment disk) → facts.seen disk ≡ Some a → NothingPending facts disk → Leaves facts disk disk (SameContents total a)
+pub yet_same : {D : Type 0} (facts : Ghosts D) (total : ℕ) (disk : D) (a : Image) → (facts.time disk).has_been (facts.time disk).moment → facts.seen disk ≡ Some a → NothingPending facts disk → Leaves facts disk disk (SameContents total a)
 yet_same facts total disk a been told pending =
     leaves_yet facts disk (SameContents total a) been
     (λ c left. subst (SameContents total a) (sym (only_image facts disk a c (record { told = told; settled = pending }) left)) (same_itself total a))
 
-pub yet : {D : Type 0} (facts : Ghosts D) (total : ℕ) (writes : List (ℕ × List ℕ)) (disk : D) (a : Image) → facts.has_been disk (facts.moment disk) → facts.seen disk ≡ Some a → NothingPending facts disk → Leaves facts disk disk (OldOrNew total writes a)
+pub yet : {D : Type 0} (facts : Ghosts D) (total : ℕ) (writes : List (ℕ × List ℕ)) (disk : D) (a : Image) → (facts.time disk).has_been (facts.time disk).moment → facts.seen disk ≡ Some a → NothingPending facts disk → Leaves facts disk disk (OldOrNew total writes a)
 yet facts total writes disk a been told pending = leaves_wider facts disk disk (SameContents total a) (OldOrNew total writes a) (yet_same facts total disk a been told pending) (λ c same. inl same)
 
 -- a segment that is written after a checkpoint, or after no call

@@ -1,6 +1,6 @@
 -- Lemmas on the phases of a commit: what is in a segment once its index and its bodies are written.
 use Rattle.mg_disk.specs.{BecomesLemmas.{becomes-kept, becomes-seen, becomes-wider}, Disk.{HasBlocks, Image, InRange, SameBut, SeenBut, block_at}}
-use Rattle.{mg_disk.specs.Stops.Becomes, mg_journal.specs.{JournalLemmas.same_wider, Phases.{HoldsWrites, IsBehind}, Staged.{IsRunOf, bytes_of}}}
+use Rattle.{mg_disk.specs.Reads.Becomes, mg_journal.specs.{JournalLemmas.same_wider, Phases.{HoldsWrites, IsBehind}, Staged.{IsRunOf, bytes_of}}}
 use Rattle.{mg_journal.specs.Staged.home_at, mg_model.specs.{Abbreviations.writes_from, Bytes.number_at, Layout.{body_limit, segment_body}}}
 use Rattle.{mg_model.specs.{Layout.{segment_count, segment_index}, Replay.{body_count, home_of}}, std.proofs.Common.{refl, ap, ◌∙◌, arith}}
 use Rattle.std.specs.{Option.ForSome, Prelude.{◌≡◌, ◌+◌, ◌*◌, ◌≤◌, ◌<◌, ℕ, zero, suc, List, [], ◌∷◌, length, Option}}

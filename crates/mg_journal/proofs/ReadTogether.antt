@@ -1,7 +1,7 @@
 -- How blocks that were read together become those of the contents, one after the other.
-use Rattle.mg_disk.specs.{Disk.{Image, block_at}, PlaceLemmas.{HasFirst, same_or_not}, Runs.nothing_then, Stops.{CountGoes, OnlyReads, WritesNothing}}
-use Rattle.{mg_disk.specs.declared.disk.Disk.Ghosts, mg_faults.specs.Faults.count_then, mg_model.specs.Replay.replay, std.proofs.Common.{sym, subst}}
-use Rattle.std.{proofs.{Common.{◌∙◌, arith, ⊎_elim}, lemmas.List.{length-set, get_or-set_same, get_or-set_other}}, specs.Option.ForSome}
+use Rattle.mg_disk.specs.{Disk.{Image, block_at}, PlaceLemmas.{HasFirst, same_or_not}, Reads.OnlyReads, Runs.nothing_then, Stops.CountGoes}
+use Rattle.{mg_disk.specs.{Stops.WritesNothing, declared.disk.Disk.Ghosts}, mg_faults.specs.Faults.count_then, mg_model.specs.Replay.replay}
+use Rattle.std.{proofs.{Common.{sym, subst, ◌∙◌, arith, ⊎_elim}, lemmas.List.{length-set, get_or-set_same, get_or-set_other}}, specs.Option.ForSome}
 use Rattle.std.specs.Prelude.{◌≡◌, ◌≢◌, ◌+◌, ◌<◌, ◌≤◌, ℕ, [], List, Result, length, slice_set}
 
 -- the blocks from the n-th on are those at their homes

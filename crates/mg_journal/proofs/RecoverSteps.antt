@@ -1,5 +1,5 @@
 -- The images of a recovery: homes are written, and then gates are closed.
-use Rattle.mg_disk.specs.{BecomesLemmas.{becomes-changed, becomes-then}, Disk.{Image, SameBut}, PlaceLemmas.same_as, Stops.Becomes}
+use Rattle.mg_disk.specs.{BecomesLemmas.{becomes-changed, becomes-then}, Disk.{Image, SameBut}, PlaceLemmas.same_as, Reads.Becomes}
 use Rattle.mg_journal.{proofs.Homes.{homes_torn, homes_written, since-behind}, specs.{Applied.filled, Contents.{InJournal, SameContents, names}}}
 use Rattle.mg_journal.specs.{JournalLemmas.{open_writes, replay-some, same_gate, same_wider, seen_both}, Recovery.{AreOpen, ClosesUpTo, IsClosedUpTo}}
 use Rattle.mg_journal.specs.{Recovery.{IsRecovered, IsStill, Settles, StaysStill}, WrittenLemmas.written_elsewhere}

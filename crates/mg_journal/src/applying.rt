@@ -3,7 +3,8 @@ ghost use Rattle.std.specs.Prelude.{◌≡◌, ◌≤◌, ◌<◌, ◌+◌, ℕ,
 ghost use Rattle.std.specs.Option.{ForSome};
 ghost use Rattle.mg_disk.specs.Disk.{SameBut};
 ghost use Rattle.mg_disk.specs.Runs.{Tracks};
-ghost use Rattle.mg_disk.specs.Stops.{Becomes, DiskCalls, Leaves, NothingPending, OnlyReads};
+ghost use Rattle.mg_disk.specs.Stops.{DiskCalls, Leaves, NothingPending};
+ghost use Rattle.mg_disk.specs.Reads.{Becomes, OnlyReads};
 ghost use Rattle.mg_model.specs.Layout.{body_limit, globals_block};
 ghost use Rattle.mg_model.specs.Replay.{written};
 ghost use Rattle.mg_journal.specs.Applied.{AreInRow, HasBodies, HasRun, filled, nth_body};

@@ -2,7 +2,7 @@
 ghost use Rattle.std.specs.Prelude.{◌≡◌, ◌≤◌, ◌<◌, ◌+◌, ◌&&◌, All, IfOk, OnErr, OnOk, false, length, nat_le, nat_lt, true};
 ghost use Rattle.std.specs.Option.{ForSome};
 ghost use Rattle.mg_disk.specs.Disk.{Image, block_at};
-ghost use Rattle.mg_disk.specs.Stops.{OnlyReads, OnlyReadsBy};
+ghost use Rattle.mg_disk.specs.Reads.{OnlyReads, OnlyReadsBy};
 ghost use Rattle.mg_model.specs.Layout.{body_limit, globals_block, segment_count, segment_index};
 ghost use Rattle.mg_model.specs.Replay.{body_count, is_open, segment_fits};
 ghost use Rattle.mg_journal.specs.Contents.{bodies_fit};

@@ -1,7 +1,8 @@
 // Recovery: what open segments hold is written to its homes, and then the gates are closed.
 ghost use Rattle.std.specs.Prelude.{◌≡◌, ◌≤◌, ◌<◌, ℕ, OnOk, Some, true};
 ghost use Rattle.std.specs.Option.{ForSome};
-ghost use Rattle.mg_disk.specs.Stops.{Becomes, DiskCalls, Leaves, LeftOr, NothingPending};
+ghost use Rattle.mg_disk.specs.Stops.{DiskCalls, Leaves, LeftOr, NothingPending};
+ghost use Rattle.mg_disk.specs.Reads.{Becomes};
 ghost use Rattle.mg_model.specs.Layout.{globals_block, segment_count};
 ghost use Rattle.mg_model.specs.Replay.{is_open, replay};
 ghost use Rattle.mg_journal.specs.Contents.{SameContents};

@@ -2,7 +2,8 @@
 ghost use Rattle.std.specs.Prelude.{◌≡◌, ◌≤◌, ◌<◌, OnOk, length};
 ghost use Rattle.std.specs.Option.{ForSome};
 ghost use Rattle.mg_disk.specs.Disk.{SameBut};
-ghost use Rattle.mg_disk.specs.Stops.{Becomes, DiskCalls, Leaves, NothingPending};
+ghost use Rattle.mg_disk.specs.Stops.{DiskCalls, Leaves, NothingPending};
+ghost use Rattle.mg_disk.specs.Reads.{Becomes};
 ghost use Rattle.mg_model.specs.Layout.{body_limit, globals_block, segment_count};
 ghost use Rattle.mg_journal.specs.Phases.{HoldsWrites, IsBehind};
 

@@ -2,7 +2,8 @@
 ghost use Rattle.std.specs.Prelude.{◌≡◌, ◌≤◌, ◌<◌, ◌+◌, [], IfOk, IsOk, IsSome, None, OnOk, is_ok, length, true};
 ghost use Rattle.std.specs.Option.{ForSome};
 ghost use Rattle.mg_disk.specs.Disk.{block_at};
-ghost use Rattle.mg_disk.specs.Stops.{Becomes, DiskCalls, DiskCallsBy, Leaves, LeftOr, NothingPending, OnlyReads, WritesNothing};
+ghost use Rattle.mg_disk.specs.Stops.{DiskCalls, DiskCallsBy, Leaves, LeftOr, NothingPending, WritesNothing};
+ghost use Rattle.mg_disk.specs.Reads.{Becomes, OnlyReads};
 ghost use Rattle.mg_model.specs.Layout.{body_limit, globals_block, segment_body, segment_count};
 ghost use Rattle.mg_model.specs.Replay.{homes_fit, replay};
 ghost use Rattle.mg_journal.specs.Contents.{SameContents};

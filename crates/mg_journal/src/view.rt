@@ -2,7 +2,8 @@
 ghost use Rattle.std.specs.Prelude.{◌≡◌, ◌+◌, ◌≤◌, ◌<◌, [], All, IfOk, IsSome, None, OnOk, length, option_map, true};
 ghost use Rattle.std.specs.Option.{ForSome};
 ghost use Rattle.mg_disk.specs.Disk.{HasBlocks, SameBut, block_at};
-ghost use Rattle.mg_disk.specs.Stops.{Becomes, DiskCalls, Leaves, NothingPending, OnlyReads, OnlyReadsBy};
+ghost use Rattle.mg_disk.specs.Stops.{DiskCalls, Leaves, NothingPending};
+ghost use Rattle.mg_disk.specs.Reads.{Becomes, OnlyReads, OnlyReadsBy};
 ghost use Rattle.mg_model.specs.Layout.{globals_block, segment_count};
 ghost use Rattle.mg_model.specs.Replay.{homes_fit, replay, written};
 ghost use Rattle.mg_journal.specs.Applied.{filled};

@@ -1,12 +1,12 @@
 -- What a call that needs no right keeps and costs.
 use Rattle.{mg_access.specs.Served.CallServes, mg_disk.specs.declared.disk.Disk.Ghosts, mg_kernel.{proofs.Counted.no-keys, specs.Calls.KeepsCall}}
 use Rattle.{mg_kernel.specs.{Calls.of_living, Unasked.{EndsUnasked, asks_nothing}}, mg_laws.specs.Backing.CallsKeepBacked}
-use Rattle.mg_model.specs.{Accesses.{call_accesses, call_words}, Backed.{KeepsBacked, by_thread, ended_by_call}, Kept.KeepsKeys, Refused.Answer}
-use Rattle.mg_model.specs.{Refused.IsRefusal, State.State, Turn.thread_call, Warmth.{disturbs, is_ok}, declared.calls.Call.Call}
-use Rattle.{mg_model.specs.declared.{replies.Reply.Reply, seats.Seat.Seat}, mg_vcache.specs.SeatLemmas.{drops_backed, drops_none, same_backed}}
-use Rattle.{mg_vcache.specs.Seats.{AllBacked, is_kept}, mg_volume.specs.{Calls.{Answers, CallStages, IsSoundOn}, Held.VolumeHeld, Meaning.now_of}}
-use Rattle.{mg_volume.specs.{Meaning.staged_in, RunLemmas.{serves_wider, stages_serve}}, std.proofs.Common.{refl, sym, ap, arith, subst, ◌∙◌}}
-use Rattle.std.specs.{Option.ForSome, Prelude.{◌≡◌, ◌&&◌, ℕ, Bool, true, false, List, [], Option, Ok}}
+use Rattle.mg_model.specs.{Accesses.{call_accesses, call_words}, Backed.{KeepsBacked, by_thread, ended_by_call}, FewSlots.IsRefusal, Kept.KeepsKeys}
+use Rattle.mg_model.specs.{Refused.Answer, State.State, Turn.thread_call, Warmth.{disturbs, is_ok}, declared.{calls.Call.Call, replies.Reply.Reply}}
+use Rattle.{mg_model.specs.declared.seats.Seat.Seat, mg_vcache.specs.{SeatLemmas.{drops_backed, drops_none, same_backed}, Seats.{AllBacked, is_kept}}}
+use Rattle.mg_volume.specs.{Calls.{Answers, CallStages, IsSoundOn}, Held.VolumeHeld, Meaning.{now_of, staged_in}, RunLemmas.serves_wider}
+use Rattle.{mg_volume.specs.RunLemmas.stages_serve, std.{proofs.Common.{refl, sym, ap, arith, subst, ◌∙◌}, specs.{Option.ForSome, Prelude.◌≡◌}}}
+use Rattle.std.specs.Prelude.{◌&&◌, ℕ, Bool, true, false, List, [], Option, Ok}
 use Rattle.mg_model.specs.declared.calls.Call.TheVariants as call
 
 -- it makes no access, and has no word
@@ -76,7 +76,7 @@ module _ (state : State) (t : ℕ) (seats seats' : List (Option Seat)) (reply : 
 
 -- what it keeps in all; no call of the disk is made
 pub unasked-serves :
-    {D E : Type 0} (facts : Ghosts D) (old new : VolumeHeld) (seats seats' : List (Option Seat)) (disk : D) (steps : ℕ) (reply : Reply) (t : ℕ) (made : Call) → asks_nothing made ≡ true → facts.has_been disk (facts.moment disk) → IsSoundOn facts old disk
+    {D E : Type 0} (facts : Ghosts D) (old new : VolumeHeld) (seats seats' : List (Option Seat)) (disk : D) (steps : ℕ) (reply : Reply) (t : ℕ) (made : Call) → asks_nothing made ≡ true → (facts.time disk).has_been (facts.time disk).moment → IsSoundOn facts old disk
     → CallsKeepBacked (λ state t made. (thread_call state t made).0) → ForSome (facts.seen disk) (λ image. AllBacked (now_of old image) seats) → CallStages (Answers (λ state. thread_call state t made)) 3 old new reply → EndsUnasked t made seats seats' reply
     → CallServes {E = E} 130 facts (of_living t made) (Ok reply) old new seats seats' disk disk steps steps
 unasked-serves facts old new seats seats' disk steps reply t made asks been sound keep backed does ends =

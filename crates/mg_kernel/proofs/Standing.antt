@@ -1,5 +1,5 @@
 -- How a kernel stands on a disk, from what is known of its volume.
-use Rattle.mg_disk.specs.{BecomesLemmas.becomes-of, Disk.{AreBytes, Image}, Stops.{Becomes, WritesNothing}, declared.disk.Disk.Ghosts}
+use Rattle.mg_disk.specs.{BecomesLemmas.becomes-of, Disk.{AreBytes, Image}, Reads.Becomes, Stops.WritesNothing, declared.disk.Disk.Ghosts}
 use Rattle.mg_kernel.specs.{Meaning.{IsSpelledBy, StandsOn, now_of, seats_in, total_of}, declared.kernel.Kernel.Kernel}
 use Rattle.mg_model.specs.{Refused.Answer, Step.step, WellFormed.{IsInRange, IsWellFormed, KeepsWellFormed}, declared.calls.Line.Line}
 use Rattle.{mg_model.specs.declared.{replies.Reply.Reply, seats.Seat.Seat}, mg_vcache.specs.Seats.AllBacked, mg_volume.specs.Calls.IsSoundOn}

@@ -3,8 +3,8 @@ use Rattle.std.specs.{Option.ForSome, Prelude.{ℕ, ◌≡◌, ◌≤◌, ◌+�
 use Rattle.{mg_disk.specs.{Stops.WritesNothing, declared.disk.Disk.Ghosts}, mg_kernel.specs.Meaning.{StandsOn, is_live}}
 use Rattle.mg_kernel.specs.Meaning.{keeps_key, knows, now_of, seats_in, staged_in, words_in}
 use Rattle.{mg_kernel.specs.declared.kernel.Kernel.Kernel, mg_model.specs.{Accesses.Access, Counts.CountsAlike}}
-use Rattle.mg_model.specs.{FewSlots.HasFewSlots, Kept.{KeepsLine, Validates, access_limit, line_limit}}
-use Rattle.mg_model.specs.{Refused.IsRefusal, Step.step, declared.{calls.Line.Line, replies.Reply.Reply}}
+use Rattle.mg_model.specs.{FewSlots.{HasFewSlots, IsRefusal}, Kept.{KeepsLine, Validates, access_limit, line_limit}}
+use Rattle.mg_model.specs.{Step.step, declared.{calls.Line.Line, replies.Reply.Reply}}
 
 -- Whatever comes of a call: nothing was written, and the kernel serves on.
 pub record Serves {D : Type 0} (facts : Ghosts D) (k k' : Kernel) (disk disk' : D) (steps steps' : ℕ) : Type 0 where

@@ -1,7 +1,7 @@
 -- What a kernel says of lines that it stepped, beside what it says and keeps.
 use Rattle.std.specs.Prelude.{ℕ, ◌≤◌, ◌+◌, List, []}
 use Rattle.{mg_disk.specs.Disk.Image, mg_kernel.specs.{Meaning.{keeps_key, now_of}, declared.kernel.Kernel.Kernel}}
-use Rattle.mg_model.specs.{Kept.KeepsWarm, Warmth.{cost, events}, declared.calls.Line.Line}
+use Rattle.mg_model.specs.{Events.events, Kept.KeepsWarm, Warmth.cost, declared.calls.Line.Line}
 
 -- each key is kept that would be warm, and the counter rose by no more than the lines cost
 pub record IsStepped (old : Kernel) (first : Image) (ls : List Line) (steps steps' : ℕ) (new : Kernel) : Type 0 where

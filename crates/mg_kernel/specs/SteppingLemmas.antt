@@ -3,9 +3,9 @@ use Rattle.std.{proofs.Common.{refl, sym, ap, ◌∙◌, arith, subst}, specs.Pr
 use Rattle.std.specs.Prelude.{◌++◌, Option}
 use Rattle.{mg_disk.specs.Disk.Image, mg_kernel.specs.{Meaning.{keeps_key, now_of, same_keys, seats_in}, Opening.Holds}}
 use Rattle.mg_kernel.specs.{Stepping.{IsSpent, IsStepped}, declared.kernel.Kernel.Kernel}
-use Rattle.{mg_laws.specs.Costs.{CostsGoOn, EventsGoOn, LimitsWithinCost, StaysWarm}, mg_model.specs.Kept.KeepsLine}
-use Rattle.mg_model.specs.{Kept.{KeepsWarm, line_limit}, Keys.Key, Print.{replies_text, reply_line}, Refused.Answer}
-use Rattle.mg_model.specs.{State.State, Step.{after, step}, Warmth.{Event, cost, events, line_cost}}
+use Rattle.{mg_laws.specs.Costs.{CostsGoOn, EventsGoOn, LimitsWithinCost, StaysWarm}, mg_model.specs.Events.events}
+use Rattle.mg_model.specs.{Kept.{KeepsLine, KeepsWarm, line_limit}, Keys.Key, Print.{replies_text, reply_line}}
+use Rattle.mg_model.specs.{Refused.Answer, State.State, Step.{after, step}, Warmth.{Event, cost, line_cost}}
 use Rattle.{mg_model.specs.declared.{calls.Line.Line, replies.Reply.Reply}, mg_serve.specs.Machines.AnswersLine}
 use Rattle.mg_serve.specs.Machines.{Commits}
 

@@ -1,10 +1,10 @@
 -- From lines to a session: keys that would be warm are kept, so each line stays within its cost, and costs add up.
 use Rattle.mg_laws.{proofs.{KeysSeats.last_is_kept, KeysTaken.{last-recent, recent-last}}, specs.Costs.{BeginsWarm, BoundedByCost, CostsAddUp}}
 use Rattle.{mg_laws.specs.Costs.{CostsGoOn, EventsGoOn, LimitsWithinCost, PrefixesCostLess, StaysWarm}, mg_model.specs.Accesses.Access}
-use Rattle.mg_model.specs.{Kept.{Follows, KeepsWarm, is_served, line_limit}, Keys.{Key, first_at, seat_of}, State.State, Step.step, Warmth.Event}
-use Rattle.mg_model.specs.{Warmth.{cost, cost_behind, events, failing, is_disturbing, is_warm, recent, keys_taken_in}, declared.calls.Line.Line}
-use Rattle.std.proofs.{Common.{ℕ, ◌≡◌, ◌≤◌, ◌+◌, Bool, true, false, List, [], ◌∷◌, ◌++◌, Some, refl, sym, ap, ◌∙◌, arith}, lemmas.Bool.and_from}
-use Rattle.std.proofs.lemmas.{Bool.{and_parts, cond-false, cond-true, false≢true}, Option.none-some}
+use Rattle.mg_model.specs.{Events.{events, keys_taken_in}, Kept.{Follows, KeepsWarm, is_served, line_limit}, Keys.{Key, first_at, seat_of}}
+use Rattle.mg_model.specs.{State.State, Step.step, Warmth.{Event, cost, cost_behind, failing, is_disturbing, is_warm, recent}}
+use Rattle.{mg_model.specs.declared.calls.Line.Line, std.proofs.Common.{ℕ, ◌≡◌, ◌≤◌, ◌+◌, Bool, true, false, List, [], ◌∷◌, ◌++◌, Some, refl, sym}}
+use Rattle.std.proofs.{Common.{ap, ◌∙◌, arith}, lemmas.{Bool.{and_from, and_parts, cond-false, cond-true, false≢true}, Option.none-some}}
 
 -- Kept keys
 

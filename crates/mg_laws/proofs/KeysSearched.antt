@@ -1,7 +1,7 @@
 -- From one access to a line: accesses one after another, each with its own rule, keep the rules of a line.
 use Rattle.mg_laws.{proofs.KeysSeats.{has_seat-append, is_key-same, last_is_kept}, specs.Costs.{LimitGoesOn, RulesGoOn, SearchesGoOn}}
 use Rattle.{mg_laws.specs.Costs.SearchesKeepRules, mg_model.specs.{Abbreviations.is_allowed, Accesses.Access, Kept.{KeepsKeys, Searches, Validates}}}
-use Rattle.mg_model.specs.{Kept.{is_known, is_served, searches_limit}, Keys.{Key, first_at, has_seat, is_elsewhere, key_of, seat_of, key_taken}}
+use Rattle.mg_model.specs.{Kept.{is_known, is_served, searches_limit, is_elsewhere}, Keys.{Key, first_at, has_seat, key_of, seat_of, key_taken}}
 use Rattle.{mg_model.specs.{Keys.keys_taken, Limits.search_limit, State.State, Warmth.failing}, std.proofs.Common.{ℕ, ◌≡◌, ◌≤◌, ◌+◌, ◌*◌, Bool, true}}
 use Rattle.std.proofs.{Common.{false, cond, List, [], ◌∷◌, ◌++◌, Option, Some, None, refl, sym, ap, ◌∙◌, arith, append-nil}, lemmas.Bool.and_from}
 use Rattle.std.{proofs.lemmas.{Bool.{and_parts, cond_both, false≢true}, Option.none-some}, specs.Option.option_to_list}

@@ -1,5 +1,5 @@
 -- Keys, and the one seat that each can have: which of some keys has a seat now.
-use Rattle.mg_model.specs.{Keys.{Key, first_at, has_seat, is_elsewhere, is_key, seat_of}, Rights.right_number, declared.rights.Right.Right}
+use Rattle.mg_model.specs.{Kept.is_elsewhere, Keys.{Key, first_at, has_seat, is_key, seat_of}, Rights.right_number, declared.rights.Right.Right}
 use Rattle.{mg_model.specs.declared.rights.Right.TheVariants.{R, W, X, D, P, O}, std.proofs.Common.{arith, ℕ, zero, suc, ◌≡◌, ◌||◌, Bool, true}}
 use Rattle.std.proofs.{Common.{false, not, eqb, List, [], ◌∷◌, ◌++◌, Option, Some, None, refl, ap, ◌∙◌}, lemmas.Bool.{and_from, and_parts, cond_both}}
 use Rattle.std.proofs.lemmas.{Bool.{eq-eqb, eqb-true, false≢true, not_from_false, or_right}, List.Folds.{find-append, list_all-append}}

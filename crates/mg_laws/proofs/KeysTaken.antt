@@ -1,9 +1,9 @@
 -- A key is recent exactly if an earlier line took it, nothing disturbed since, and no other key took its seat since.
 use Rattle.mg_laws.proofs.KeysSeats.{elsewhere-has_seat, first-append, first-splits, is_last, last_is, none-elsewhere, seat-first, splits-first}
-use Rattle.mg_model.specs.{Keys.{Key, first_at, has_seat, seat_of}, Warmth.{Event, DisturbsNothing, TellsTaken, WasTaken, is_disturbing, is_recent}}
-use Rattle.{mg_model.specs.Warmth.{recent, keys_taken_in}, std.proofs.Common.{arith, ◌≡◌, true, List, [], ◌∷◌, ◌++◌, Option, Some, None, refl, sym}}
-use Rattle.std.proofs.{Common.{ap, ◌∙◌, All, append_assoc}, lemmas.{Bool.{cond-false, cond_both}, List.Elements.{All-cons, All-head, All-nil}}}
-use Rattle.std.{proofs.lemmas.{List.Elements.All-tail, Option.none-some}, specs.Option.option_or}
+use Rattle.mg_model.specs.{Events.{DisturbsNothing, TellsTaken, WasTaken, keys_taken_in}, Keys.{Key, first_at, has_seat, seat_of}, Warmth.Event}
+use Rattle.{mg_model.specs.Warmth.{is_disturbing, is_recent, recent}, std.proofs.Common.{arith, ◌≡◌, true, List, [], ◌∷◌, ◌++◌, Option, Some, None}}
+use Rattle.std.proofs.{Common.{refl, sym, ap, ◌∙◌, All, append_assoc}, lemmas.{Bool.{cond-false, cond_both}, List.Elements.{All-cons, All-head}}}
+use Rattle.std.{proofs.lemmas.{List.Elements.{All-nil, All-tail}, Option.none-some}, specs.Option.option_or}
 
 -- the key has its seat now
 abbrev IsLast : List Event → Key → Type 0

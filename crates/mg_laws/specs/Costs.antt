@@ -1,7 +1,7 @@
 -- Laws on the keys that are kept and on the counter of words: from one access to a line, and from lines to a session.
 use Rattle.std.specs.Prelude.{ℕ, ◌≡◌, ◌≤◌, ◌+◌, Bool, false, List, [], ◌∷◌, ◌++◌}
-use Rattle.mg_model.specs.{Accesses.{Access, accesses}, Kept.{Follows, KeepsKeys, KeepsRules, KeepsWarm, Validates}}
-use Rattle.mg_model.specs.{Keys.Key, State.State, Step.after, Warmth.{Event, events, is_disturbing, line_cost}}
+use Rattle.mg_model.specs.{Accesses.{Access, accesses}, Events.events, Kept.{Follows, KeepsKeys, KeepsRules, KeepsWarm}}
+use Rattle.mg_model.specs.{Kept.Validates, Keys.Key, State.State, Step.after, Warmth.{Event, is_disturbing, line_cost}}
 use Rattle.mg_model.specs.declared.calls.Line.{Line}
 
 -- a run of accesses, from the keys that are kept before it to those kept after it, with this number of words searched

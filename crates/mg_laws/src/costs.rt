@@ -1,6 +1,7 @@
 // Laws on the keys that are kept, and on the counter of words.
 ghost use Rattle.mg_model.specs.Kept.{KeepsWarm, Searches, line_limit, searches_limit};
-ghost use Rattle.mg_model.specs.Warmth.{TellsTaken, cost, cost_behind, events, is_recent};
+ghost use Rattle.mg_model.specs.Warmth.{cost, cost_behind, is_recent};
+ghost use Rattle.mg_model.specs.Events.{TellsTaken, events};
 ghost use Rattle.mg_laws.specs.Costs.{BeginsWarm, BoundedByCost, CostsAddUp, CostsGoOn, EventsGoOn, LimitGoesOn, LimitsWithinCost, PrefixesCostLess, RulesGoOn, SearchesGoOn, SearchesKeepRules, StaysWarm};
 
 /// Accesses one after another keep the rules of a line, if each of them keeps its own key and leaves the keys of other

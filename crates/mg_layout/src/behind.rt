@@ -33,7 +33,7 @@ pub(crate) fn write_behind<D: Disk>(disk: &mut D, params: &Params) -> Result<(),
 fn write_fresh<D: Disk>(disk: &mut D, params: &Params, i: u64) -> Result<(), Failed>
     requires within_disk { total_blocks params.now.frames ≤ D.block_count disk.old }
     requires in_range { i < total_blocks params.now.frames }
-    ensures stops { TimeGoes D.Disk disk.old disk.new (TornAt (only_place i) (D.left_since disk.old (D.moment disk.old))) }
+    ensures stops { TimeGoes D.Disk disk.old disk.new (TornAt (only_place i) ((D.time disk.old).left_since (D.time disk.old).moment)) }
     ensures written { OnOk result (D.seen disk.new ≡ option_map (with_block params.now i) (D.seen disk.old)) }
     ensures calls { DiskCalls D.Disk disk.old disk.new result }
 {

@@ -6,7 +6,8 @@ ghost use Rattle.mg_disk.specs.Stops.{DiskCalls, DiskCallsBy, FromLeft, Leaves, 
 ghost use Rattle.mg_model.specs.Fresh.{fresh};
 ghost use Rattle.mg_model.specs.Layout.{total_blocks};
 ghost use Rattle.mg_model.specs.Volume.{Is, volume};
-ghost use Rattle.mg_layout.specs.MayFormat.{IsUntouchedSmall, MayFormat, ReadsFresh, TellsSmall};
+ghost use Rattle.mg_layout.specs.MayFormat.{MayFormat, ReadsFresh};
+ghost use Rattle.mg_layout.specs.Small.{IsUntouchedSmall, TellsSmall};
 
 use crate::behind::write_behind;
 use crate::fresh::fresh_block;
@@ -37,7 +38,7 @@ pub fn format<D: Disk>(disk: &mut D, params: &Params) -> Result<(), FormatFault>
     ensures any_moment { Leaves D.Disk disk.old disk.new (FromLeft D.Disk disk.old (λ image. MayFormat image params.now)) }
     ensures made { OnOk result (ReadsFresh params.now (D.seen disk.old) (D.seen disk.new)) }
     ensures settled { OnOk result (NothingPending D.Disk disk.new) }
-    ensures left { OnOk result ((c : Image) → D.left_since disk.new (D.moment disk.new) c → volume c ≡ Is (fresh params.now)) }
+    ensures left { OnOk result ((c : Image) → (D.time disk.new).left_since (D.time disk.new).moment c → volume c ≡ Is (fresh params.now)) }
     ensures small { TellsSmall (total_blocks params.now.frames) (D.block_count disk.old) result }
     ensures no_call { IsUntouchedSmall disk.old disk.new result }
     ensures calls { DiskCallsBy D.Disk disk.old disk.new (result ≡ Err FormatFault.Disk) }

@@ -81,5 +81,5 @@ gate-may : (v : Volume1Read) (image c : Image) → (volume c ≡ NotVolume) ⊎ 
 gate-may v image c may = ⊎_elim (λ none. inl (no_state c none)) (λ before. inr (inl before)) may
 
 -- when no call was made, nothing but what might have been left may be left
-pub untouched_may : {D : Type 0} (facts : Ghosts D) (v : Volume1Read) (disk : D) → facts.has_been disk (facts.moment disk) → Leaves facts disk disk (FromLeft facts disk (λ image. MayMigrate image v))
+pub untouched_may : {D : Type 0} (facts : Ghosts D) (v : Volume1Read) (disk : D) → (facts.time disk).has_been (facts.time disk).moment → Leaves facts disk disk (FromLeft facts disk (λ image. MayMigrate image v))
 untouched_may facts v disk been = from_yet facts disk (λ image. MayMigrate image v) been (λ c. gate-may v c c (gate_alone c c (same_as (only_place gate_block) c c refl)))

@@ -30,7 +30,7 @@ pub record IsClosed (c : Image) : Type 0 where
 -- the gate of a disk is closed, in what reads give and in each image that a stop may leave
 pub record StandsClosed {D : Type 0} (facts : Ghosts D) (disk : D) : Type 0 where
   pub reads : ForSome (facts.seen disk) IsClosed
-  pub left : (c : Image) → facts.left_since disk (facts.moment disk) c → IsClosed c
+  pub left : (c : Image) → (facts.time disk).left_since (facts.time disk).moment c → IsClosed c
 
 -- reads give an image if they gave one before, and it has P
 abbrev pub ReadsNow : (Image → Type 0) → Option Image → Option Image → Type 0
@@ -40,7 +40,7 @@ ReadsNow P (Some image) new = IsSomeAnd new P
 -- so it is of what reads give, and a stop leaves no image that has not P
 pub record HoldsNow {D : Type 0} (facts : Ghosts D) (P : Image → Type 0) (old new : D) : Type 0 where
   pub reads : ReadsNow P (facts.seen old) (facts.seen new)
-  pub left : (c : Image) → facts.left_since new (facts.moment new) c → P c
+  pub left : (c : Image) → (facts.time new).left_since (facts.time new).moment c → P c
 
 -- reads give a copy of these contents, and nothing is pending
 pub record StandsCopied {D : Type 0} (facts : Ghosts D) (n : ℕ) (from : Option Image) (old new : D) : Type 0 where

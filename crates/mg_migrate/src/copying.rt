@@ -4,7 +4,8 @@ ghost use Rattle.std.specs.Prelude.{◌≡◌, ◌≢◌, ◌+◌, ◌^◌, ◌�
 ghost use Rattle.std.specs.Option.{ForSome};
 ghost use Rattle.mg_check.specs.Reads.{CanRead, contents};
 ghost use Rattle.mg_disk.specs.Disk.{InRange, SeenBut, TornAt, only_place};
-ghost use Rattle.mg_disk.specs.Stops.{DiskCallsBy, FromLeft, Leaves, MightHaveLeft, NothingPending, OnlyReadsBy, TimeGoes};
+ghost use Rattle.mg_disk.specs.Stops.{DiskCallsBy, FromLeft, Leaves, MightHaveLeft, NothingPending, TimeGoes};
+ghost use Rattle.mg_disk.specs.Reads.{OnlyReadsBy};
 ghost use Rattle.mg_migrate.specs.Copied.{AreCopied, AreSame, MayCopy, StandsClosed, StandsCopied};
 ghost use Rattle.mg_model.specs.Layout.{gate_block};
 ghost use Rattle.mg_model.specs.Volume.{gate_byte};
@@ -107,7 +108,7 @@ fn copy_blocks<C: Contents, D: Disk, E: Disk>(
     requires total { C.total view.now < 2 ^ 64 }
     requires within_disk { first + length blocks.old ≤ D.block_count new.old }
     requires can { CanRead E.Disk (C.need view.now) (C.Fits view.now) old.old }
-    ensures stops { TimeGoes D.Disk new.old new.new (TornAt (InRange first (length blocks.old)) (D.left_since new.old (D.moment new.old))) }
+    ensures stops { TimeGoes D.Disk new.old new.new (TornAt (InRange first (length blocks.old)) ((D.time new.old).left_since (D.time new.old).moment)) }
     ensures seen { SeenBut (InRange first (length blocks.old)) (D.seen new.old) (D.seen new.new) }
     ensures copied { OnOk result (ForSome (contents E.Disk (C.of view.now) old.old) (λ r. ForSome (D.seen new.new) (AreSame first (length blocks.old) r))) }
     ensures reads { OnlyReadsBy E.Disk old.old old.new (result ≡ Err CopyFault.From) }

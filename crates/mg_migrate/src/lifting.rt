@@ -2,7 +2,7 @@
 ghost use Rattle.std.specs.Prelude.{◌≡◌, ◌≤◌, ◌<◌, ◌+◌, ◌/◌, ◌%◌, OnOk, option_map};
 ghost use Rattle.std.specs.Option.{ForSome};
 ghost use Rattle.mg_disk.specs.Disk.{Image};
-ghost use Rattle.mg_disk.specs.Stops.{OnlyReads};
+ghost use Rattle.mg_disk.specs.Reads.{OnlyReads};
 ghost use Rattle.mg_journal.specs.Looked.{Fits};
 ghost use Rattle.mg_migrate.specs.Layout1.{total1_blocks};
 ghost use Rattle.mg_migrate.specs.Lifted.{lifted, lifted_block, lifted_objects};

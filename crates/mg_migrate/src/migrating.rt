@@ -1,7 +1,8 @@
 // A volume of version 1 copied to another disk as one of this version.
 ghost use Rattle.std.specs.Prelude.{◌≡◌, ◌⊎◌, OnOk};
 ghost use Rattle.std.specs.Option.{ForSome};
-ghost use Rattle.mg_disk.specs.Stops.{DiskCallsBy, FromLeft, Leaves, NothingPending, OnlyReadsBy};
+ghost use Rattle.mg_disk.specs.Stops.{DiskCallsBy, FromLeft, Leaves, NothingPending};
+ghost use Rattle.mg_disk.specs.Reads.{OnlyReadsBy};
 ghost use Rattle.mg_migrate.specs.Copied.{HoldsNow, StandsClosed};
 ghost use Rattle.mg_migrate.specs.Migrated.{Fits1, IsMigrated, IsUntouched, MayMigrate, StandsBack, Tells1};
 ghost use Rattle.mg_migrate.specs.Version1.{volume1};

@@ -2,7 +2,7 @@
 ghost use Rattle.std.specs.Prelude.{◌≡◌, ◌≢◌, ◌≤◌, IfOk};
 ghost use Rattle.std.specs.Option.{ForSome};
 ghost use Rattle.mg_rules.specs.RowsRead.{AreKept};
-ghost use Rattle.mg_disk.specs.Stops.{OnlyReads, OnlyReadsBy};
+ghost use Rattle.mg_disk.specs.Reads.{OnlyReads, OnlyReadsBy};
 ghost use Rattle.mg_migrate.specs.Layout1.{total1_blocks};
 ghost use Rattle.mg_migrate.specs.OldRead.{HasSettings1, IsOldRead, IsSeen1, TellsOld};
 ghost use Rattle.mg_migrate.specs.Spelling1.{super1_read};

@@ -62,7 +62,7 @@ pub record IsTold {D : Type 0} (d : disks.Ghosts D) (end : Status) (line : List 
 -- the volume was migrated
 pub migrated : {D : Type 0} (d : disks.Ghosts D) (summary : Summary) (new new' : D) (v : Volume1Read)
     → IsState1 v (λ state. (summary ≡ summary_of (lift state)) × (needed state ≤ d.block_count new))
-    → ReadsNow (IsLiftOf v) (d.seen new) (d.seen new') → ((c : Image) → d.left_since new' (d.moment new') c → IsLiftOf v c) → NothingPending d new'
+    → ReadsNow (IsLiftOf v) (d.seen new) (d.seen new') → ((c : Image) → (d.time new').left_since (d.time new').moment c → IsLiftOf v c) → NothingPending d new'
     → IsTold d status.Done (summary_line summary) new new' v
 migrated d summary new new' NotVolume1 told reads left settled = absurd told
 migrated d summary new new' OldVolume1 told reads left settled = absurd told

@@ -51,13 +51,13 @@ HasFailed result = (result ≡ status.Memory) ⊎ ((result ≡ status.Disk) ⊎ 
 -- the old state stands there with passwords that never end: reads give it, a stop leaves it and no other, and nothing is pending
 pub record IsMigrated {D : Type 0} (facts : disks.Ghosts D) (old : Volume1Read) (new new' : D) : Type 0 where
   pub reads : ReadsNow (IsLiftOf old) (facts.seen new) (facts.seen new')
-  pub left : (c : Image) → facts.left_since new' (facts.moment new') c → IsLiftOf old c
+  pub left : (c : Image) → (facts.time new').left_since (facts.time new').moment c → IsLiftOf old c
   pub settled : NothingPending facts new'
 
 -- the blocks of the old image stand there, each lifted and in its place, in what reads give and in each image that a stop may leave
 pub record HasPlaces {D : Type 0} (facts : disks.Ghosts D) (before : Image) (new new' : D) : Type 0 where
   pub reads : ReadsNow (HasLifted before) (facts.seen new) (facts.seen new')
-  pub left : (c : Image) → facts.left_since new' (facts.moment new') c → HasLifted before c
+  pub left : (c : Image) → (facts.time new').left_since (facts.time new').moment c → HasLifted before c
 
 -- the new disk once what the old image spells was told: no call was made on it if that is no volume or the disk is too small
 abbrev pub StandsAfter : {D : Type 0} → disks.Ghosts D → Volume1Read → D → D → Type 0

@@ -138,7 +138,7 @@ all_copied n first was from (Some s) last same some put read long long' copied x
 
 -- calls that read one disk and write on another, one run after another
 module _ {D E : Type 0} (d : Ghosts D) (e : Ghosts E) where
-  pub steps_to : (from : D) (to to' : E) → d.has_been from (d.moment from) → e.block_count to' ≡ e.block_count to → e.tells_stops to' ≡ e.tells_stops to → CountGoes e to to' → CopySteps d e from from to to'
+  pub steps_to : (from : D) (to to' : E) → (d.time from).has_been (d.time from).moment → e.block_count to' ≡ e.block_count to → e.tells_stops to' ≡ e.tells_stops to → CountGoes e to to' → CopySteps d e from from to to'
   steps_to from to to' been blocks tells count = record {
     reads = nothing_none d from been;
     from_blocks = refl;
@@ -162,11 +162,11 @@ module _ {D E : Type 0} (d : Ghosts D) (e : Ghosts E) where
 
 -- what a stop may leave, over calls that write at some places
 module _ {E : Type 0} (e : Ghosts E) where
-  pub torn_more : (old mid new : E) (places these : ℕ → Type 0) → ((k : ℕ) → these k → places k) → TimeGoes e old mid (TornAt places (e.left_since old (e.moment old))) → TimeGoes e mid new (TornAt these (e.left_since mid (e.moment mid)))
-      → TimeGoes e old new (TornAt places (e.left_since old (e.moment old)))
-  torn_more old mid new places these among a b = time_then e old mid new (TornAt these (e.left_since mid (e.moment mid))) (TornAt places (e.left_since old (e.moment old))) a b sub
+  pub torn_more : (old mid new : E) (places these : ℕ → Type 0) → ((k : ℕ) → these k → places k) → TimeGoes e old mid (TornAt places ((e.time old).left_since (e.time old).moment)) → TimeGoes e mid new (TornAt these ((e.time mid).left_since (e.time mid).moment))
+      → TimeGoes e old new (TornAt places ((e.time old).left_since (e.time old).moment))
+  torn_more old mid new places these among a b = time_then e old mid new (TornAt these ((e.time mid).left_since (e.time mid).moment)) (TornAt places ((e.time old).left_since (e.time old).moment)) a b sub
     where
-      sub : (c : Image) → TornAt these (e.left_since mid (e.moment mid)) c → TornAt places (e.left_since old (e.moment old)) c
+      sub : (c : Image) → TornAt these ((e.time mid).left_since (e.time mid).moment) c → TornAt places ((e.time old).left_since (e.time old).moment) c
       sub c t =
           ⊎_elim (λ was. (t.0, was, record { count = t.2.count; others = λ k out. t.2.others k (λ at. out (among k at)) }))
           (λ torn. (torn.0, torn.1, same_after places these places torn.0 t.0 c (λ k at. at) among torn.2 t.2)) (a.now t.0 t.1)

@@ -1,6 +1,6 @@
 -- A call of a mirror, from the calls of its sides.
 use Rattle.mg_disk.specs.{Disk.{Image, GoesOn, HasBlocks, InRange, SameBut, SeenBut, TornAt, block_at, no_image}, Runs.time_none, Stops.TimeGoes}
-use Rattle.{mg_disk.specs.declared.disk.Disk.Ghosts, mg_mirror.specs.Mirror.{told_cut, seen_of, SameWhileBoth, moment_of, Been, LeftSince}}
+use Rattle.{mg_disk.specs.declared.disk.Disk.Ghosts, mg_mirror.specs.Mirror.{told_cut, seen_of, SameWhileBoth, moment_of, LeftSince, two_times}}
 use Rattle.mg_mirror.specs.{MirrorLemmas.{IsToldAs, told_map, both_told, cut_block, cut_set}, MomentLemmas.{Cuts, goes_then, goes_same, goes_alone}}
 use Rattle.{mg_mirror.specs.{MomentLemmas.{torn_left, torn_right}, declared.mirror.Side.{Side, TheVariants.{Left, Right}}}, std.proofs.Common.refl}
 use Rattle.std.proofs.{Common.{sym, ap, ◌∙◌, subst, ⊎_elim, arith}, Math.Nat.min-le_left, lemmas.Bool.{cases_lt, Decides.nat_tests}}
@@ -14,14 +14,13 @@ told_same None = tt
 module _ {D E : Type 0} (d : Ghosts D) (e : Ghosts E) (n : ℕ) where
   -- what a stop may leave of a mirror of these sides
   abbrev pub LeftOf : Option Side → D → E → Image → Type 0
-  LeftOf alone left right c = LeftSince n alone (d.tells_stops left && e.tells_stops right) (d.left_since left) (e.left_since right) (moment_of alone (d.moment left) (e.moment right)) c
+  LeftOf alone left right c = LeftSince n alone (d.tells_stops left && e.tells_stops right) (d.time left).left_since (e.time right).left_since (moment_of alone (d.time left).moment (e.time right).moment) c
 
   -- time passes for a mirror, from these sides to those
   abbrev pub Goes : Option Side → Option Side → D → D → E → E → (Image → Type 0) → Type 0
   Goes alone alone' left left' right right' H =
-      GoesOn (moment_of alone (d.moment left) (e.moment right)) (moment_of alone' (d.moment left') (e.moment right')) (Been alone (d.has_been left) (e.has_been right)) (Been alone' (d.has_been left') (e.has_been right'))
-      (LeftSince n alone (d.tells_stops left && e.tells_stops right) (d.left_since left) (e.left_since right))
-      (LeftSince n alone' (d.tells_stops left' && e.tells_stops right') (d.left_since left') (e.left_since right')) H
+      GoesOn (two_times n alone (d.tells_stops left && e.tells_stops right) (d.time left) (e.time right))
+      (two_times n alone' (d.tells_stops left' && e.tells_stops right') (d.time left') (e.time right')) H
 
   -- time passed for the two sides, and the same are in use
   pub goes_along : (alone : Option Side) (left left' : D) (right right' : E) (F G H : Image → Type 0) → d.tells_stops left' ≡ d.tells_stops left → e.tells_stops right' ≡ e.tells_stops right
@@ -30,34 +29,34 @@ module _ {D E : Type 0} (d : Ghosts D) (e : Ghosts E) (n : ℕ) where
   goes_along alone left left' right right' F G H p q a b f g = grind (arith, goes_same)
 
   -- and one side was dropped
-  pub goes_dropped : (alone : Option Side) (side : Side) (left left' : D) (right right' : E) (H : Image → Type 0) → alone ≡ None → d.has_been left' (d.moment left') → e.has_been right' (e.moment right')
+  pub goes_dropped : (alone : Option Side) (side : Side) (left left' : D) (right right' : E) (H : Image → Type 0) → alone ≡ None → (d.time left').has_been (d.time left').moment → (e.time right').has_been (e.time right').moment
       → Goes alone alone left left' right right' H → Goes alone (Some side) left left' right right' H
   goes_dropped alone side left left' right right' H is left_been right_been goes = grind (arith, goes_then, goes_alone)
 
   -- a write at some places of both sides, of the left one, of the right one
   pub write_both : (alone : Option Side) (left left' : D) (right right' : E) (places : ℕ → Type 0) → alone ≡ None → d.tells_stops left' ≡ d.tells_stops left → e.tells_stops right' ≡ e.tells_stops right
-      → TimeGoes d left left' (TornAt places (d.left_since left (d.moment left))) → TimeGoes e right right' (TornAt places (e.left_since right (e.moment right))) → Goes alone alone left left' right right' (TornAt places (LeftOf alone left right))
+      → TimeGoes d left left' (TornAt places ((d.time left).left_since (d.time left).moment)) → TimeGoes e right right' (TornAt places ((e.time right).left_since (e.time right).moment)) → Goes alone alone left left' right right' (TornAt places (LeftOf alone left right))
   write_both alone left left' right right' places is p q a b =
       subst (λ now. Goes now now left left' right right' (TornAt places (LeftOf now left right))) (sym is)
-      (goes_along None left left' right right' (TornAt places (d.left_since left (d.moment left))) (TornAt places (e.left_since right (e.moment right))) (TornAt places (LeftOf None left right)) p q a b
-      (torn_left n (d.tells_stops left && e.tells_stops right) (d.moment left) (e.moment right) (d.has_been left) (e.has_been right) (d.left_since left) (e.left_since right) places None tt)
-      (torn_right n (d.tells_stops left && e.tells_stops right) (d.moment left) (e.moment right) (d.has_been left) (e.has_been right) (d.left_since left) (e.left_since right) places None tt))
+      (goes_along None left left' right right' (TornAt places ((d.time left).left_since (d.time left).moment)) (TornAt places ((e.time right).left_since (e.time right).moment)) (TornAt places (LeftOf None left right)) p q a b
+      (torn_left n (d.tells_stops left && e.tells_stops right) (d.time left) (e.time right) places None tt)
+      (torn_right n (d.tells_stops left && e.tells_stops right) (d.time left) (e.time right) places None tt))
 
-  pub write_left : (alone : Option Side) (left left' : D) (right : E) (places : ℕ → Type 0) → alone ≡ Some Left → e.has_been right (e.moment right) → d.tells_stops left' ≡ d.tells_stops left
-      → TimeGoes d left left' (TornAt places (d.left_since left (d.moment left))) → Goes alone alone left left' right right (TornAt places (LeftOf alone left right))
+  pub write_left : (alone : Option Side) (left left' : D) (right : E) (places : ℕ → Type 0) → alone ≡ Some Left → (e.time right).has_been (e.time right).moment → d.tells_stops left' ≡ d.tells_stops left
+      → TimeGoes d left left' (TornAt places ((d.time left).left_since (d.time left).moment)) → Goes alone alone left left' right right (TornAt places (LeftOf alone left right))
   write_left alone left left' right places is been p a =
       subst (λ now. Goes now now left left' right right (TornAt places (LeftOf now left right))) (sym is)
-      (goes_along (Some Left) left left' right right (TornAt places (d.left_since left (d.moment left))) no_image (TornAt places (LeftOf (Some Left) left right)) p refl a (time_none e right no_image been)
-      (torn_left n (d.tells_stops left && e.tells_stops right) (d.moment left) (e.moment right) (d.has_been left) (e.has_been right) (d.left_since left) (e.left_since right) places (Some Left) tt)
+      (goes_along (Some Left) left left' right right (TornAt places ((d.time left).left_since (d.time left).moment)) no_image (TornAt places (LeftOf (Some Left) left right)) p refl a (time_none e right no_image been)
+      (torn_left n (d.tells_stops left && e.tells_stops right) (d.time left) (e.time right) places (Some Left) tt)
       (λ x tells none. absurd none))
 
-  pub write_right : (alone : Option Side) (left : D) (right right' : E) (places : ℕ → Type 0) → alone ≡ Some Right → d.has_been left (d.moment left) → e.tells_stops right' ≡ e.tells_stops right
-      → TimeGoes e right right' (TornAt places (e.left_since right (e.moment right))) → Goes alone alone left left right right' (TornAt places (LeftOf alone left right))
+  pub write_right : (alone : Option Side) (left : D) (right right' : E) (places : ℕ → Type 0) → alone ≡ Some Right → (d.time left).has_been (d.time left).moment → e.tells_stops right' ≡ e.tells_stops right
+      → TimeGoes e right right' (TornAt places ((e.time right).left_since (e.time right).moment)) → Goes alone alone left left right right' (TornAt places (LeftOf alone left right))
   write_right alone left right right' places is been q b =
       subst (λ now. Goes now now left left right right' (TornAt places (LeftOf now left right))) (sym is)
-      (goes_along (Some Right) left left right right' no_image (TornAt places (e.left_since right (e.moment right))) (TornAt places (LeftOf (Some Right) left right)) refl q (time_none d left no_image been) b
+      (goes_along (Some Right) left left right right' no_image (TornAt places ((e.time right).left_since (e.time right).moment)) (TornAt places (LeftOf (Some Right) left right)) refl q (time_none d left no_image been) b
       (λ x tells none. absurd none)
-      (torn_right n (d.tells_stops left && e.tells_stops right) (d.moment left) (e.moment right) (d.has_been left) (e.has_been right) (d.left_since left) (e.left_since right) places (Some Right) tt))
+      (torn_right n (d.tells_stops left && e.tells_stops right) (d.time left) (e.time right) places (Some Right) tt))
 
   -- a call that writes nothing on the sides that it reaches
   pub quiet_along : (alone : Option Side) (left left' : D) (right right' : E) → d.tells_stops left' ≡ d.tells_stops left → e.tells_stops right' ≡ e.tells_stops right

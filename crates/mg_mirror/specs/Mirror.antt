@@ -1,6 +1,6 @@
 -- What a disk made of two gives, and what a stop leaves of it.
 use Rattle.std.specs.Prelude.{◌≡◌, ◌⊎◌, ℕ, Bool, IsTrue, take, Option, Some, None}
-use Rattle.{mg_disk.specs.Disk.{Image, Moment, At, Both, Alone}, mg_mirror.specs.declared.mirror.Side.Side}
+use Rattle.{mg_disk.specs.Disk.{Image, Moment, Time, At, Both, Alone}, mg_mirror.specs.declared.mirror.Side.Side}
 use Rattle.mg_mirror.specs.declared.mirror.Side.TheVariants.{Left, Right}
 
 -- what the first gives, if both are told, cut to n blocks
@@ -50,3 +50,11 @@ Since n (Some Right) l r (Alone x) c = CutOf n (r x) c
 -- the same, if both sides are told
 abbrev pub LeftSince : ℕ → Option Side → Bool → (Moment → Image → Type 0) → (Moment → Image → Type 0) → Moment → Image → Type 0
 LeftSince n alone told l r t c = IsTrue told × Since n alone l r t c
+
+-- the time of a disk made of two
+abbrev pub two_times : ℕ → Option Side → Bool → Time → Time → Time
+two_times n alone told left right = record {
+  moment = moment_of alone left.moment right.moment;
+  has_been = Been alone left.has_been right.has_been;
+  left_since = LeftSince n alone told left.left_since right.left_since;
+}

@@ -12,8 +12,8 @@ pub record Opens {D E K : Type 0} (d : Ghosts D) (e : Ghosts E) (k : counts.Ghos
   pub left_reads : from ≡ Left → IfOk result (λ m. facts.seen m ≡ told_cut (facts.block_count m) (d.seen left) (e.seen right))
   pub right_reads : from ≡ Right → IfOk result (λ m. facts.seen m ≡ told_cut (facts.block_count m) (e.seen right) (d.seen left))
   -- A stop now leaves of the mirror one of the images that it might have left of that disk, cut to the mirror's blocks.
-  pub left_found : from ≡ Left → IfOk result (λ m. (c : Image) → facts.left_since m (facts.moment m) c → CutOf (facts.block_count m) (d.left_since left (d.moment left)) c)
-  pub right_found : from ≡ Right → IfOk result (λ m. (c : Image) → facts.left_since m (facts.moment m) c → CutOf (facts.block_count m) (e.left_since right (e.moment right)) c)
+  pub left_found : from ≡ Left → IfOk result (λ m. (c : Image) → (facts.time m).left_since (facts.time m).moment c → CutOf (facts.block_count m) ((d.time left).left_since (d.time left).moment) c)
+  pub right_found : from ≡ Right → IfOk result (λ m. (c : Image) → (facts.time m).left_since (facts.time m).moment c → CutOf (facts.block_count m) ((e.time right).left_since (e.time right).moment) c)
   -- No call of the mirror failed yet. It has as many blocks as the smaller disk. What a stop leaves of it is told exactly if that is
   -- told of both disks.
   pub no_faults : IfOk result (λ m. facts.faults m ≡ 0)

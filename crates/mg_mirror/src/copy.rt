@@ -119,7 +119,7 @@ fn copy_rest<D: Disk, E: Disk>(
     requires from_long { blocks ≤ D.block_count from.old }
     requires to_long { blocks ≤ E.block_count to.old }
     requires start { start ≤ blocks }
-    ensures stops { TimeGoes E.Disk to.old to.new (TornAt (λ k. start ≤ k) (E.left_since to.old (E.moment to.old))) }
+    ensures stops { TimeGoes E.Disk to.old to.new (TornAt (λ k. start ≤ k) ((E.time to.old).left_since (E.time to.old).moment)) }
     ensures seen { SeenBut (λ k. start ≤ k) (E.seen to.old) (E.seen to.new) }
     ensures copied { IfOk result (λ good. IsTrue good → ForSome (D.seen from.old) (λ x. ForSome (E.seen to.new) (AreFrom start blocks x))) }
     ensures calls { CopyCalls D.Disk E.Disk from.old from.new to.old to.new result }
@@ -143,7 +143,7 @@ fn copy_run<D: Disk, E: Disk>(
 ) -> Result<bool, Failed>
     requires from_long { first + length run.old ≤ D.block_count from.old }
     requires to_long { first + length run.old ≤ E.block_count to.old }
-    ensures stops { TimeGoes E.Disk to.old to.new (TornAt (InRange first (length run.old)) (E.left_since to.old (E.moment to.old))) }
+    ensures stops { TimeGoes E.Disk to.old to.new (TornAt (InRange first (length run.old)) ((E.time to.old).left_since (E.time to.old).moment)) }
     ensures seen { SeenBut (InRange first (length run.old)) (E.seen to.old) (E.seen to.new) }
     ensures copied { IfOk result (λ good. IsTrue good → ForSome (D.seen from.old) (λ x. ForSome (E.seen to.new) (AreSame first (length run.old) x))) }
     ensures calls { CopyCalls D.Disk E.Disk from.old from.new to.old to.new result }

@@ -8,7 +8,7 @@ ghost use Rattle.mg_mirror.specs.Sides.{FailsWithSides, ReadsSides, DropsSides};
 ghost use Rattle.mg_mirror.specs.declared.mirror.Side.{Side};
 ghost use Rattle.mg_mirror.specs.Opened.{RoseFrom, BothRose};
 ghost use Rattle.mg_faults.specs.Faults.{is_last};
-ghost use Rattle.mg_mirror.specs.Mirror.{seen_of, SameWhileBoth, moment_of, Been, LeftSince};
+ghost use Rattle.mg_mirror.specs.Mirror.{seen_of, SameWhileBoth, moment_of, Been, LeftSince, two_times};
 ghost use Rattle.mg_mirror.specs.MirrorLemmas.{seen_long, seen_bytes, and_left, and_right};
 ghost use Rattle.mg_mirror.specs.MomentLemmas.{been_now, counted_now, seen_stays};
 
@@ -186,24 +186,17 @@ impl<D: Disk, E: Disk, K: Opened<D, E>> Disk for Mirror<D, E, K> {
 
     ghost tells_stops = { λ m. D.tells_stops m.left && E.tells_stops m.right };
 
-    ghost moment = { λ m. moment_of m.alone (D.moment m.left) (E.moment m.right) };
-
-    ghost has_been = { λ m. Been m.alone (D.has_been m.left) (E.has_been m.right) };
-
-    ghost left_since = { λ m. LeftSince m.blocks m.alone (D.tells_stops m.left && E.tells_stops m.right) (D.left_since m.left) (E.left_since m.right) };
+    ghost time = { λ m. two_times m.blocks m.alone (D.tells_stops m.left && E.tells_stops m.right) (D.time m.left) (E.time m.right) };
 
     ghost faults = { λ m. m.count };
 
     ghost is_spent = { λ m. is_last m.count };
 
-    ghost now_has_been = { λ m. been_now m.blocks (D.tells_stops m.left && E.tells_stops m.right) (D.moment m.left) (E.moment m.right) (D.has_been m.left) (E.has_been m.right)
-        (D.left_since m.left) (E.left_since m.right) m.alone (D.now_has_been m.left) (E.now_has_been m.right) };
+    ghost now_has_been = { λ m. been_now m.blocks (D.tells_stops m.left && E.tells_stops m.right) (D.time m.left) (E.time m.right) m.alone (D.now_has_been m.left) (E.now_has_been m.right) };
 
-    ghost counts_now = { λ m. counted_now m.blocks (D.tells_stops m.left && E.tells_stops m.right) (D.moment m.left) (E.moment m.right) (D.has_been m.left) (E.has_been m.right)
-        (D.left_since m.left) (E.left_since m.right) m.alone (D.counts_now m.left) (E.counts_now m.right) };
+    ghost counts_now = { λ m. counted_now m.blocks (D.tells_stops m.left && E.tells_stops m.right) (D.time m.left) (E.time m.right) m.alone (D.counts_now m.left) (E.counts_now m.right) };
 
-    ghost seen_may_stay = { λ m. seen_stays m.blocks (D.tells_stops m.left && E.tells_stops m.right) (D.moment m.left) (E.moment m.right) (D.has_been m.left) (E.has_been m.right)
-        (D.left_since m.left) (E.left_since m.right) m.alone (D.seen m.left) (E.seen m.right)
+    ghost seen_may_stay = { λ m. seen_stays m.blocks (D.tells_stops m.left && E.tells_stops m.right) (D.time m.left) (E.time m.right) m.alone (D.seen m.left) (E.seen m.right)
         (λ t. D.seen_may_stay m.left (and_left (D.tells_stops m.left) (E.tells_stops m.right) t)) (λ t. E.seen_may_stay m.right (and_right (D.tells_stops m.left) (E.tells_stops m.right) t)) };
 
     ghost only_told = { λ m t c left. left.0 };
@@ -258,7 +251,7 @@ impl<D: Disk, E: Disk, K: Opened<D, E>> Disk for Mirror<D, E, K> {
         requires in_range { i < ⟦<Mirror<D, E, K> as Disk>⟧.block_count self.old }
         ensures written { OnOk result (⟦<Mirror<D, E, K> as Disk>⟧.seen self.new ≡ option_map (λ image. slice_set image i from.now) (⟦<Mirror<D, E, K> as Disk>⟧.seen self.old)) }
         ensures unknown { OnErr result (SeenBut (only_place i) (⟦<Mirror<D, E, K> as Disk>⟧.seen self.old) (⟦<Mirror<D, E, K> as Disk>⟧.seen self.new)) }
-        ensures stops { TimeGoes ⟦<Mirror<D, E, K> as Disk>⟧ self.old self.new (TornAt (only_place i) (⟦<Mirror<D, E, K> as Disk>⟧.left_since self.old (⟦<Mirror<D, E, K> as Disk>⟧.moment self.old))) }
+        ensures stops { TimeGoes ⟦<Mirror<D, E, K> as Disk>⟧ self.old self.new (TornAt (only_place i) ((⟦<Mirror<D, E, K> as Disk>⟧.time self.old).left_since (⟦<Mirror<D, E, K> as Disk>⟧.time self.old).moment)) }
         ensures tells { ⟦<Mirror<D, E, K> as Disk>⟧.tells_stops self.new ≡ ⟦<Mirror<D, E, K> as Disk>⟧.tells_stops self.old }
         ensures calls { DiskCalls ⟦<Mirror<D, E, K> as Disk>⟧ self.old self.new result }
         ensures fails { FailsWithSides D.Disk E.Disk self.old.alone self.old.left self.new.left self.old.right self.new.right result }
@@ -347,7 +340,7 @@ impl<D: Disk, E: Disk, K: Opened<D, E>> Disk for Mirror<D, E, K> {
         ensures written { OnOk result (ForSome (⟦<Mirror<D, E, K> as Disk>⟧.seen self.new) (HasBlocks first from.now)) }
         ensures unknown { SeenBut (InRange first (length from.now)) (⟦<Mirror<D, E, K> as Disk>⟧.seen self.old) (⟦<Mirror<D, E, K> as Disk>⟧.seen self.new) }
         ensures stops { TimeGoes ⟦<Mirror<D, E, K> as Disk>⟧ self.old self.new
-            (TornAt (InRange first (length from.now)) (⟦<Mirror<D, E, K> as Disk>⟧.left_since self.old (⟦<Mirror<D, E, K> as Disk>⟧.moment self.old))) }
+            (TornAt (InRange first (length from.now)) ((⟦<Mirror<D, E, K> as Disk>⟧.time self.old).left_since (⟦<Mirror<D, E, K> as Disk>⟧.time self.old).moment)) }
         ensures tells { ⟦<Mirror<D, E, K> as Disk>⟧.tells_stops self.new ≡ ⟦<Mirror<D, E, K> as Disk>⟧.tells_stops self.old }
         ensures calls { DiskCalls ⟦<Mirror<D, E, K> as Disk>⟧ self.old self.new result }
         ensures fails { FailsWithSides D.Disk E.Disk self.old.alone self.old.left self.new.left self.old.right self.new.right result }

@@ -50,13 +50,13 @@ module _ {E : Type 0} (e : disks.Ghosts E) (n : ℕ) where
       leaves_wider e to to' (FromLeft e to (λ image. MayCopy n image x)) (FromLeft e to (λ image. MayHold n image x)) (leaves x read) (λ c may. (may.0, may.1, holds n may.0 x c (is_opened (take n x) (none x read)) may.2))
 
   -- nothing was written
-  pub copy_none : (from : Option Image) (to to' : E) → e.has_been to (e.moment to) → WritesNothing e to to' → CopyHolds e n from to to'
+  pub copy_none : (from : Option Image) (to to' : E) → (e.time to).has_been (e.time to).moment → WritesNothing e to to' → CopyHolds e n from to to'
   copy_none from to to' been none x read =
       leaves_quiet e to to to' (FromLeft e to (λ image. MayHold n image x))
       (leaves_yet e to (FromLeft e to (λ image. MayHold n image x)) been (λ c left. (c, left, holds_before n c x c (same_as (only_place 0) (take n c) (take n c) refl)))) none.stops
 
   -- both disks were read before, or left alone
-  pub copy_since : (was from : Option Image) (to mid to' : E) → from ≡ was → e.has_been to (e.moment to) → WritesNothing e to mid → CopyHolds e n from mid to' → CopyHolds e n was to to'
+  pub copy_since : (was from : Option Image) (to mid to' : E) → from ≡ was → (e.time to).has_been (e.time to).moment → WritesNothing e to mid → CopyHolds e n from mid to' → CopyHolds e n was to to'
   copy_since was from to mid to' same been none leaves x read =
       leaves_then e to mid to' (FromLeft e mid (λ image. MayHold n image x)) (FromLeft e to (λ image. MayHold n image x)) (copy_none was to mid been none x read) (leaves x (same ∙ read))
       (λ c may. (may.0, ⊎_elim (λ before. before) (λ none. absurd none) (none.stops.now may.0 may.1), may.2))

@@ -49,20 +49,20 @@ module _ {D E S K : Type 0} (d : disks.Ghosts D) (e : disks.Ghosts E) (i : sourc
     still = λ u. refl;
   }
 
-  module _ (left_told : (disk : D) (t : Moment) (c : Image) → d.left_since disk t c → IsTrue (d.tells_stops disk)) (right_told : (disk : E) (t : Moment) (c : Image) → e.left_since disk t c → IsTrue (e.tells_stops disk)) where
+  module _ (left_told : (disk : D) (t : Moment) (c : Image) → (d.time disk).left_since t c → IsTrue (d.tells_stops disk)) (right_told : (disk : E) (t : Moment) (c : Image) → (e.time disk).left_since t c → IsTrue (e.tells_stops disk)) where
     left_cut : (s : State) (runs : Runs (Two D E) S K) (m : MirrorCall D E S K) (ran : Ran d e i o m) → IsUsed Left ran.opened.alone m.alone → IsTrue (e.tells_stops m.right')
-        → (c : Image) → CutOf ran.opened.blocks (d.left_since m.left' (d.moment ran.opened.left)) c → LeftBy (mirror d e) i o s (history.CutOff runs (run_of d e i o m ran)) c
+        → (c : Image) → CutOf ran.opened.blocks ((d.time m.left').left_since (d.time ran.opened.left).moment) c → LeftBy (mirror d e) i o s (history.CutOff runs (run_of d e i o m ran)) c
     left_cut s runs m ran used told c cut =
-        subst (λ (two : Two D E). (mirror d e).left_since two ((mirror d e).moment ran.opened) c) (sym ran.closes)
-        (left_since ran.opened.blocks ran.opened.alone m.alone (d.tells_stops m.left' && e.tells_stops m.right') (d.moment ran.opened.left) (e.moment ran.opened.right) (d.left_since m.left') (e.left_since m.right') c used
-        (and_true (d.tells_stops m.left') (e.tells_stops m.right') (left_told m.left' (d.moment ran.opened.left) cut.whole cut.is_one) told) cut)
+        subst (λ (two : Two D E). ((mirror d e).time two).left_since ((mirror d e).time ran.opened).moment c) (sym ran.closes)
+        (left_since ran.opened.blocks ran.opened.alone m.alone (d.tells_stops m.left' && e.tells_stops m.right') (d.time ran.opened.left).moment (e.time ran.opened.right).moment (d.time m.left').left_since (e.time m.right').left_since c used
+        (and_true (d.tells_stops m.left') (e.tells_stops m.right') (left_told m.left' (d.time ran.opened.left).moment cut.whole cut.is_one) told) cut)
 
     right_cut : (s : State) (runs : Runs (Two D E) S K) (m : MirrorCall D E S K) (ran : Ran d e i o m) → IsUsed Right ran.opened.alone m.alone → IsTrue (d.tells_stops m.left')
-        → (c : Image) → CutOf ran.opened.blocks (e.left_since m.right' (e.moment ran.opened.right)) c → LeftBy (mirror d e) i o s (history.CutOff runs (run_of d e i o m ran)) c
+        → (c : Image) → CutOf ran.opened.blocks ((e.time m.right').left_since (e.time ran.opened.right).moment) c → LeftBy (mirror d e) i o s (history.CutOff runs (run_of d e i o m ran)) c
     right_cut s runs m ran used told c cut =
-        subst (λ (two : Two D E). (mirror d e).left_since two ((mirror d e).moment ran.opened) c) (sym ran.closes)
-        (right_since ran.opened.blocks ran.opened.alone m.alone (d.tells_stops m.left' && e.tells_stops m.right') (d.moment ran.opened.left) (e.moment ran.opened.right) (d.left_since m.left') (e.left_since m.right') c used
-        (and_true (d.tells_stops m.left') (e.tells_stops m.right') told (right_told m.right' (e.moment ran.opened.right) cut.whole cut.is_one)) cut)
+        subst (λ (two : Two D E). ((mirror d e).time two).left_since ((mirror d e).time ran.opened).moment c) (sym ran.closes)
+        (right_since ran.opened.blocks ran.opened.alone m.alone (d.tells_stops m.left' && e.tells_stops m.right') (d.time ran.opened.left).moment (e.time ran.opened.right).moment (d.time m.left').left_since (e.time m.right').left_since c used
+        (and_true (d.tells_stops m.left') (e.tells_stops m.right') told (right_told m.right' (e.time ran.opened.right).moment cut.whole cut.is_one)) cut)
 
     pub mirrors_follow : MirrorsFollow d e i o
     mirrors_follow = record {

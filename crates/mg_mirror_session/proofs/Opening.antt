@@ -24,8 +24,8 @@ both_told n (Some x) (Some y) P Q o p = refl
 both_told n None p P Q o q = absurd o
 both_told n (Some x) None P Q o q = absurd q
 
-module _ {D E : Type 0} (d : disks.Ghosts D) (e : disks.Ghosts E) (left_stays : (disk : D) → IsTrue (d.tells_stops disk) → IsSomeAnd (d.seen disk) (d.left_since disk (d.moment disk)))
-    (right_stays : (disk : E) → IsTrue (e.tells_stops disk) → IsSomeAnd (e.seen disk) (e.left_since disk (e.moment disk))) where
+module _ {D E : Type 0} (d : disks.Ghosts D) (e : disks.Ghosts E) (left_stays : (disk : D) → IsTrue (d.tells_stops disk) → IsSomeAnd (d.seen disk) ((d.time disk).left_since (d.time disk).moment))
+    (right_stays : (disk : E) → IsTrue (e.tells_stops disk) → IsSomeAnd (e.seen disk) ((e.time disk).left_since (e.time disk).moment)) where
   pub opened_from : (from : Side) (left : D) (right : E) (opened : Two D E)
       → (from ≡ Left → (mirror d e).seen opened ≡ told_cut opened.blocks (d.seen left) (e.seen right)) → (from ≡ Right → (mirror d e).seen opened ≡ told_cut opened.blocks (e.seen right) (d.seen left))
       → (from ≡ Left → (c : Image) → MightHaveLeft (mirror d e) opened c → CutOf opened.blocks (MightHaveLeft d left) c) → (from ≡ Right → (c : Image) → MightHaveLeft (mirror d e) opened c → CutOf opened.blocks (MightHaveLeft e right) c)
@@ -54,7 +54,7 @@ pub record OnlyRead {D : Type 0} (d : disks.Ghosts D) (old new : D) : Type 0 whe
   pub tells : d.tells_stops new ≡ d.tells_stops old
   pub count : CountGoes d old new
 
-pub left_alone : {D : Type 0} (d : disks.Ghosts D) (old new : D) → d.has_been old (d.moment old) → new ≡ old → OnlyRead d old new
+pub left_alone : {D : Type 0} (d : disks.Ghosts D) (old new : D) → (d.time old).has_been (d.time old).moment → new ≡ old → OnlyRead d old new
 left_alone d old new been same =
     subst (OnlyRead d old) (sym same) (record { writes = nothing_none d old been; blocks = refl; tells = refl; count = count_none (d.faults old) (d.is_spent old) })
 
@@ -67,7 +67,7 @@ module _ {D E : Type 0} (d : disks.Ghosts D) (e : disks.Ghosts E) (left left' : 
   same_seen Left = on_left.writes.same
   same_seen Right = on_right.writes.same
 
-  pub opened_since : (from : Side) (opened : Two D E) → d.has_been left (d.moment left) → e.has_been right (e.moment right) → IsOpenedFrom d e from left' right' opened → IsOpenedFrom d e from left right opened
+  pub opened_since : (from : Side) (opened : Two D E) → (d.time left).has_been (d.time left).moment → (e.time right).has_been (e.time right).moment → IsOpenedFrom d e from left' right' opened → IsOpenedFrom d e from left right opened
   opened_since from opened left_been right_been opens = record {
     blocks = opens.blocks ∙ same_blocks;
     reads = λ l r. opens.reads (on_left.tells ∙ l) (on_right.tells ∙ r) ∙ ap (option_map (take opened.blocks)) (same_seen from);

@@ -53,7 +53,7 @@ sink_no_disk : (result : Status) → result ≡ status.Sink → result ≡ statu
 sink_no_disk result sink disk = cc
 
 module _ {D E F : Type 0} (d : disks.Ghosts D) (e : disks.Ghosts E) (left left' : D) (right right' : E) (first : Image) (result : Result (Option OpenFault) F)
-    (left_been : d.has_been left (d.moment left)) (right_been : e.has_been right (e.moment right)) where
+    (left_been : (d.time left).has_been (d.time left).moment) (right_been : (e.time right).has_been (e.time right).moment) where
   pub read_left : (from : Side) → IsSideJudged d e from left left' right right' first result → OnlyRead d left left'
   read_left Left judged = only_read d left left' first result (judged.on_left refl)
   read_left Right judged = left_alone d left left' left_been (judged.left_alone refl)
@@ -112,7 +112,7 @@ module _ {D E F : Type 0} (d : disks.Ghosts D) (e : disks.Ghosts E) (from : Side
   no_fault is image told = sym (same_fault image told) ∙ subst (λ s. IsKind s (first_fault first)) is said_kind
 
   -- so SIDE's blocks spell what a stop may leave of the other disk, once they are copied
-  pub right_copied : (n : ℕ) (right'' : E) → said ≡ None → d.has_been left (d.moment left) → e.has_been right (e.moment right) → n ≡ min (d.block_count left') (e.block_count right') → from ≡ Left
+  pub right_copied : (n : ℕ) (right'' : E) → said ≡ None → (d.time left).has_been (d.time left).moment → (e.time right).has_been (e.time right).moment → n ≡ min (d.block_count left') (e.block_count right') → from ≡ Left
       → LeavesCopy e (min (d.block_count left') (e.block_count right')) (d.seen left') right' right'' → CopyHolds e n (d.seen left') right' right''
   right_copied n right'' none left_been right_been is_n is leaves =
       let l = read_left d e left left' right right' first (Ok said) left_been right_been from judged in
@@ -121,7 +121,7 @@ module _ {D E F : Type 0} (d : disks.Ghosts D) (e : disks.Ghosts E) (from : Side
       let fine = subst (λ m. ForSome (option_map (take m) (seen_on d e from left right)) (λ image. first_fault image ≡ None)) (sym count) (no_fault none) in
       copy_holds e n (d.seen left') right' right'' (fine_left d e n from left left' right l.writes.same is fine) (subst (λ m. LeavesCopy e m (d.seen left') right' right'') (sym is_n) leaves)
 
-  pub left_copied : (n : ℕ) (left'' : D) → said ≡ None → d.has_been left (d.moment left) → e.has_been right (e.moment right) → n ≡ min (d.block_count left') (e.block_count right') → from ≡ Right
+  pub left_copied : (n : ℕ) (left'' : D) → said ≡ None → (d.time left).has_been (d.time left).moment → (e.time right).has_been (e.time right).moment → n ≡ min (d.block_count left') (e.block_count right') → from ≡ Right
       → LeavesCopy d (min (d.block_count left') (e.block_count right')) (e.seen right') left' left'' → CopyHolds d n (e.seen right') left' left''
   left_copied n left'' none left_been right_been is_n is leaves =
       let l = read_left d e left left' right right' first (Ok said) left_been right_been from judged in
@@ -167,7 +167,7 @@ module _ {D E S K : Type 0} (d : disks.Ghosts D) (e : disks.Ghosts E) (input : s
   }
 
 module _ {D E S K F : Type 0} (d : disks.Ghosts D) (e : disks.Ghosts E) (input : sources.Ghosts S) (to : sinks.Ghosts K) (from : Side) (left left' : D) (right right' : E) (first : Image)
-    (source : S) (sink : K) (steps : ℕ) (left_been : d.has_been left (d.moment left)) (right_been : e.has_been right (e.moment right)) where
+    (source : S) (sink : K) (steps : ℕ) (left_been : (d.time left).has_been (d.time left).moment) (right_been : (e.time right).has_been (e.time right).moment) where
   -- as its first blocks were read
   pub not_read : (failure : F) → IsSideJudged d e from left left' right right' first (Err failure) → MirrorKeeps (session_over from status.Disk None (use_of d left left') (use_of e right right') (use_of input source source) (use_of to sink sink) steps steps)
   not_read failure judged =

@@ -56,7 +56,7 @@ module _ {D E S K : Type 0} (d : disks.Ghosts D) (e : disks.Ghosts E) (input : s
     (before : CountGoesOn (to.faults sink) (to.faults replied) (to.is_spent sink) (to.is_spent replied)) (after : CountGoesOn (to.faults replied) (to.faults sink') (to.is_spent replied) (to.is_spent sink'))
     (both : 0 < closed.failed → BothRose (d.faults left) (d.faults closed.left) (d.is_spent closed.left) (e.faults right) (e.faults closed.right) (e.is_spent closed.right))
     (right_out : opened.alone ≡ Some Left → closed.right ≡ opened.right) (left_out : opened.alone ≡ Some Right → closed.left ≡ opened.left)
-    (left_told : (t : Moment) (c : Image) → d.left_since closed.left t c → IsTrue (d.tells_stops closed.left)) (right_told : (t : Moment) (c : Image) → e.left_since closed.right t c → IsTrue (e.tells_stops closed.right)) where
+    (left_told : (t : Moment) (c : Image) → (d.time closed.left).left_since t c → IsTrue (d.tells_stops closed.left)) (right_told : (t : Moment) (c : Image) → (e.time closed.right).left_since t c → IsTrue (e.tells_stops closed.right)) where
   mirror_rose : CountRose (mirror d e) opened closed → CountRose d left closed.left × CountRose e right closed.right
   mirror_rose rose =
       let b = both (rose_is_some opened.failed closed.failed rose) in
@@ -81,10 +81,10 @@ module _ {D E S K : Type 0} (d : disks.Ghosts D) (e : disks.Ghosts E) (input : s
     ends = ends;
     prefix = on_volume_then ((mirror d e).seen opened) _ _ (λ s a. put_prefix to ran (last_line closed.alone) result replied sink' ends.last (replies_text s) (use_of input source source') sink a (λ bytes. last_line closed.alone) (λ done. same_last (input.left source) (last_line closed.alone))) keeps.lines.answers;
     done = λ is. on_volume_then ((mirror d e).seen opened) _ _ (λ s a. put_all to ran (last_line closed.alone) result replied sink' ends.last (replies_text s) (use_of input source source') sink a (λ bytes. last_line closed.alone) (λ done. same_last (input.left source) (last_line closed.alone)) is) keeps.lines.answers;
-    left_held = λ used told c cut. left_stays closed.blocks closed.alone (d.tells_stops closed.left) (e.tells_stops closed.right) (d.moment closed.left) (e.moment closed.right) (d.left_since closed.left) (e.left_since closed.right) c used
-        (and_true (d.tells_stops closed.left) (e.tells_stops closed.right) (left_told (d.moment closed.left) cut.whole cut.is_one) told) (subst (λ n. CutOf n (d.left_since closed.left (d.moment closed.left)) c) (sym blocks) cut);
-    right_held = λ used told c cut. right_stays closed.blocks closed.alone (d.tells_stops closed.left) (e.tells_stops closed.right) (d.moment closed.left) (e.moment closed.right) (d.left_since closed.left) (e.left_since closed.right) c used
-        (and_true (d.tells_stops closed.left) (e.tells_stops closed.right) told (right_told (e.moment closed.right) cut.whole cut.is_one)) (subst (λ n. CutOf n (e.left_since closed.right (e.moment closed.right)) c) (sym blocks) cut);
+    left_held = λ used told c cut. left_stays closed.blocks closed.alone (d.tells_stops closed.left) (e.tells_stops closed.right) (d.time closed.left).moment (e.time closed.right).moment (d.time closed.left).left_since (e.time closed.right).left_since c used
+        (and_true (d.tells_stops closed.left) (e.tells_stops closed.right) (left_told (d.time closed.left).moment cut.whole cut.is_one) told) (subst (λ n. CutOf n ((d.time closed.left).left_since (d.time closed.left).moment) c) (sym blocks) cut);
+    right_held = λ used told c cut. right_stays closed.blocks closed.alone (d.tells_stops closed.left) (e.tells_stops closed.right) (d.time closed.left).moment (e.time closed.right).moment (d.time closed.left).left_since (e.time closed.right).left_since c used
+        (and_true (d.tells_stops closed.left) (e.tells_stops closed.right) told (right_told (e.time closed.right).moment cut.whole cut.is_one)) (subst (λ n. CutOf n ((e.time closed.right).left_since (e.time closed.right).moment) c) (sym blocks) cut);
     both_failed = both_failed;
     complete = on_volume_then ((mirror d e).seen opened) _ _ (λ s promise. λ not_both source_went sink_went.
         within_then input_limit (input.left source) _ _ (λ either. done_or_memory to ran (last_line closed.alone) result replied sink' ends.last sink before sink_went either)

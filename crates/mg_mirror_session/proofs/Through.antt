@@ -20,9 +20,7 @@ module _ {M N : Type 0} (facts : disks.Ghosts N) (view : M → N) where
     block_count = λ m. facts.block_count (view m);
     seen = λ m. facts.seen (view m);
     tells_stops = λ m. facts.tells_stops (view m);
-    moment = λ m. facts.moment (view m);
-    has_been = λ m. facts.has_been (view m);
-    left_since = λ m. facts.left_since (view m);
+    time = λ m. facts.time (view m);
     faults = λ m. facts.faults (view m);
     is_spent = λ m. facts.is_spent (view m);
   }

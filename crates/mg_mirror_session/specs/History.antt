@@ -81,8 +81,8 @@ module _ {D E S K : Type 0} (d : disks.Ghosts D) (e : disks.Ghosts E) (i : sourc
         → LeftBy (mirror d e) i o s (history.Ended runs (run_of m ran)) c
     -- So it is, if its lines were cut off, of what a stop at some moment since they began left of a disk that was in use.
     pub left_cut : (s : State) (runs : Runs (Two D E) S K) (m : MirrorCall D E S K) (ran : Ran m) → IsUsed Left ran.opened.alone m.alone
-        → IsTrue (e.tells_stops m.right') → (c : Image) → CutOf ran.opened.blocks (d.left_since m.left' (d.moment ran.opened.left)) c
+        → IsTrue (e.tells_stops m.right') → (c : Image) → CutOf ran.opened.blocks ((d.time m.left').left_since (d.time ran.opened.left).moment) c
         → LeftBy (mirror d e) i o s (history.CutOff runs (run_of m ran)) c
     pub right_cut : (s : State) (runs : Runs (Two D E) S K) (m : MirrorCall D E S K) (ran : Ran m) → IsUsed Right ran.opened.alone m.alone
-        → IsTrue (d.tells_stops m.left') → (c : Image) → CutOf ran.opened.blocks (e.left_since m.right' (e.moment ran.opened.right)) c
+        → IsTrue (d.tells_stops m.left') → (c : Image) → CutOf ran.opened.blocks ((e.time m.right').left_since (e.time ran.opened.right).moment) c
         → LeftBy (mirror d e) i o s (history.CutOff runs (run_of m ran)) c

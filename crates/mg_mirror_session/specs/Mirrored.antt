@@ -21,9 +21,9 @@ mirror d e = record {
   block_count = λ m. m.blocks;
   seen = λ m. seen_of m.blocks m.alone (d.seen m.left) (e.seen m.right);
   tells_stops = λ m. d.tells_stops m.left && e.tells_stops m.right;
-  moment = λ m. moment_of m.alone (d.moment m.left) (e.moment m.right);
-  has_been = λ m. Been m.alone (d.has_been m.left) (e.has_been m.right);
-  left_since = λ m. LeftSince m.blocks m.alone (d.tells_stops m.left && e.tells_stops m.right) (d.left_since m.left) (e.left_since m.right);
+  moment = λ m. moment_of m.alone (d.time m.left).moment (e.time m.right).moment;
+  has_been = λ m. Been m.alone (d.time m.left).has_been (e.time m.right).has_been;
+  left_since = λ m. LeftSince m.blocks m.alone (d.tells_stops m.left && e.tells_stops m.right) (d.time m.left).left_since (e.time m.right).left_since;
   faults = λ m. m.failed;
   is_spent = λ m. is_last m.failed;
 }

@@ -7,3 +7,8 @@ use Rattle.mg_model.specs.declared.replies.Reply.TheVariants as reply
 abbrev pub HasFewSlots : Reply → Type 0
 HasFewSlots (reply.Slots count bases) = count ≤ 8
 HasFewSlots other = Unit {0}
+
+-- the reply refuses the line
+abbrev pub IsRefusal : Reply → Type 0
+IsRefusal (reply.No word) = Unit {0}
+IsRefusal other = ⊥

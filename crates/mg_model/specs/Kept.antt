@@ -1,12 +1,16 @@
 -- What accesses and lines do to the keys that are kept, and to a counter of words.
 --
 -- Which keys are kept is a test on keys, and no list of seats is named here. A key that is kept spares a search.
-use Rattle.std.specs.{Option.option_map_or, Prelude.{ℕ, ◌≡◌, ◌≤◌, ◌+◌, ◌*◌, ◌&&◌, Bool, true, false, List, [], ◌∷◌}}
-use Rattle.std.specs.Prelude.{if◌then◌else◌, Some}
-use Rattle.mg_model.specs.{Accesses.{Access, accesses, line_words}, Keys.{Key, first_at, has_seat, is_elsewhere}}
-use Rattle.mg_model.specs.{Keys.{key_of, seat_of, key_taken, keys_taken}, State.State, Step.step, Warmth.Event}
-use Rattle.mg_model.specs.{Warmth.{failing, is_disturbing, is_recent}, declared.calls.Line.Line}
+use Rattle.std.specs.{List.list_all, Option.option_map_or, Prelude.{ℕ, ◌≡◌, ◌≤◌, ◌+◌, ◌*◌, ◌==◌, ◌&&◌, Bool, true, not}}
+use Rattle.std.specs.Prelude.{false, List, [], ◌∷◌, if◌then◌else◌, Some}
+use Rattle.mg_model.specs.{Accesses.{Access, accesses, line_words}, Keys.{Key, first_at, has_seat, key_of, seat_of}}
+use Rattle.mg_model.specs.{Keys.{key_taken, keys_taken}, State.State, Step.step, Warmth.{Event, failing, is_disturbing}}
+use Rattle.mg_model.specs.{Warmth.is_recent, declared.calls.Line.Line}
 use Rattle.mg_model.specs.declared.limits.TheConstants.{SEARCH_LIMIT as search_limit}
+
+-- whether a key's seat was taken by none of these keys
+abbrev pub is_elsewhere : List Key → Key → Bool
+is_elsewhere keys key = list_all (λ other. not (seat_of other == seat_of key)) keys
 
 -- whether the key of an access is kept
 abbrev pub is_known : (Key → Bool) → State → Access → Bool

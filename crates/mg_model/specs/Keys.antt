@@ -41,7 +41,3 @@ first_at seat keys = find (λ key. seat_of key == seat) keys
 -- whether the key's seat was taken by none of these but the key itself
 abbrev pub has_seat : List Key → Key → Bool
 has_seat keys key = list_all (λ other. is_key other key || not (seat_of other == seat_of key)) keys
-
--- whether it was taken by none of these at all
-abbrev pub is_elsewhere : List Key → Key → Bool
-is_elsewhere keys key = list_all (λ other. not (seat_of other == seat_of key)) keys

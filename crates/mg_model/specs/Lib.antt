@@ -23,6 +23,7 @@ pub mod Step
 pub mod Accesses
 pub mod Keys
 pub mod Warmth
+pub mod Events
 pub mod Kept
 pub mod Backed
 -- From bytes to lines, and from replies to bytes.

@@ -40,8 +40,3 @@ first_refusal ((holds, word) ∷ more) = if holds then Some word else first_refu
 -- a row of the table of calls: its state, its refusals in order, and what is done otherwise; a refused call changes nothing
 abbrev pub checked : State → List (Bool × Refusal) → Answer → Answer
 checked state refusals done = option_map_or (λ word. (state, No word)) (first_refusal refusals) done
-
--- the reply refuses the line
-abbrev pub IsRefusal : Reply → Type 0
-IsRefusal (No word) = Unit {0}
-IsRefusal other = ⊥

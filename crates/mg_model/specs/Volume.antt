@@ -29,11 +29,15 @@ pub data VolumeRead : Type 0 where
 abbrev pub row_bytes : List (List ℕ) → ℕ → ℕ → ℕ → List ℕ
 row_bytes image first size i = bytes_at (block_of image (first + i / (4096 / size))) (size * (i % (4096 / size))) size
 
--- The live rows of n places from place i on, each with its place; a free row is none of them. None if a place spells nothing.
+-- what is read at place i, before the rows after it: a live row with its place, and a free one not at all
+abbrev pub row_before : {R : Type 0} → ℕ → Option R → List (ℕ × R) → List (ℕ × R)
+row_before i row rows = cons_option (option_map (λ live. (i, live)) row) rows
+
+-- The live rows of n places from place i on, each with its place. None if a place spells nothing.
 abbrev pub live_rows : {R : Type 0} → (ℕ → Read R) → ℕ → ℕ → Option (List (ℕ × R))
 live_rows read i zero = Some []
 live_rows read i (suc n) =
-    and_then (read i) (λ row. and_then (live_rows read (i + 1) n) (λ rows. Some (cons_option (option_map (λ live. (i, live)) row) rows)))
+    and_then (read i) (λ row. and_then (live_rows read (i + 1) n) (λ rows. Some (row_before i row rows)))
 
 -- the rows of an image, which is replayed already
 pub record Rows : Type 0 where

@@ -3,8 +3,8 @@
 -- An access is warm if an earlier line made an allowed access with its key and nothing came between: no line that disturbs,
 -- and no allowed access with another key that has the same seat. The earlier lines of a session are given here as a list of
 -- events, the last one first.
-use Rattle.std.specs.{List.list_any, Option.option_map_or, Prelude.{ℕ, ◌≡◌, ◌↔◌, ◌+◌, ◌*◌, ◌&&◌, nat_le, nat_lt, Bool}}
-use Rattle.std.specs.Prelude.{true, false, not, List, [], ◌∷◌, ◌++◌, All, if◌then◌else◌, Option, Some}
+use Rattle.std.specs.{List.list_any, Option.option_map_or, Prelude.{ℕ, ◌≡◌, ◌≤◌, ◌+◌, ◌*◌, ◌&&◌, nat_le, nat_lt, Bool}}
+use Rattle.std.specs.Prelude.{true, false, not, List, [], ◌∷◌, ◌++◌, if◌then◌else◌, Option, Some}
 use Rattle.mg_model.specs.{Access.allowed, Accesses.{Access, accesses, fetched, turning, line_words}, Keys.Key}
 use Rattle.mg_model.specs.{Keys.{first_at, has_seat, is_key, key_of, seat_of, keys_taken}, ObjectCalls.is_aligned}
 use Rattle.mg_model.specs.{Script.operand, State.{Object, State, Thread, ThreadRow}, Step.step, Turn.picked}
@@ -55,15 +55,10 @@ disturbs state t _ = true
 abbrev pub is_disturbing : State → Line → Bool
 is_disturbing state line = is_ok (step state line).1 && disturbs state line.thread line.call
 
--- an earlier line of the session, and the state after it
+-- an earlier line of the session, and the state before it
 pub record Event : Type 0 where
   pub state : State
   pub line : Line
-
--- the events of a session: those of earlier lines, and then those of these lines, done from a state on
-abbrev pub events : List Event → State → List Line → List Event
-events past state [] = past
-events past state (line ∷ more) = events (record { state = state; line = line } ∷ past) (step state line).0 more
 
 -- the keys taken since the last line that disturbs, the last one first
 abbrev pub recent : List Event → List Key
@@ -99,28 +94,10 @@ cost_behind past state (line ∷ more) =
 abbrev pub cost : State → List Line → ℕ
 cost state lines = cost_behind [] state lines
 
--- the keys that an earlier line took, the last one first
-abbrev pub keys_taken_in : Event → List Key
-keys_taken_in event = keys_taken event.state (accesses event.state event.line)
-
-abbrev pub DisturbsNothing : Event → Type 0
-DisturbsNothing event = is_disturbing event.state event.line ≡ false
-
--- `is_recent` in plain words: an earlier line took the key, neither it nor a later one disturbs, and the key's seat was
--- taken by no other key since, be it in that line or in a later one.
-pub record WasTaken (past : List Event) (key : Key) : Type 0 where
-  pub later : List Event
-  pub event : Event
-  pub older : List Event
-  pub split : past ≡ later ++ event ∷ older
-  pub quiet : DisturbsNothing event
-  pub all_quiet : All DisturbsNothing later
-  pub after : List Key
-  pub before : List Key
-  pub took : keys_taken_in event ≡ after ++ key ∷ before
-  pub seat : has_seat after key ≡ true
-  pub seats : All (λ other. has_seat (keys_taken_in other) key ≡ true) later
-
--- the test says just what these words say
-abbrev pub TellsTaken : (List Event → Key → Bool) → Type 0
-TellsTaken test = (past : List Event) (key : Key) → (test past key ≡ true) ↔ WasTaken past key
+-- Lines one after another, and a counter before and after them: each adds its own words at least, and at most what it may
+-- cost. So lines whose accesses are all warm add their own words and nothing else.
+abbrev pub CountsEach : List Event → State → List Line → ℕ → ℕ → Type 0
+CountsEach past state [] steps steps' = steps' ≡ steps
+CountsEach past state (line ∷ more) steps steps' =
+    (middle : ℕ) × (steps + line_words state line ≤ middle) × (middle ≤ steps + line_cost past state line)
+    × CountsEach (record { state = state; line = line } ∷ past) (step state line).0 more middle steps'

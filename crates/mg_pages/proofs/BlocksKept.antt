@@ -1,5 +1,5 @@
 -- What reads and writes of blocks leave of the journal and of what is kept.
-use Rattle.{mg_disk.specs.{Disk.{Image, block_at}, Runs.nothing_none, Stops.OnlyReads, declared.disk.Disk.Ghosts}, mg_faults.specs.Faults.count_none}
+use Rattle.{mg_disk.specs.{Disk.{Image, block_at}, Reads.OnlyReads, Runs.nothing_none, declared.disk.Disk.Ghosts}, mg_faults.specs.Faults.count_none}
 use Rattle.{mg_journal.specs.{Held.Store, Staged.staged, Standing.{IsFitting, Stands, total_of}}, mg_model.specs.Replay.replay}
 use Rattle.mg_pages.{proofs.{Awaited.fits-replayed, Staging.{staged-here, staged-there}}, specs.{Held.with_writes, Kept.AreKept, Meaning.replayed}}
 use Rattle.{mg_pages.specs.{Parts.{KeepsMore, LooksAt}, declared.blocks.Blocks.Blocks}, std.proofs.Common.{refl, sym, ap, subst, ◌∙◌, ⊎_elim}}
@@ -54,11 +54,11 @@ pub keeps-writes : (told : Option Image) (first : ℕ) (old new : Blocks) → ne
 keeps-writes told first old new is = let k = keeps-none told first old in subst (KeepsMore told first old) (sym is) record { store = k.store; kept = k.kept }
 
 -- no block was read
-pub reads-none : {D T E : Type 0} (facts : Ghosts D) (disk : D) (x : T) → facts.has_been disk (facts.moment disk) → OnlyReads {E = E} facts disk disk (Ok x)
+pub reads-none : {D T E : Type 0} (facts : Ghosts D) (disk : D) (x : T) → (facts.time disk).has_been (facts.time disk).moment → OnlyReads {E = E} facts disk disk (Ok x)
 reads-none facts disk x been = record {
   writes = nothing_none facts disk been;
   calls = record { count = count_none (facts.faults disk) (facts.is_spent disk); blocks = refl; cause = tt };
 }
 
-pub looks-none : {D T E : Type 0} (facts : Ghosts D) (b c : Blocks) (disk : D) (x : T) → facts.has_been disk (facts.moment disk) → Stands facts c.store disk → ((first : ℕ) → KeepsMore (facts.seen disk) first b c) → LooksAt {E = E} facts b c disk disk (Ok x)
+pub looks-none : {D T E : Type 0} (facts : Ghosts D) (b c : Blocks) (disk : D) (x : T) → (facts.time disk).has_been (facts.time disk).moment → Stands facts c.store disk → ((first : ℕ) → KeepsMore (facts.seen disk) first b c) → LooksAt {E = E} facts b c disk disk (Ok x)
 looks-none facts b c disk x been stands keeps = record { keeps = keeps; stands = stands; reads = reads-none facts disk x been }

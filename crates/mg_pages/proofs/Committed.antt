@@ -1,5 +1,5 @@
 -- What a commit leaves, in the words of the pages.
-use Rattle.mg_disk.specs.{BecomesLemmas.becomes-of, Disk.{Image, SameBut, SeenBut}, Stops.Becomes, declared.disk.Disk.Ghosts}
+use Rattle.mg_disk.specs.{BecomesLemmas.becomes-of, Disk.{Image, SameBut, SeenBut}, Reads.Becomes, declared.disk.Disk.Ghosts}
 use Rattle.mg_journal.specs.{Contents.{InJournal, NewContents, SameContents}, Held.Store, WrittenLemmas.written_elsewhere}
 use Rattle.{mg_model.specs.{Layout.{first_frame, table_block, table_blocks}, Replay.written}, mg_pages.proofs.Awaited.{fits-replayed, length-coming}}
 use Rattle.mg_pages.{proofs.{Entries.{holds-spelled, spelled-past, spelled-table}, Tables.holds-apart}, specs.Committing.HasContents}

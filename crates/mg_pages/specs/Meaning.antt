@@ -2,7 +2,7 @@
 use Rattle.std.specs.{List.list_any, Option.{ForSome, option_map_or}, Prelude.{◌≡◌, ◌≢◌, ◌⊎◌, ◌+◌, ◌≤◌, ◌<◌, ◌==◌, ◌%◌}}
 use Rattle.std.specs.Prelude.{◌^◌, ℕ, Bool, true, false, List, [], length, replicate, slice_set, Option, Result, Some}
 use Rattle.std.specs.Prelude.{drop}
-use Rattle.mg_disk.specs.{Disk.{Image, block_at}, Stops.{NothingPending, OnlyReads}, declared.disk.Disk.Ghosts}
+use Rattle.mg_disk.specs.{Disk.{Image, block_at}, Reads.OnlyReads, Stops.NothingPending, declared.disk.Disk.Ghosts}
 use Rattle.{mg_journal.specs.{Contents.names, Held.Store, Staged.waiting}, mg_model.specs.Abbreviations.table_of}
 use Rattle.mg_model.specs.{Abbreviations.whole_table, Bytes.are_zeros, Layout.{first_frame, globals_block, table_block}}
 use Rattle.mg_model.specs.{Layout.total_blocks, Replay.{replay, written}, Tests.all_distinct, Volume.bound_pages}

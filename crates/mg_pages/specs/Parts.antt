@@ -1,7 +1,7 @@
 -- What the parts of a change of pages do, over the lists that they are given.
 use Rattle.std.specs.{List.{list_any, position}, Option.ForSome, Prelude.{◌≡◌, ◌⊎◌, ◌+◌, ◌/◌, ◌≤◌, ◌<◌, ◌==◌, ℕ, true}}
 use Rattle.std.specs.Prelude.{false, List, [], length, replicate, slice_set, Option, Result, Some}
-use Rattle.mg_disk.specs.{Disk.{Image, block_at}, Stops.OnlyReads, declared.disk.Disk.Ghosts}
+use Rattle.mg_disk.specs.{Disk.{Image, block_at}, Reads.OnlyReads, declared.disk.Disk.Ghosts}
 use Rattle.mg_journal.specs.{Contents.names, Held.Store, Staged.{are_once, staged}, Standing.Stands}
 use Rattle.mg_model.specs.{Bytes.block_words, Layout.{first_frame, table_block}, Replay.{homes_fit, written}}
 use Rattle.mg_pages.specs.{Entries.HoldsEntries, Kept.AreKept, Meaning.replayed, declared.blocks.Blocks.Blocks}

@@ -4,7 +4,8 @@ ghost use Rattle.std.specs.Prelude.{[], ◌≡◌, ◌≢◌, ◌⊎◌, ◌≤�
 ghost use Rattle.std.specs.List.{position, splice};
 ghost use Rattle.std.specs.Option.{ForSome};
 ghost use Rattle.mg_disk.specs.Disk.{block_at};
-ghost use Rattle.mg_disk.specs.Stops.{Becomes, DiskCalls, Leaves, OnlyReads};
+ghost use Rattle.mg_disk.specs.Stops.{DiskCalls, Leaves};
+ghost use Rattle.mg_disk.specs.Reads.{Becomes, OnlyReads};
 ghost use Rattle.mg_journal.specs.Staged.{are_once, goes_to, staged, waiting};
 ghost use Rattle.mg_journal.specs.Standing.{CanCommit, IsCommitted, OldOrNew, Stands, is_live, total_of};
 ghost use Rattle.mg_model.specs.Abbreviations.{word_bytes};

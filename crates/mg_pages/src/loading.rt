@@ -2,7 +2,7 @@
 ghost use Rattle.std.specs.Prelude.{◌≡◌, ◌≤◌, ◌+◌, ◌*◌, ◌<◌, OnOk, length, true};
 ghost use Rattle.std.specs.Option.{ForSome};
 ghost use Rattle.mg_disk.specs.Disk.{block_at};
-ghost use Rattle.mg_disk.specs.Stops.{OnlyReads};
+ghost use Rattle.mg_disk.specs.Reads.{OnlyReads};
 ghost use Rattle.mg_journal.specs.Standing.{Stands, total_of};
 ghost use Rattle.mg_model.specs.Abbreviations.{table_of};
 ghost use Rattle.mg_model.specs.Bytes.{are_zeros};

@@ -3,7 +3,8 @@ ghost use Rattle.std.specs.Prelude.{[], List, ◌≡◌, ◌≢◌, ◌⊎◌, �
 ghost use Rattle.std.specs.List.{splice};
 ghost use Rattle.std.specs.Option.{ForSome};
 ghost use Rattle.mg_disk.specs.Disk.{block_at};
-ghost use Rattle.mg_disk.specs.Stops.{Becomes, DiskCalls, Leaves, OnlyReads};
+ghost use Rattle.mg_disk.specs.Stops.{DiskCalls, Leaves};
+ghost use Rattle.mg_disk.specs.Reads.{Becomes, OnlyReads};
 ghost use Rattle.mg_journal.specs.Contents.{SameContents};
 ghost use Rattle.mg_journal.specs.Standing as journal;
 ghost use Rattle.mg_model.specs.Abbreviations.{table_of, word_bytes};

@@ -157,7 +157,7 @@ module _ {M D S K : Type 0} (is : machines.Ghosts M) (d : DiskUse D) (i : Source
   session_exactly (Err e) w = exactly_early e w
 
   pub session_at_disk : {T : Type 0} (r : Result T Ended) → IfErr r Early → r ≡ Err ended.Disk → is.is_live p.machine ≡ true
-      → ForSome (facts.seen entry.disk) (λ image. KeepsExactly (facts.left_since p.disk (facts.moment p.disk)) (is.kept entry.machine image) left entry.taken p.taken)
+      → ForSome (facts.seen entry.disk) (λ image. KeepsExactly ((facts.time p.disk).left_since (facts.time p.disk).moment) (is.kept entry.machine image) left entry.taken p.taken)
   session_at_disk (Ok x) w at live = absurd (cc)
   session_at_disk (Err ended.Disk) w at live = disk_exactly is facts entry limit batch (limit + 4096) left left' p live w
   session_at_disk (Err ended.Source) w at live = absurd (cc)

@@ -104,7 +104,7 @@ module _ {M D : Type 0} (is : machines.Ghosts M) (facts : Ghosts D) (entry : Ent
       (λ c f. subst (λ (v : List Line). IsPrefix (is.kept entry.machine image) v c) (sym cut.1) (prefix_longer (is.kept entry.machine image) w.ls cut.0 c f))
 
   pub stops_held : (e : Ended) (left left' : Option (List ℕ)) (p : Point M D) → Stops (Broken is facts batch) e entry left limit batch most p left'
-      → ForSome (facts.seen entry.disk) (λ image. KeepsAnswered (facts.left_since p.disk (facts.moment p.disk)) (is.kept entry.machine image) left left' entry.taken p.taken)
+      → ForSome (facts.seen entry.disk) (λ image. KeepsAnswered ((facts.time p.disk).left_since (facts.time p.disk).moment) (is.kept entry.machine image) left left' entry.taken p.taken)
   stops_held e None left' p w = λ image seen. tt
   stops_held e (Some input) None p w = absurd w.read
   stops_held e (Some input) (Some rest) p w = λ image seen. λ c left.
@@ -118,13 +118,13 @@ module _ {M D : Type 0} (is : machines.Ghosts M) (facts : Ghosts D) (entry : Ent
 
   pub exactly : (e : Ended) (left left' : Option (List ℕ)) (p : Point M D) (w : Stops (Broken is facts batch) e entry left limit batch most p left')
       → ((kept : List Line → State) (c : Image) → Held e (is.is_live p.machine) (answered w.put) kept w.ls c → volume c ≡ Is (kept (take (answered w.put) w.ls)))
-      → ForSome (facts.seen entry.disk) (λ image. KeepsExactly (facts.left_since p.disk (facts.moment p.disk)) (is.kept entry.machine image) left entry.taken p.taken)
+      → ForSome (facts.seen entry.disk) (λ image. KeepsExactly ((facts.time p.disk).left_since (facts.time p.disk).moment) (is.kept entry.machine image) left entry.taken p.taken)
   exactly e None left' p w held = λ image seen. tt
   exactly e (Some input) None p w held = absurd w.read
   exactly e (Some input) (Some rest) p w held = by_sink entry.taken p.taken w.broken.sink
     where
       by_sink : (before now : Option (List ℕ)) → Appends before now w.put
-          → ForSome (facts.seen entry.disk) (λ image. KeepsExactly (facts.left_since p.disk (facts.moment p.disk)) (is.kept entry.machine image) (Some input) before now)
+          → ForSome (facts.seen entry.disk) (λ image. KeepsExactly ((facts.time p.disk).left_since (facts.time p.disk).moment) (is.kept entry.machine image) (Some input) before now)
       by_sink None now took = λ image seen. tt
       by_sink (Some before) None took = absurd took
       by_sink (Some before) (Some now) took = λ image seen. λ c left.
@@ -162,7 +162,7 @@ module _ {M D : Type 0} (is : machines.Ghosts M) (facts : Ghosts D) (entry : Ent
 
   -- the disk failed, and no commit of it
   pub disk_exactly : (left left' : Option (List ℕ)) (p : Point M D) → is.is_live p.machine ≡ true → Stops (Broken is facts batch) ended.Disk entry left limit batch most p left'
-      → ForSome (facts.seen entry.disk) (λ image. KeepsExactly (facts.left_since p.disk (facts.moment p.disk)) (is.kept entry.machine image) left entry.taken p.taken)
+      → ForSome (facts.seen entry.disk) (λ image. KeepsExactly ((facts.time p.disk).left_since (facts.time p.disk).moment) (is.kept entry.machine image) left entry.taken p.taken)
   disk_exactly left left' p live w = exactly ended.Disk left left' p w (λ kept c h. subst (λ (v : Bool). Held ended.Disk v (answered w.put) kept w.ls c) live h)
 
   pub source_within : (left left' : Option (List ℕ)) (p : Point M D) → Stops (Broken is facts batch) ended.Source entry left limit batch most p left' → TakesAtMost limit left left'
@@ -177,7 +177,7 @@ module _ {M D : Type 0} (is : machines.Ghosts M) (facts : Ghosts D) (entry : Ent
 
   -- after a fault of the sink there is one state
   pub sink_one : (left left' : Option (List ℕ)) (p : Point M D) → Stops (Broken is facts batch) ended.Sink entry left limit batch most p left'
-      → ForSome (facts.seen entry.disk) (λ image. KeepsOne (facts.left_since p.disk (facts.moment p.disk)) (is.kept entry.machine image) left left' entry.taken p.taken)
+      → ForSome (facts.seen entry.disk) (λ image. KeepsOne ((facts.time p.disk).left_since (facts.time p.disk).moment) (is.kept entry.machine image) left left' entry.taken p.taken)
   sink_one None left' p w = λ image seen. tt
   sink_one (Some input) None p w = absurd w.read
   sink_one (Some input) (Some rest) p w = λ image seen.

@@ -48,11 +48,11 @@ line_then done waiting line more = ap (λ v. v ++ more) (sym (append_assoc done 
 
 module _ {D : Type 0} (facts : Ghosts D) where
   -- an image that may be left if nothing is pending is what reads give
-  pub left_spells : (d : D) (image c : Image) (s : State) → NothingPending facts d → facts.seen d ≡ Some image → volume image ≡ Is s → facts.left_since d (facts.moment d) c → volume c ≡ Is s
+  pub left_spells : (d : D) (image c : Image) (s : State) → NothingPending facts d → facts.seen d ≡ Some image → volume image ≡ Is s → (facts.time d).left_since (facts.time d).moment c → volume c ≡ Is s
   left_spells d image c s only seen spelled left = ap volume (some_image image c (sym seen ∙ only c left)) ∙ spelled
 
 module _ {M D : Type 0} (is : machines.Ghosts M) (facts : Ghosts D) where
-  pub Session-begins : (m : M) (d : D) (t : Option (List ℕ)) (n : ℕ) (o : Waiting) → NothingPending facts d → facts.has_been d (facts.moment d)
+  pub Session-begins : (m : M) (d : D) (t : Option (List ℕ)) (n : ℕ) (o : Waiting) → NothingPending facts d → (facts.time d).has_been (facts.time d).moment
       → ForSome (facts.seen d) (λ image. volume image ≡ Is (is.kept m image [])) → ((image : Image) → is.said m image [] ≡ []) → ((image : Image) (n : ℕ) → is.Stepped m image [] n n m) → o ≡ no_replies
       → Session is facts (record { machine = m; disk = d; taken = t; steps = n }) [] (record { machine = m; disk = d; owed = o; taken = t; steps = n })
   Session-begins m d t n o only been spelled none begins empty = record {
@@ -264,7 +264,7 @@ module _ {M D : Type 0} (is : machines.Ghosts M) (facts : Ghosts D) where
 
   -- what is held if an open batch is left as it is
   open_held : (entry : Entry M D) (first : Image) (ls done waiting : List Line) (put : List ℕ) (p : Point M D) (c : Image) → Stands is facts entry first done waiting put p → ls ≡ done ++ waiting
-      → answered put ≡ length done → NothingPending facts p.disk → facts.left_since p.disk (facts.moment p.disk) c → volume c ≡ Is (is.kept entry.machine first (take (answered put) ls))
+      → answered put ≡ length done → NothingPending facts p.disk → (facts.time p.disk).left_since (facts.time p.disk).moment c → volume c ≡ Is (is.kept entry.machine first (take (answered put) ls))
   open_held entry first ls done waiting put p c st split answers only left = grind (arith, left_spells, first_lines)
 
   -- the input ended the session, and the open batch is left as it is

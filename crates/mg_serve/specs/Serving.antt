@@ -104,7 +104,7 @@ pub record Remains {M D : Type 0} (is : machines.Ghosts M) (facts : disks.Ghosts
   pub replies : (later : List Line) → (more : List ℕ) × (is.said entry.machine first (ls ++ later) ≡ put ++ more)
   pub whole : PutsWhole e (is.said entry.machine first) ls put
   pub leaves : Leaves facts entry.disk p.disk (IsPrefix (is.kept entry.machine first) ls)
-  pub held : (c : Image) → facts.left_since p.disk (facts.moment p.disk) c → Held e (is.is_live p.machine) (answered put) (is.kept entry.machine first) ls c
+  pub held : (c : Image) → (facts.time p.disk).left_since (facts.time p.disk).moment c → Held e (is.is_live p.machine) (answered put) (is.kept entry.machine first) ls c
   pub stepped : IsAfter is e (answered put) entry.machine first ls entry.steps p.steps p.machine
 
 -- the session in batches of `batch` replies ended so, with these bytes sent, and had stepped these lines

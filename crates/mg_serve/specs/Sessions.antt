@@ -86,7 +86,7 @@ SinkRose o = Rose (o.facts.faults o.old) (o.facts.faults o.new) (o.facts.is_spen
 
 -- a stop at the end may leave this image
 abbrev pub MayLeave : {D : Type 0} → DiskUse D → Image → Type 0
-MayLeave d c = d.facts.left_since d.new (d.facts.moment d.new) c
+MayLeave d c = (d.facts.time d.new).left_since (d.facts.time d.new).moment c
 
 -- at each moment a stop left such an image
 abbrev pub AlwaysLeft : {D : Type 0} → DiskUse D → (Image → Type 0) → Type 0

@@ -64,7 +64,7 @@ pub fn serve<M: Machine, D: Disk, S: Source, K: Sink, L: Ledger>(
 
     // If the disk failed and the machine is live, no commit failed, and the answered lines are held and no others.
     ensures held_disk { result ≡ Err Ended.Disk → IsTrue (M.is_live machine.new) → ForSome (D.seen disk.old) (λ image.
-        KeepsExactly (D.left_since disk.new (D.moment disk.new)) (M.kept machine.old image) (S.left source.old) (K.taken sink.old) (K.taken sink.new)) }
+        KeepsExactly ((D.time disk.new).left_since (D.time disk.new).moment) (M.kept machine.old image) (S.left source.old) (K.taken sink.old) (K.taken sink.new)) }
 {
     serve_lines(machine, disk, source, sink, owed, batch, limit, steps)
 }

@@ -3,7 +3,7 @@ use Rattle.mg_commands.specs.{GeneratedLemmas.{length-replies, length-run, repli
 use Rattle.{mg_disk.specs.{Disk.Image, Stops.WritesNothing, declared.disk.Disk.Ghosts}, mg_gen.specs.Asked.{LinesAreCalls, line_asked}}
 use Rattle.{mg_gen.specs.Tallies.tally_of, mg_kernel.specs.{Meaning.{keeps_key, now_of, seats_in}, Opening.Holds, SteppingLemmas.GoesOn}}
 use Rattle.{mg_kernel.specs.{SteppingLemmas.{spent-line, warm-more, warm-same}, declared.kernel.Kernel.Kernel}, mg_laws.specs.Costs.BeginsWarm}
-use Rattle.mg_model.specs.{Kept.{KeepsLine, KeepsWarm}, Refused.Answer, State.State, Step.{after, step}, Warmth.events, declared.calls.Line.Line}
+use Rattle.mg_model.specs.{Events.events, Kept.{KeepsLine, KeepsWarm}, Refused.Answer, State.State, Step.{after, step}, declared.calls.Line.Line}
 use Rattle.{mg_model.specs.declared.replies.Reply.Reply, mg_session.{proofs.Texts.after-append, specs.Generating.{At, Counted, Counts}}}
 use Rattle.std.{proofs.Common.{refl, sym, ap, ◌∙◌, arith, subst}, specs.{Option.ForSome, Prelude.{ℕ, ◌≡◌, ◌≤◌, ◌<◌, ◌+◌, ◌-◌, ◌^◌, List, [], ◌∷◌}}}
 use Rattle.std.specs.Prelude.{◌++◌, length}

@@ -2,8 +2,8 @@
 use Rattle.std.specs.Prelude.{ℕ, ◌≡◌, ◌≤◌, ◌<◌, ◌+◌, ◌-◌, ◌^◌, List, [], ◌∷◌, ◌++◌, length, Some, IsTrue}
 use Rattle.{mg_commands.specs.Headline.replies_from, mg_disk.specs.{Disk.Image, declared.disk.Disk.Ghosts}}
 use Rattle.{mg_gen.specs.Tallies.tally_of, mg_kernel.specs.Meaning.{StandsOn, is_live, keeps_key, now_of, staged_of}}
-use Rattle.{mg_kernel.specs.declared.kernel.Kernel.Kernel, mg_model.specs.{Fresh.fresh, Kept.KeepsWarm}}
-use Rattle.mg_model.specs.{Settings.Settings, State.State, Step.after, Warmth.{cost, events}, declared.calls.Line.Line}
+use Rattle.{mg_kernel.specs.declared.kernel.Kernel.Kernel, mg_model.specs.{Events.events, Fresh.fresh, Kept.KeepsWarm}}
+use Rattle.mg_model.specs.{Settings.Settings, State.State, Step.after, Warmth.cost, declared.calls.Line.Line}
 
 -- a kernel on a disk whose reads are told, in the fresh state of these settings
 pub record IsFresh {D : Type 0} (facts : Ghosts D) (settings : Settings) (disk : D) (k : Kernel) : Type 0 where

@@ -63,7 +63,7 @@ pub fn serve<D: Disk, S: Source, K: Sink, L: Ledger>(
 
     // If the disk failed and the kernel is live, no commit failed, and the answered lines are held and no others.
     ensures held_disk { result ≡ Err Ended.Disk → IsTrue (is_live kernel.new) → ForSome (D.seen disk.old) (λ image.
-        KeepsExactly (D.left_since disk.new (D.moment disk.new)) (after (now_of kernel.old image))
+        KeepsExactly ((D.time disk.new).left_since (D.time disk.new).moment) (after (now_of kernel.old image))
         (S.left source.old) (K.taken sink.old) (K.taken sink.new)) }
 {
     costs_add_up();

@@ -1,5 +1,5 @@
 -- What reads give, one after another, and what the lists that are read add to marks.
-use Rattle.{mg_check.specs.ReadRuns.{same_contents, still_read}, mg_disk.specs.Stops.OnlyRead, mg_show.proofs.Marked.{marks_none, marks_then}}
+use Rattle.{mg_check.specs.ReadRuns.{same_contents, still_read}, mg_disk.specs.Reads.OnlyRead, mg_show.proofs.Marked.{marks_none, marks_then}}
 use Rattle.mg_show.proofs.Names.{◌≡◌, ℕ, Bool, List, [], ◌++◌, Option, ap, refl, subst, ◌∙◌, Image, Fits, Slot, ObjectRow, Finds, Learns, Marks}
 use Rattle.mg_show.{proofs.Names.{named_by, Shown, Held, reads_none}, specs.{Shown.CanShow, WritingLemmas.{reads_kept, reads_then}}}
 use Rattle.mg_disk.specs.declared.disk.Disk as disks
@@ -10,7 +10,7 @@ module _ {D : Type 0} (facts : disks.Ghosts D) where
 
 module _ {D : Type 0} (facts : disks.Ghosts D) {of : Image → Option Image} where
   -- what needs no read
-  pub learns_none : {P : Image → Type 0} (d : D) (o : Held) → facts.has_been d (facts.moment d) → ((r : Image) → P r) → Learns facts of P d d o o
+  pub learns_none : {P : Image → Type 0} (d : D) (o : Held) → (facts.time d).has_been (facts.time d).moment → ((r : Image) → P r) → Learns facts of P d d o o
   learns_none d o been is = record { is = λ none r told. is r; reads = reads_none facts d o been }
 
   -- what follows from two
@@ -29,7 +29,7 @@ module _ {D : Type 0} (facts : disks.Ghosts D) {of : Image → Option Image} whe
 
   module _ {Key : Type 0} {has : ℕ → Key → Bool} {gives : ObjectRow → ℕ → Key → Bool} {objects : List (ℕ × ObjectRow)} where
     -- no list
-    pub found_none : (d : D) (p : List ℕ) (o : Held) → facts.has_been d (facts.moment d)
+    pub found_none : (d : D) (p : List ℕ) (o : Held) → (facts.time d).has_been (facts.time d).moment
         → Finds facts of has gives objects (λ r. []) d d p p o o
     found_none d p o been = record { learns = learns_none d o been (λ r. marks_none has gives objects p); long = refl }
 

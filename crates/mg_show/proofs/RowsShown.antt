@@ -15,7 +15,7 @@ taken_whole a b v text none adds = subst (λ t. Appends a b t) (sym (append-nil 
 
 module _ {D K : Type 0} (facts : disks.Ghosts D) (to : sinks.Ghosts K) (asked : Text) (rows : VolumeRows) (d : D) (s : K) (told : ForSome (facts.seen d) (IsReadAs rows)) where
   -- memory was wanting
-  pub not_shown : facts.has_been d (facts.moment d) → ShowsRows facts to asked status.Memory d d s s
+  pub not_shown : (facts.time d).has_been (facts.time d).moment → ShowsRows facts to asked status.Memory d d s s
   not_shown been = record {
     done = λ is. absurd (cc);
     prefix = λ image seen. let read = told image seen in (state_in rows read.replayed, read.is, AppendsPrefix-none (to.taken s) (text_of asked (state_in rows read.replayed)));

@@ -1,8 +1,9 @@
 -- What is kept as the text of a volume is put, once it was found to be one.
 use Rattle.std.specs.{Io.KnownBytes.Appends, Option.ForSome, Prelude.{◌≡◌, ◌⊎◌, None, Option, Some}}
-use Rattle.{mg_disk.specs.Stops.{CountRose, OnlyRead}, mg_faults.specs.Faults.Rose, mg_io.specs.Known.AppendsPrefix}
-use Rattle.{mg_model.specs.{State.State, Volume.{Is, volume}}, mg_serve.specs.declared.status.Status.Status}
-use Rattle.mg_show.specs.{Commands.text_of, declared.{command.Text.Text, faults.ShowFault.ShowFault}}
+use Rattle.{mg_disk.specs.{Reads.OnlyRead, Stops.CountRose}, mg_faults.specs.Faults.Rose}
+use Rattle.{mg_io.specs.Known.AppendsPrefix, mg_model.specs.{State.State, Volume.{Is, volume}}}
+use Rattle.{mg_serve.specs.declared.status.Status.Status, mg_show.specs.{Commands.text_of, declared.command.Text.Text}}
+use Rattle.mg_show.specs.declared.faults.ShowFault.{ShowFault}
 use Rattle.mg_disk.specs.declared.disk.Disk as disks
 use Rattle.mg_io.specs.declared.traits.Sink as sinks
 use Rattle.mg_serve.specs.declared.status.Status.TheVariants as status

@@ -1,7 +1,7 @@
 -- Text that is put through a writer, which remembers the first fault.
 use Rattle.std.specs.{Io.KnownBytes.Appends, Option.ForSome, Prelude.{ℕ, ◌≡◌, ◌⊎◌, List, ◌++◌, Option, Some, None}}
 use Rattle.std.specs.Prelude.{IsTrue, is_some}
-use Rattle.{mg_check.specs.Reads.contents, mg_disk.specs.{Disk.Image, Stops.{CountRose, OnlyRead}}}
+use Rattle.{mg_check.specs.Reads.contents, mg_disk.specs.{Disk.Image, Reads.OnlyRead, Stops.CountRose}}
 use Rattle.{mg_faults.specs.Faults.{CountGoesOn, Rose}, mg_io.specs.Known.AppendsPrefix}
 use Rattle.mg_show.specs.declared.faults.ShowFault.{ShowFault}
 use Rattle.mg_disk.specs.declared.disk.Disk as disks

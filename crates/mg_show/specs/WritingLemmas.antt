@@ -4,8 +4,8 @@ use Rattle.std.proofs.{Common.{inr, ⊎_elim, ◌∙◌, append_assoc, append-ni
 use Rattle.std.{proofs.lemmas.List.{take_all, take_more}, specs.{List.{HoldsAt, flat_map}, Option.ForSome}}
 use Rattle.std.specs.{Option.option_map_or, Prelude.{◌⊎◌, IsTrue, is_some, Some, None}}
 use Rattle.{mg_check.specs.{ReadRuns.{only_none, only_then, same_contents}, Reads.contents}, mg_disk.specs.Disk.Image}
-use Rattle.{mg_disk.specs.Stops.{CountGoes, CountRose, OnlyRead}, mg_faults.specs.Faults.{count_none, count_then}}
-use Rattle.{mg_faults.specs.Faults.{rose_then, then_rose}, mg_io.specs.Known.{Appends-none, Appends-then}}
+use Rattle.{mg_disk.specs.{Reads.OnlyRead, Stops.{CountGoes, CountRose}}, mg_faults.specs.Faults.count_none}
+use Rattle.{mg_faults.specs.Faults.{count_then, rose_then, then_rose}, mg_io.specs.Known.{Appends-none, Appends-then}}
 use Rattle.{mg_io.specs.Known.{AppendsPrefix, AppendsPrefix-longer, AppendsPrefix-none}, mg_model.specs.State.ObjectRow}
 use Rattle.mg_show.specs.Writing.{Adds, Held, Puts, PutsOf, ReadFails, Reads, Writes}
 use Rattle.mg_show.specs.declared.faults.ShowFault.{ShowFault}
@@ -153,7 +153,7 @@ puts_all to text xs i end = puts_same to (ap text (take_all i xs end))
 -- Text of what a disk holds
 
 module _ {D : Type 0} (facts : disks.Ghosts D) where
-  pub reads_none : (d : D) (o : Held) → facts.has_been d (facts.moment d) → Reads facts d d o o
+  pub reads_none : (d : D) (o : Held) → (facts.time d).has_been (facts.time d).moment → Reads facts d d o o
   reads_none d o been = record { reads = only_none facts d been; ends = inl refl }
 
   pub reads_then : {d d' d'' : D} {o o' o'' : Held} → Reads facts d d' o o' → Reads facts d' d'' o' o'' → Reads facts d d'' o o''
@@ -183,7 +183,7 @@ module _ {D : Type 0} (facts : disks.Ghosts D) where
 
 module _ {D K : Type 0} (facts : disks.Ghosts D) (to : sinks.Ghosts K) {of : Image → Option Image} where
   -- text that needs no disk
-  pub of_put : {text : List ℕ} {d : D} {s s' : K} {o o' : Held} → facts.has_been d (facts.moment d) → Puts to text s s' o o' → PutsOf facts to of (λ r. text) d d s s' o o'
+  pub of_put : {text : List ℕ} {d : D} {s s' : K} {o o' : Held} → (facts.time d).has_been (facts.time d).moment → Puts to text s s' o o' → PutsOf facts to of (λ r. text) d d s s' o o'
   of_put {text} {d} {s} {s'} {o} {o'} been puts = record {
     told = text;
     is = λ r told. refl;

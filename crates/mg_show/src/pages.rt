@@ -2,7 +2,8 @@
 ghost use Rattle.std.specs.Prelude.{◌≡◌, ◌≤◌, ◌<◌, [], None, OnErr, OnOk, if◌then◌else◌, length};
 ghost use Rattle.std.specs.Option.{ForSome};
 ghost use Rattle.mg_check.specs.Reads.{CanRead, contents};
-ghost use Rattle.mg_disk.specs.Stops.{CountRose, OnlyRead};
+ghost use Rattle.mg_disk.specs.Stops.{CountRose};
+ghost use Rattle.mg_disk.specs.Reads.{OnlyRead};
 ghost use Rattle.mg_journal.specs.Looked.{Fits};
 ghost use Rattle.mg_model.specs.Access.{pairs_of, pairs_under, holds};
 ghost use Rattle.mg_model.specs.Bytes.{block_words};

@@ -4,7 +4,7 @@ use Rattle.std.proofs.lemmas.List.{get_or_past, Elements.{All-map, All-replicate
 use Rattle.std.specs.{Option.option_map_or, Prelude.{◌≡◌, ◌≤◌, ℕ, zero, suc, ◌==◌, ◌&&◌, nat_lt, Bool, true, false}}
 use Rattle.std.specs.Prelude.{List, if◌then◌else◌, length, replicate, slice_index_or, slice_set, Option, Some, None}
 use Rattle.std.specs.Prelude.{IfSome}
-use Rattle.mg_model.specs.{Backed.{IsBacked, KeepsBacked, by_none}, Keys.{Key, is_key, seat_of}, Refused.IsRefusal}
+use Rattle.mg_model.specs.{Backed.{IsBacked, KeepsBacked, by_none}, FewSlots.IsRefusal, Keys.{Key, is_key, seat_of}}
 use Rattle.mg_model.specs.{Rights.right_number, State.State, Warmth.is_ok, declared.replies.Reply.Reply}
 use Rattle.mg_model.specs.declared.{replies.Reply.TheVariants.No, rights.Right.Right, seats.Seat.Seat}
 use Rattle.mg_vcache.specs.{Drops.Drops, Seats.{AllBacked, EachKept, is_kept, key_in, unless_ended, without}}

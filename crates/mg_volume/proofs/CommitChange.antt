@@ -1,5 +1,5 @@
 -- What a commit of the pages does to the volume.
-use Rattle.mg_disk.specs.{BecomesLemmas.becomes-of, Disk.{Image, SeenBut}, Stops.Becomes, declared.disk.Disk.Ghosts}
+use Rattle.mg_disk.specs.{BecomesLemmas.becomes-of, Disk.{Image, SeenBut}, Reads.Becomes, declared.disk.Disk.Ghosts}
 use Rattle.{mg_journal.specs.Contents.{InJournal, SameContents}, mg_model.specs.{Abbreviations.whole_table, Layout.total_blocks, Objects.page_of}}
 use Rattle.{mg_model.specs.{Replay.replay, State.ObjectRow, Volume.{Is, object_spelled, volume}}, mg_pages.specs.ComingLemmas.length_coming}
 use Rattle.mg_pages.specs.{ComingLemmas.low_coming, Committing.HasContents, declared.pages.Pages.Pages}

@@ -1,5 +1,5 @@
 -- A volume is opened from the rows that were read of it.
-use Rattle.mg_disk.specs.{BecomesLemmas.{becomes-of, becomes-to}, Disk.Image, Runs.leaves_wider, Stops.{Becomes, Leaves, LeftOr}}
+use Rattle.mg_disk.specs.{BecomesLemmas.{becomes-of, becomes-to}, Disk.Image, Reads.Becomes, Runs.leaves_wider, Stops.{Leaves, LeftOr}}
 use Rattle.{mg_disk.specs.declared.disk.Disk.Ghosts, mg_journal.specs.{Contents.SameContents, Held.Store}}
 use Rattle.mg_model.specs.{Abbreviations.{account_row_bytes, is_page_of, object_row_bytes, table_of, thread_row_bytes, whole_table}, Bytes.are_zeros}
 use Rattle.mg_model.specs.{Layout.{globals_block, total_blocks}, Limits.{account_limit, thread_limit, object_limit}, Ranges.IsObjectRow}

@@ -1,8 +1,8 @@
 -- Words for what a call does to a volume, and for what it replies.
 use Rattle.std.specs.{Option.ForSome, Prelude.{◌≡◌, ◌+◌, ◌≤◌, ℕ, true, Option}}
 use Rattle.mg_disk.specs.{Disk.Image, Stops.{CountGoes, WritesNothing}, declared.disk.Disk.Ghosts}
-use Rattle.mg_model.specs.{Access.allowed, Counts.CountsAlike, FewSlots.HasFewSlots, ObjectCalls.row_at, Refused.Answer}
-use Rattle.mg_model.specs.{Refused.IsRefusal, State.{ObjectRow, State}, WellFormed.IsWellFormed}
+use Rattle.mg_model.specs.{Access.allowed, Counts.CountsAlike, FewSlots.{HasFewSlots, IsRefusal}, ObjectCalls.row_at}
+use Rattle.mg_model.specs.{Refused.Answer, State.{ObjectRow, State}, WellFormed.IsWellFormed}
 use Rattle.{mg_model.specs.declared.{replies.Reply.Reply, rights.Right.Right}, mg_volume.specs.Held.VolumeHeld}
 use Rattle.mg_volume.specs.Meaning.{IsSpelledBy, Keeps, SameRows, SameShape, StandsOn, is_live, is_sound, now_of}
 use Rattle.mg_volume.specs.{Meaning.{objects_in, staged_of, words_in}, Staging.{ObjectsStillStaged, StillStaged}}

@@ -3,8 +3,8 @@ use Rattle.std.{proofs.{Common.{arith, refl, sym, ap, subst, ◌∙◌}, Math.Na
 use Rattle.std.specs.Prelude.{◌≡◌, ◌+◌, ◌%◌, ◌^◌, ◌≤◌, ◌==◌, ℕ, Bool, find, map, Option}
 use Rattle.mg_disk.specs.{Disk.Image, Runs.{nothing_none, nothing_then}, Stops.{CountGoes, WritesNothing}}
 use Rattle.{mg_disk.specs.declared.disk.Disk.Ghosts, mg_faults.specs.Faults.{count_none, count_then}}
-use Rattle.mg_model.specs.{Access.thread_of, Counts.CountsAlike, FewSlots.HasFewSlots, Refused.IsRefusal}
-use Rattle.mg_model.specs.{State.{Counters, Object, ObjectRow, State, Thread}, WellFormed.IsWellFormed}
+use Rattle.mg_model.specs.{Access.thread_of, Counts.CountsAlike, FewSlots.{HasFewSlots, IsRefusal}, State.Counters}
+use Rattle.mg_model.specs.{State.{Object, ObjectRow, State, Thread}, WellFormed.IsWellFormed}
 use Rattle.mg_model.specs.declared.replies.{Refusal.Refusal, Reply.{Reply, TheVariants.No}}
 use Rattle.mg_volume.specs.{Calls.{CallStages, IsSoundOn, Reads, Serves, Stages}, Held.VolumeHeld, Meaning.Keeps}
 use Rattle.mg_volume.specs.Meaning.{SameShape, StandsOn, counters_in, now_of, objects_in, threads_in, words_in}
@@ -99,7 +99,7 @@ module _ {D : Type 0} (facts : Ghosts D) where
     blocks = blocks;
   }
 
-  pub reads_none : (v : VolumeHeld) (disk : D) (steps : ℕ) → facts.has_been disk (facts.moment disk) → StandsOn facts v disk → Reads facts v v disk disk steps steps
+  pub reads_none : (v : VolumeHeld) (disk : D) (steps : ℕ) → (facts.time disk).has_been (facts.time disk).moment → StandsOn facts v disk → Reads facts v v disk disk steps steps
   reads_none v disk steps been stands =
       reads_of v v disk disk steps steps (keeps_none v) refl (still_none v) stands (nothing_none facts disk been) (alike_none (words_in v) steps) (count_none (facts.faults disk) (facts.is_spent disk)) refl
 
@@ -163,7 +163,7 @@ module _ {D : Type 0} (facts : Ghosts D) where
   }
 
   -- what stages without the disk, and reads nothing
-  pub stages_serve : (most : ℕ) (a b : VolumeHeld) (disk : D) (steps : ℕ) → facts.has_been disk (facts.moment disk) → StandsOn facts a disk → Stages most a b → Serves most facts a b disk disk steps steps
+  pub stages_serve : (most : ℕ) (a b : VolumeHeld) (disk : D) (steps : ℕ) → (facts.time disk).has_been (facts.time disk).moment → StandsOn facts a disk → Stages most a b → Serves most facts a b disk disk steps steps
   stages_serve most a b disk steps been stands more = then_stages most a a b disk disk steps steps (reads_none a disk steps been stands) more
 
   -- fewer may be said to be staged

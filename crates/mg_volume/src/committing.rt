@@ -1,7 +1,8 @@
 // Commits of a volume.
 ghost use Rattle.std.specs.Prelude.{◌≡◌, ◌⊎◌, false, IsOk, MatchResult, OnOk};
 ghost use Rattle.std.specs.Option.{ForSome};
-ghost use Rattle.mg_disk.specs.Stops.{Becomes, DiskCalls, Leaves};
+ghost use Rattle.mg_disk.specs.Stops.{DiskCalls, Leaves};
+ghost use Rattle.mg_disk.specs.Reads.{Becomes};
 ghost use Rattle.mg_model.specs.Volume.{Is, volume};
 ghost use Rattle.mg_volume.specs.Meaning.{CanCommit, SameRows, is_live, now_of, staged_of, words_in};
 ghost use Rattle.mg_volume.specs.Opening.{IsSaved};

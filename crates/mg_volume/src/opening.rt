@@ -3,7 +3,8 @@ ghost use Rattle.std.specs.Prelude.{◌≡◌, ◌≤◌, true, IfOk, IfSome, le
 ghost use Rattle.std.specs.Option.{ForSome};
 ghost use Rattle.mg_bank.specs.Bank.{credits_of};
 ghost use Rattle.mg_rules.specs.RowsRead.{AreKept, ArePlaced, IsReadAs};
-ghost use Rattle.mg_disk.specs.Stops.{Becomes, DiskCallsBy, Leaves, LeftOr};
+ghost use Rattle.mg_disk.specs.Stops.{DiskCallsBy, Leaves, LeftOr};
+ghost use Rattle.mg_disk.specs.Reads.{Becomes};
 ghost use Rattle.mg_journal.specs.Contents.{SameContents};
 ghost use Rattle.mg_journal.specs.Looked.{Fits};
 ghost use Rattle.mg_model.specs.Layout.{total_blocks};

@@ -51,7 +51,7 @@ dev_keeps facts from to ran result windows windows' d d' source source' sink rep
 }
 
 -- when there is not enough memory before anything was begun
-pub not_begun : {D S K : Type 0} (facts : disks.Ghosts D) (from : sources.Ghosts S) (to : sinks.Ghosts K) (windows : Attached) (d : D) (source : S) (sink : K) (steps : ℕ) → facts.has_been d (facts.moment d)
+pub not_begun : {D S K : Type 0} (facts : disks.Ghosts D) (from : sources.Ghosts S) (to : sinks.Ghosts K) (windows : Attached) (d : D) (source : S) (sink : K) (steps : ℕ) → (facts.time d).has_been (facts.time d).moment
     → DevKeeps windows windows (session_of 1 status.Memory (use_of facts d d) (use_of from source source) (use_of to sink sink) steps steps)
 not_begun facts from to windows d source sink steps been = dev_keeps facts from to status.Memory status.Memory windows windows d d source source sink sink sink steps steps
     record {

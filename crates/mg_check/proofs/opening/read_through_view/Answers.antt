@@ -1,4 +1,4 @@
-use Rattle.{mg_check.specs.ReadRuns.{only_by, still_read, told_contents}, mg_disk.specs.Stops.OnlyRead, mg_model.specs.Layout.total_blocks}
+use Rattle.{mg_check.specs.ReadRuns.{only_by, still_read, told_contents}, mg_disk.specs.Reads.OnlyRead, mg_model.specs.Layout.total_blocks}
 use Rattle.{mg_model.specs.Replay.replay, mg_rules.specs.SettledVolumeLemmas.{settled-damaged, settled-short, settled-tells, some_in}}
 use Rattle.std.proofs.Common.{◌≡◌, ap, sym, ◌∙◌, arith}
 use Rattle.mg_check.proofs.opening.read_through_view.Goals as goal

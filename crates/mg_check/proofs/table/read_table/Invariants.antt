@@ -1,4 +1,4 @@
-use Rattle.{mg_check.specs.Reads.{IsRun, contents}, mg_disk.specs.Stops.OnlyRead, mg_rules.specs.TableTold.{AreEntries, table_entry}}
+use Rattle.{mg_check.specs.Reads.{IsRun, contents}, mg_disk.specs.Reads.OnlyRead, mg_rules.specs.TableTold.{AreEntries, table_entry}}
 use Rattle.std.{proofs.Common.{◌≡◌, ◌≤◌, length, min}, specs.Option.ForSome}
 use Rattle.mg_check.proofs.table.read_table.Given as goal
 

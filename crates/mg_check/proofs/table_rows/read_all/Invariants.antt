@@ -1,4 +1,4 @@
-use Rattle.{mg_check.specs.Reads.{IsRun, contents}, mg_disk.specs.Stops.OnlyRead, mg_model.specs.Replay.block_of, mg_rules.specs.RowsRead.ArePlaced}
+use Rattle.{mg_check.specs.Reads.{IsRun, contents}, mg_disk.specs.Reads.OnlyRead, mg_model.specs.Replay.block_of, mg_rules.specs.RowsRead.ArePlaced}
 use Rattle.{mg_rules.specs.TableRows.{AreLive, EachKeeps}, std.{proofs.Common.{◌≤◌, vec_capacity}, specs.Option.ForSome}}
 use Rattle.mg_check.proofs.table_rows.read_all.Given as goal
 

@@ -1,5 +1,6 @@
-use Rattle.{mg_disk.specs.{Disk.SameBut, Runs.Tracks, Stops.{Becomes, CountGoes, NothingPending}}, mg_journal.specs.{Applied.filled, Contents.names}}
-use Rattle.{mg_model.specs.Replay.written, std.{proofs.Common.{◌≡◌, ◌≤◌, ◌-◌, length, option_map, take, true}, specs.Option.ForSome}}
+use Rattle.{mg_disk.specs.{Disk.SameBut, Reads.Becomes, Runs.Tracks, Stops.{CountGoes, NothingPending}}, mg_journal.specs.Applied.filled}
+use Rattle.{mg_journal.specs.Contents.names, mg_model.specs.Replay.written, std.proofs.Common.{◌≡◌, ◌≤◌, ◌-◌, length, option_map, take, true}}
+use Rattle.std.specs.Option.{ForSome}
 use Rattle.mg_journal.proofs.applying.put_homes.Given as goal
 
 -- the bodies up to this one are at their homes, and only homes differ, both in what reads give and in what a stop leaves

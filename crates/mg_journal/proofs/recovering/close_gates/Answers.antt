@@ -1,4 +1,4 @@
-use Rattle.{mg_disk.specs.{BecomesLemmas.becomes-same, Stops.Becomes}, mg_journal.proofs.ClosingSteps.{begin_run, close_more, close_run, close_seen}}
+use Rattle.{mg_disk.specs.{BecomesLemmas.becomes-same, Reads.Becomes}, mg_journal.proofs.ClosingSteps.{begin_run, close_more, close_run, close_seen}}
 use Rattle.mg_journal.{proofs.ClosingSteps.{none_closed, open_now, open_yet, still_now}, specs.Recovery.{AreOpen, ClosesUpTo}}
 use Rattle.{mg_model.specs.Layout.segment_count, std.proofs.Common.{rules, refl, subst, ◌≡◌, ◌∙◌, arith}}
 use Rattle.mg_journal.proofs.recovering.close_gates.Goals as goal

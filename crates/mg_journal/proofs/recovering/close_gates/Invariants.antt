@@ -1,4 +1,4 @@
-use Rattle.{mg_disk.specs.Stops.{Becomes, CountGoes, Leaves, NothingPending}, mg_journal.specs.Recovery.{AreOpen, ClosesUpTo, IsStill}}
+use Rattle.{mg_disk.specs.{Reads.Becomes, Stops.{CountGoes, Leaves, NothingPending}}, mg_journal.specs.Recovery.{AreOpen, ClosesUpTo, IsStill}}
 use Rattle.{mg_model.specs.Replay.replay, std.{proofs.Common.{◌≡◌, ℕ, Some}, specs.Option.ForSome}}
 use Rattle.mg_journal.proofs.recovering.close_gates.Given as goal
 

@@ -1,4 +1,4 @@
-use Rattle.{mg_check.specs.Reads.contents, mg_disk.specs.{Disk.{SeenBut, TornAt}, Stops.{CountGoes, Leaves, MightHaveLeft, OnlyRead}}}
+use Rattle.{mg_check.specs.Reads.contents, mg_disk.specs.{Disk.{SeenBut, TornAt}, Reads.OnlyRead, Stops.{CountGoes, Leaves, MightHaveLeft}}}
 use Rattle.{mg_migrate.proofs.CopySteps.AreBefore, std.{proofs.Common.{◌≡◌, ◌≤◌, ◌-◌}, specs.Option.ForSome}}
 use Rattle.mg_migrate.proofs.copying.copy_behind.Given as goal
 

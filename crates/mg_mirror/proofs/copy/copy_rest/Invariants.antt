@@ -6,7 +6,7 @@ use Rattle.mg_mirror.proofs.copy.copy_rest.Given as goal
 abbrev pub invariant-loop-next : goal.invariant-loop-next
 invariant-loop-next g l = record {
   from_start : l.start ≤ l.next;
-  stops : TimeGoes g.E.Disk l.initial.to l.to (TornAt (λ k. l.start ≤ k) (g.E.Disk.left_since l.initial.to (g.E.Disk.moment l.initial.to)));
+  stops : TimeGoes g.E.Disk l.initial.to l.to (TornAt (λ k. l.start ≤ k) ((g.E.Disk.time l.initial.to).left_since (g.E.Disk.time l.initial.to).moment));
   seen : SeenBut (λ k. l.start ≤ k) (g.E.Disk.seen l.initial.to) (g.E.Disk.seen l.to);
   copied : ForSome (g.D.Disk.seen l.initial.from) (λ x. ForSome (g.E.Disk.seen l.to) (AreBefore l.start l.blocks l.next x));
   steps : CopySteps g.D.Disk g.E.Disk l.initial.from l.from l.initial.to l.to;

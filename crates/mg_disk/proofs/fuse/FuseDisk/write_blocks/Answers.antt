@@ -24,8 +24,8 @@ returns-clause-meets g c =
         stops = elim c.if-passing-from.branch [
           | then-passing-from+then-passing-gt0 w ↦
               let inner : w.write_blocks.new.self ≡ c.if-passing-from.self.inner = search rules in
-              subst (λ disk. TimeGoes g.D.Disk was disk (TornAt all (g.D.Disk.left_since was (g.D.Disk.moment was)))) inner
-              (fewer_torn c.args.first passing c.args.from.now g.D.Disk was w.write_blocks.new.self (g.D.Disk.left_since was (g.D.Disk.moment was)) w.write_blocks.ensures.stops)
+              subst (λ disk. TimeGoes g.D.Disk was disk (TornAt all ((g.D.Disk.time was).left_since (g.D.Disk.time was).moment))) inner
+              (fewer_torn c.args.first passing c.args.from.now g.D.Disk was w.write_blocks.new.self ((g.D.Disk.time was).left_since (g.D.Disk.time was).moment) w.write_blocks.ensures.stops)
           | then-passing-from+else-passing-gt0 w ↦ search rules
           | else-passing-from+then-passing-gt0-2 w ↦ search rules
           | else-passing-from+else-passing-gt0-2 w ↦ search rules
