@@ -95,25 +95,25 @@ abbrev pub EndsRun : Status → Type 0
 EndsRun result = (result ≡ status.NoVolume) ⊎ EndsSession result
 
 -- What a stop leaves of a command that opens a volume and runs lines on it, whatever was pending.
-pub record HoldsSince {D S K : Type 0} (kept : List Line → State) (d : DiskUse D) (i : SourceUse S) (o : SinkUse K) : Type 0 where
+pub record HoldsSince {D S K : Type 0} (state_after : List Line → State) (d : DiskUse D) (i : SourceUse S) (o : SinkUse K) : Type 0 where
   -- At each moment it leaves what it might have left before, or the state after some first lines.
   pub moments : OfInput i (λ input. AlwaysLeft d (LeftOr d.facts d.old (λ c.
-      (k : ℕ) × (k ≤ length (lines input)) × SpellsFirst kept input k c)))
+      (k : ℕ) × (k ≤ length (lines input)) × SpellsFirst state_after input k c)))
   -- At the end these are at least the answered lines, and all of them came. Only if no line was answered may it leave what it might have
   -- left before.
   pub held : OfRest i (λ input rest. (c : Image) → MayLeave d c → (MightHaveLeft d.facts d.old c × AreHeld o input rest 0)
-      ⊎ ((k : ℕ) × AreHeld o input rest k × SpellsFirst kept input k c))
+      ⊎ ((k : ℕ) × AreHeld o input rest k × SpellsFirst state_after input k c))
 
 -- What is kept as lines run on the volume of a disk, by a machine that says and keeps this from a state on. The state is that of the
 -- volume that reads give at entry.
-pub record LinesKeep {D S K : Type 0} (said : State → List Line → List ℕ) (kept_after : State → List Line → State)
+pub record LinesKeep {D S K : Type 0} (said : State → List Line → List ℕ) (state_after : State → List Line → State)
     (s : Session D S K) : Type 0 where
   pub answers : OfState s.disk (λ state. Answers (said state) s.result s.source s.sink)
   -- At the end reads give the state after all lines.
   pub kept : s.result ≡ status.Done →
-      OfState s.disk (λ state. OfInput s.source (λ input. SpellsNow s.disk (kept_after state (lines input))))
-  pub holds : OfState s.disk (λ state. HoldsSince (kept_after state) s.disk s.source s.sink)
-  pub holds_exactly : OfState s.disk (λ state. HoldsExactly (kept_after state) s.result s.disk s.source s.sink)
+      OfState s.disk (λ state. OfInput s.source (λ input. SpellsNow s.disk (state_after state (lines input))))
+  pub holds : OfState s.disk (λ state. HoldsSince (state_after state) s.disk s.source s.sink)
+  pub holds_exactly : OfState s.disk (λ state. HoldsExactly (state_after state) s.result s.disk s.source s.sink)
   -- At status 0 nothing is pending.
   pub settled : s.result ≡ status.Done → NothingPending s.disk.facts s.disk.new
   pub ends : Ends s.batch input_limit s.result s.source s.sink

@@ -119,10 +119,14 @@ Prints o said = Appends (o.facts.taken o.old) (o.facts.taken o.new) said
 abbrev pub PrintsPrefix : {K : Type 0} → SinkUse K → List ℕ → Type 0
 PrintsPrefix o said = AppendsPrefix (o.facts.taken o.old) (o.facts.taken o.new) said
 
--- what holds of the number of answered lines, if it is told what the sink took: it is that of the newlines
-abbrev pub OfAnswered : {K : Type 0} → SinkUse K → (ℕ → Type 0) → Type 0
-OfAnswered o P = IfSome (o.facts.taken o.old) (λ before. IsSomeAnd (o.facts.taken o.new) (λ now.
-    P (answered (drop (length before) now))))
+-- what holds of the number of answered lines, if it is told what a sink had taken and what it has taken now: it is that of the
+-- newlines
+abbrev pub OfAnswered : Option (List ℕ) → Option (List ℕ) → (ℕ → Type 0) → Type 0
+OfAnswered taken taken' P = IfSome taken (λ before. IsSomeAnd taken' (λ now. P (answered (drop (length before) now))))
+
+-- the same of the sink of a session
+abbrev pub OfAnsweredLines : {K : Type 0} → SinkUse K → (ℕ → Type 0) → Type 0
+OfAnsweredLines o P = OfAnswered (o.facts.taken o.old) (o.facts.taken o.new) P
 
 -- A session: how much of the input is taken
 
@@ -146,9 +150,9 @@ EndsTaking result = (result ≡ status.Source) ⊎ (result ≡ status.TooLong)
 abbrev pub IsCut : Status → List ℕ → Type 0
 IsCut result rest = (rest ≢ []) ⊎ EndsTaking result
 
--- A session: what is sent
--- A machine is described by two functions of the lines that it takes: `said`, the text of its replies to them, and `kept`, the
--- state of its volume after them. For a kernel in the state `s` they are `text s` and `after s`.
+-- A session: what is printed
+-- A machine is described by two functions of the lines that it takes: `said`, the text of its replies to them, and `state_after`,
+-- the state of its volume after them. For a kernel in the state `s` they are `replies_text s` and `after s`.
 
 -- What the sink took of a session that ended with this status.
 pub record Answers {S K : Type 0} (said : List Line → List ℕ) (result : Status) (i : SourceUse S) (o : SinkUse K) : Type 0 where
@@ -164,7 +168,7 @@ pub record Answers {S K : Type 0} (said : List Line → List ℕ) (result : Stat
 
 -- among the first k lines of an input are all that are answered, and none that did not come
 pub record IsAnswered (input rest : List ℕ) (taken taken' : Option (List ℕ)) (k : ℕ) : Type 0 where
-  pub all_answered : IfSome taken (λ before. IsSomeAnd taken' (λ now. answered (drop (length before) now) ≤ k))
+  pub all_answered : OfAnswered taken taken' (λ count. count ≤ k)
   pub came : k ≤ length (lines (consumed input rest))
 
 -- the same, of what a sink took
@@ -173,24 +177,25 @@ AreHeld o input rest k = IsAnswered input rest (o.facts.taken o.old) (o.facts.ta
 
 -- an image spells the state after this many first lines
 abbrev pub SpellsFirst : (List Line → State) → List ℕ → ℕ → Image → Type 0
-SpellsFirst kept input k c = volume c ≡ Is (kept (take k (lines input)))
+SpellsFirst state_after input k c = volume c ≡ Is (state_after (take k (lines input)))
 
 -- What a stop leaves of a session.
-pub record Holds {D S K : Type 0} (kept : List Line → State) (d : DiskUse D) (i : SourceUse S) (o : SinkUse K) : Type 0 where
+pub record Holds {D S K : Type 0} (state_after : List Line → State) (d : DiskUse D) (i : SourceUse S) (o : SinkUse K) : Type 0 where
   -- At each moment it leaves the state after some first lines.
-  pub moments : OfInput i (λ input. AlwaysLeft d (λ c. (k : ℕ) × (k ≤ length (lines input)) × SpellsFirst kept input k c))
+  pub moments : OfInput i (λ input. AlwaysLeft d (λ c. (k : ℕ) × (k ≤ length (lines input)) × SpellsFirst state_after input k c))
   -- At the end, whatever the status, these are at least the answered lines, and all of them came.
-  pub held : OfRest i (λ input rest. (c : Image) → MayLeave d c → (k : ℕ) × AreHeld o input rest k × SpellsFirst kept input k c)
+  pub held : OfRest i (λ input rest. (c : Image) → MayLeave d c → (k : ℕ) × AreHeld o input rest k × SpellsFirst state_after input k c)
 
--- What a stop leaves once a session ended with this status, and not by the disk.
-pub record HoldsExactly {D S K : Type 0} (kept : List Line → State) (result : Status)
+-- What a stop leaves once a session ended with this status, and not by the disk. Whatever was pending at entry: lines are
+-- taken once opening has succeeded, and then nothing is pending.
+pub record HoldsExactly {D S K : Type 0} (state_after : List Line → State) (result : Status)
     (d : DiskUse D) (i : SourceUse S) (o : SinkUse K) : Type 0 where
   -- If the source failed, or gave too much, the answered lines are held and no others.
   pub held_taking : EndsTaking result →
-      OfInput i (λ input. OfAnswered o (λ count. (c : Image) → MayLeave d c → SpellsFirst kept input count c))
+      OfInput i (λ input. OfAnsweredLines o (λ count. (c : Image) → MayLeave d c → SpellsFirst state_after input count c))
   -- Where the sink failed it is one and the same state, after some first lines as at the end of every session.
   pub held_sink : result ≡ status.Sink →
-      OfRest i (λ input rest. (k : ℕ) × AreHeld o input rest k × ((c : Image) → MayLeave d c → SpellsFirst kept input k c))
+      OfRest i (λ input rest. (k : ℕ) × AreHeld o input rest k × ((c : Image) → MayLeave d c → SpellsFirst state_after input k c))
 
 -- A session: when each status comes
 
@@ -199,8 +204,8 @@ pub record Ends {S K : Type 0} (batch limit : ℕ) (result : Status) (i : Source
   -- If the source failed, or gave too much, fewer calls than a batch are unanswered of the lines that are ended among the first
   -- `limit` bytes taken.
   pub few : EndsTaking result →
-      OfRest i (λ input rest. OfAnswered o (λ count. length (ended_lines (take limit (consumed input rest))) < count + batch))
-  -- There is not enough memory only before anything was taken or sent.
+      OfRest i (λ input rest. OfAnsweredLines o (λ count. length (ended_lines (take limit (consumed input rest))) < count + batch))
+  -- There is not enough memory only before anything was taken or printed.
   pub memory : result ≡ status.Memory → (i.new ≡ i.old) × (o.new ≡ o.old)
   -- The source and the sink failed only if their counts rose.
   pub source_failed : result ≡ status.Source → SourceRose i
