@@ -3,7 +3,7 @@
 -- An access is warm if an earlier line made an allowed access with its key and nothing came between: no line that disturbs,
 -- and no allowed access with another key that has the same seat. The earlier lines of a session are given here as a list of
 -- events, the last one first.
-use Rattle.std.specs.{List.list_any, Option.option_map_or, Prelude.{ℕ, ◌≡◌, ◌≤◌, ◌+◌, ◌*◌, ◌&&◌, nat_le, nat_lt, Bool}}
+use Rattle.std.specs.{List.list_any, Option.option_map_or, Prelude.{ℕ, ◌+◌, ◌*◌, ◌&&◌, nat_le, nat_lt, Bool}}
 use Rattle.std.specs.Prelude.{true, false, not, List, [], ◌∷◌, ◌++◌, if◌then◌else◌, Option, Some}
 use Rattle.mg_model.specs.{Access.allowed, Accesses.{Access, accesses, fetched, turning, line_words}, Keys.Key}
 use Rattle.mg_model.specs.{Keys.{first_at, has_seat, is_key, key_of, seat_of, keys_taken}, ObjectCalls.is_aligned}
@@ -93,11 +93,3 @@ cost_behind past state (line ∷ more) =
 -- what the lines of a session may cost, from its first state on
 abbrev pub cost : State → List Line → ℕ
 cost state lines = cost_behind [] state lines
-
--- Lines one after another, and a counter before and after them: each adds its own words at least, and at most what it may
--- cost. So lines whose accesses are all warm add their own words and nothing else.
-abbrev pub CountsEach : List Event → State → List Line → ℕ → ℕ → Type 0
-CountsEach past state [] steps steps' = steps' ≡ steps
-CountsEach past state (line ∷ more) steps steps' =
-    (middle : ℕ) × (steps + line_words state line ≤ middle) × (middle ≤ steps + line_cost past state line)
-    × CountsEach (record { state = state; line = line } ∷ past) (step state line).0 more middle steps'
