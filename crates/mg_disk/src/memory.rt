@@ -4,7 +4,7 @@ ghost use Rattle.mg_faults.specs.Faults.{CountGoesOn, Rose, is_last};
 ghost use Rattle.mg_disk.specs.Disk.{SameBut, At, AreBytes};
 ghost use Rattle.mg_disk.specs.Blocks.{told_count, told_bytes, zeros_of, gates_block};
 ghost use Rattle.mg_disk.specs.Reads.{StandsAt};
-ghost use Rattle.mg_disk.specs.Held.{run, start, BeenIn, LeftIn};
+ghost use Rattle.mg_disk.specs.Held.{run, start, time_of};
 ghost use Rattle.mg_disk.specs.HeldLemmas.{been_now, counted_now, seen_stays};
 
 use crate::blocks::{copy_at, put_gates, zeros};
