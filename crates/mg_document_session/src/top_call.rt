@@ -46,6 +46,7 @@ pub fn top<S: Source, O: Sink, E: Sink>(
         → BringsBack result (S.left source.old) (O.taken out.old) (O.taken out.new) }
     ensures faulty { result ≡ Status.Fault → IfSome (command_of (arguments words.now)) (λ command.
         IsFaulty command (S.left source.old) (S.left source.new) faulty.new) }
+    ensures no_fault { result ≢ Status.Fault → faulty.new ≡ faulty.old }
     ensures usage { command_of (arguments words.now) ≡ None
         → UsageKeeps E.Sink result source.old source.new out.old out.new err.old err.new }
     ensures not_spelled { result ≡ Status.Usage → command_of (arguments words.now) ≡ None }
@@ -70,6 +71,7 @@ fn carry_out<S: Source, O: Sink, E: Sink>(
 ) -> Status
     requires { HasPlace command }
     ensures faulty { result ≡ Status.Fault → IsFaulty command (S.left source.old) (S.left source.new) faulty.new }
+    ensures no_fault { result ≢ Status.Fault → faulty.new ≡ faulty.old }
     ensures keeps { Keeps S.Source O.Sink E.Sink command result source.old source.new out.old out.new err.old err.new }
 {
     let input = match take_input(alloc, command, source) {
