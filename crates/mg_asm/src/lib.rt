@@ -24,3 +24,4 @@ pub use faults::{AsmFault, AsmKind};
 pub use listing::read_list;
 pub use printing::print;
 pub use storing::{may_store_at, store_lines};
+pub use tokens::{cut, next_token};

@@ -1,7 +1,8 @@
 -- What the program promises. An object that does not tell its content has None for it, and a promise on content is then empty.
-use Rattle.std.specs.{Io.KnownBytes.Appends, Prelude.{ℕ, ◌+◌, ◌^◌, ◌≡◌, ◌≢◌, ◌⊎◌, List, Option, Result, Ok, Err}}
+use Rattle.std.specs.{Io.KnownBytes.Appends, Prelude.{ℕ, ◌+◌, ◌^◌, ◌≡◌, ◌≢◌, ◌⊎◌, List, Option, IsSomeAnd, Result, Ok, Err}}
 use Rattle.mg_asm.specs.{Assembled.assembled, FaultText.fault_line, Listed.listed, Printed.printed, Reading.on_ok}
-use Rattle.mg_asm.specs.{Stored.store_lines, declared.faults.AsmFault.AsmFault}
+use Rattle.mg_asm.specs.{Stored.store_lines, declared.faults.AsmFault.{AsmFault, TheVariants.At}}
+use Rattle.mg_asm_session.specs.declared.faulty.Faulty.{Faulty}
 use Rattle.mg_asm_session.specs.declared.words.Command.{Command, TheVariants.{Print, Store}}
 use Rattle.{mg_faults.specs.Faults.Rose, mg_filter.specs.{Whole.{OfWhole, TakesMore}, declared.status.Status.Status}}
 use Rattle.mg_io.specs.Known.{AppendsPrefix, TakesAtMost}
@@ -32,6 +33,11 @@ PutsFault (Err fault) taken taken' = Appends taken taken' (fault_line fault)
 abbrev pub PutsPart : Result (List ℕ) AsmFault → Option (List ℕ) → Option (List ℕ) → Option (List ℕ) → Option (List ℕ) → Type 0
 PutsPart (Ok lines) taken taken' aside aside' = AppendsPrefix taken taken' lines × (aside' ≡ aside)
 PutsPart (Err fault) taken taken' aside aside' = (taken' ≡ taken) × AppendsPrefix aside aside' (fault_line fault)
+
+-- this is the text that the source had, which was read to its end, with its first fault
+abbrev pub IsFaulty : Command → Option (List ℕ) → Option (List ℕ) → Option Faulty → Type 0
+IsFaulty command left left' faulty = OfWhole left left'
+    (λ text. IsSomeAnd faulty (λ f. (f.text.items ≡ text) × (became command text ≡ Err (At f.line f.kind))))
 
 -- What a command keeps: `out` takes what the text became, and `err` its fault.
 pub record Keeps {S O E : Type 0} (from : sources.Ghosts S) (to : sinks.Ghosts O) (aside : sinks.Ghosts E) (command : Command)

@@ -8,9 +8,11 @@
 //! What a text assembles to is defined in `mg_asm`.
 #![tactic(auto)]
 
+mod faulty;
 mod top_call;
 mod words;
 
+pub use faulty::Faulty;
 pub use mg_filter::Status;
 pub use top_call::{TEXT_LIMIT, top};
 pub use words::{Command, read_words};

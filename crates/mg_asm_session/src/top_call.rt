@@ -4,12 +4,13 @@ ghost use Rattle.std.specs.Io.KnownBytes.{Appends};
 ghost use Rattle.mg_asm.specs.declared.faults.AsmFault.TheVariants as fault;
 ghost use Rattle.mg_asm_session.specs.Commands.{IsStored, command_of};
 ghost use Rattle.mg_io.specs.Arguments.{arguments};
-ghost use Rattle.mg_asm_session.specs.Headline.{Keeps, became};
+ghost use Rattle.mg_asm_session.specs.Headline.{IsFaulty, Keeps, became};
 ghost use Rattle.mg_filter.specs.Usages.{UsageKeeps};
 ghost use Rattle.mg_io.specs.Known.{AppendsPrefix};
 ghost use Rattle.mg_asm.specs.FaultText.{fault_line};
 ghost use Rattle.mg_faults.specs.Faults.{Rose};
 
+use crate::faulty::Faulty;
 use crate::words::{Command, read_words};
 use mg_asm::{AsmFault, AsmKind, assemble, print, read_list, store_lines};
 use mg_filter::{Status, Unread, put_numbered, read_whole};
@@ -28,23 +29,28 @@ pub const TEXT_LIMIT: usize = 1 << 24;
 /// Other words get the line `usage` in `err` and [`Status::Usage`]; source and `out` are then left alone.
 ///
 /// A text is read whole, up to 2^24 bytes, before anything is written. After [`Status::Fault`] `err` took the line of its first
-/// fault, `line N: KIND`, and nothing else was written. After [`Status::Memory`], [`Status::Source`] and [`Status::TooLong`] nothing
-/// was written. [`Status::Sink`] comes if `out` or `err` failed. That sink took a first part of its text.
+/// fault, `line N: KIND`, and nothing else was written; `faulty` has the text and the place of the fault. After
+/// [`Status::Memory`], [`Status::Source`] and [`Status::TooLong`] nothing was written. [`Status::Sink`] comes if `out` or
+/// `err` failed. That sink took a first part of its text.
 pub fn top<S: Source, O: Sink, E: Sink>(
     alloc: Global,
     words: &[String],
     source: &mut S,
     out: &mut O,
     err: &mut E,
+    faulty: &mut Option<Faulty>,
 ) -> Status
     ensures command { IfSome (command_of (arguments words.now)) (λ command. Keeps S.Source O.Sink E.Sink command result
         source.old source.new out.old out.new err.old err.new) }
+    ensures faulty { result ≡ Status.Fault → IfSome (command_of (arguments words.now)) (λ command.
+        IsFaulty command (S.left source.old) (S.left source.new) faulty.new) }
+    ensures no_fault { result ≢ Status.Fault → faulty.new ≡ faulty.old }
     ensures usage { command_of (arguments words.now) ≡ None
         → UsageKeeps E.Sink result source.old source.new out.old out.new err.old err.new }
     ensures not_spelled { result ≡ Status.Usage → command_of (arguments words.now) ≡ None }
 {
     match read_words(words) {
-        Some(command) => carry_out(alloc, command, source, out, err),
+        Some(command) => carry_out(alloc, command, source, out, err, faulty),
         None => match put_all(err, b"usage\n") {
             Ok(()) => Status::Usage,
             Err(_) => Status::Sink,
@@ -59,9 +65,12 @@ fn carry_out<S: Source, O: Sink, E: Sink>(
     source: &mut S,
     out: &mut O,
     err: &mut E,
+    faulty: &mut Option<Faulty>,
 ) -> Status
     requires { IsStored command }
-    ensures { Keeps S.Source O.Sink E.Sink command result source.old source.new out.old out.new err.old err.new }
+    ensures faulty { result ≡ Status.Fault → IsFaulty command (S.left source.old) (S.left source.new) faulty.new }
+    ensures no_fault { result ≢ Status.Fault → faulty.new ≡ faulty.old }
+    ensures keeps { Keeps S.Source O.Sink E.Sink command result source.old source.new out.old out.new err.old err.new }
 {
     let text = match read_whole(alloc, TEXT_LIMIT, source) {
         Ok(text) => text,
@@ -76,7 +85,10 @@ fn carry_out<S: Source, O: Sink, E: Sink>(
         },
         Err(AsmFault::Memory) => Status::Memory,
         Err(AsmFault::At { line, kind }) => match put_fault(line, kind, err) {
-            Ok(()) => Status::Fault,
+            Ok(()) => {
+                *faulty = Some(Faulty { text, line, kind });
+                Status::Fault
+            }
             Err(_) => Status::Sink,
         },
     }

@@ -17,3 +17,4 @@ pub use asking::{get_lines, put_lines};
 pub use faults::{ReplyFault, ReplyKind};
 pub use packing::{BYTE_LIMIT, words_of};
 pub use reading::read_document;
+pub use replies::{next_reply, word_told};

@@ -1,8 +1,9 @@
 -- What the program promises. An object that does not tell its content has None for it, and a promise on content is then empty.
-use Rattle.std.specs.{Io.KnownBytes.Appends, Prelude.{ℕ, ◌+◌, ◌^◌, ◌≡◌, ◌≢◌, ◌⊎◌, List, [], ◌++◌, Option, IfSome}}
+use Rattle.std.specs.{Io.KnownBytes.Appends, Prelude.{ℕ, ◌+◌, ◌^◌, ◌≡◌, ◌≢◌, ◌⊎◌, List, [], ◌++◌, Option, IfSome, IsSomeAnd}}
 use Rattle.std.specs.Prelude.{Result, Ok, Err}
 use Rattle.mg_document.specs.{Asked.{get_calls, get_text, put_calls, put_text}, Documents.byte_limit}
-use Rattle.mg_document.specs.{FaultText.fault_line, Replies.bytes_told, declared.faults.ReplyFault.ReplyFault}
+use Rattle.mg_document.specs.{FaultText.fault_line, Replies.bytes_told, declared.faults.ReplyFault.{ReplyFault, TheVariants.At}}
+use Rattle.mg_document_session.specs.declared.faulty.Faulty.{Faulty}
 use Rattle.mg_document_session.specs.{Trips.{Trip, replies}, declared.words.Command.{Command, TheVariants.{Bytes, Get}}}
 use Rattle.{mg_document_session.specs.declared.words.Command.TheVariants.Put, mg_faults.specs.Faults.Rose}
 use Rattle.mg_filter.specs.{Whole.{OfWhole, TakesMore}, declared.status.Status.Status}
@@ -55,6 +56,11 @@ abbrev pub LeavesSource : {S : Type 0} → Command → S → S → Type 0
 LeavesSource (Put thread address) source source' = Unit {0}
 LeavesSource (Get thread address bytes) source source' = source' ≡ source
 LeavesSource Bytes source source' = Unit {0}
+
+-- this is the input of the command, with its first fault
+abbrev pub IsFaulty : Command → Option (List ℕ) → Option (List ℕ) → Option Faulty → Type 0
+IsFaulty command left left' faulty = OfInput command left left'
+    (λ input. IsSomeAnd faulty (λ f. (f.replies.items ≡ input) × (became command input ≡ Err (At f.reply f.kind))))
 
 -- What a command keeps: `out` takes what the input became, and `err` its fault.
 pub record Keeps {S O E : Type 0} (from : sources.Ghosts S) (to : sinks.Ghosts O) (aside : sinks.Ghosts E) (command : Command)

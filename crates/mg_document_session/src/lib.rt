@@ -9,11 +9,13 @@
 //! the bytes that replies give are defined in `mg_document`.
 #![tactic(auto)]
 
+mod faulty;
 mod laws;
 mod top_call;
 mod turning;
 mod words;
 
+pub use faulty::Faulty;
 pub use laws::documents_come_back;
 pub use mg_filter::Status;
 pub use top_call::top;

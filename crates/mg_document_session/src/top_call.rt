@@ -7,9 +7,10 @@ ghost use Rattle.mg_io.specs.Known.{AppendsPrefix};
 ghost use Rattle.mg_filter.specs.Usages.{UsageKeeps};
 ghost use Rattle.mg_document_session.specs.Commands.{HasPlace, command_of};
 ghost use Rattle.mg_io.specs.Arguments.{arguments};
-ghost use Rattle.mg_document_session.specs.Headline.{BringsBack, Keeps};
+ghost use Rattle.mg_document_session.specs.Headline.{BringsBack, IsFaulty, Keeps};
 ghost use Rattle.mg_faults.specs.Faults.{Rose};
 
+use crate::faulty::Faulty;
 use crate::laws::documents_come_back;
 use crate::turning::{take_input, turn};
 use crate::words::{Command, read_words};
@@ -27,26 +28,31 @@ use std::alloc::Global;
 ///
 /// Other words get the line `usage` in `err` and [`Status::Usage`]; source and `out` are then left alone.
 ///
-/// An input is read whole before anything is written. After [`Status::Fault`] `err` took the line of the first reply that the document
-/// needs and that has no word, `reply N: KIND`, and nothing else was written. After [`Status::Memory`], [`Status::Source`] and
-/// [`Status::TooLong`] nothing was written. [`Status::Sink`] comes if `out` or `err` failed. That sink took a first part of its text.
+/// An input is read whole before anything is written. After [`Status::Fault`] `err` took the line of the first reply that the
+/// document needs and that has no word, `reply N: KIND`, and nothing else was written; `faulty` has the replies and the
+/// number of that one. After [`Status::Memory`], [`Status::Source`] and [`Status::TooLong`] nothing was written.
+/// [`Status::Sink`] comes if `out` or `err` failed. That sink took a first part of its text.
 pub fn top<S: Source, O: Sink, E: Sink>(
     alloc: Global,
     words: &[String],
     source: &mut S,
     out: &mut O,
     err: &mut E,
+    faulty: &mut Option<Faulty>,
 ) -> Status
     ensures command { IfSome (command_of (arguments words.now)) (λ command. Keeps S.Source O.Sink E.Sink command result
         source.old source.new out.old out.new err.old err.new) }
     ensures back { command_of (arguments words.now) ≡ Some Command.Bytes
         → BringsBack result (S.left source.old) (O.taken out.old) (O.taken out.new) }
+    ensures faulty { result ≡ Status.Fault → IfSome (command_of (arguments words.now)) (λ command.
+        IsFaulty command (S.left source.old) (S.left source.new) faulty.new) }
+    ensures no_fault { result ≢ Status.Fault → faulty.new ≡ faulty.old }
     ensures usage { command_of (arguments words.now) ≡ None
         → UsageKeeps E.Sink result source.old source.new out.old out.new err.old err.new }
     ensures not_spelled { result ≡ Status.Usage → command_of (arguments words.now) ≡ None }
 {
     match read_words(words) {
-        Some(command) => carry_out(alloc, command, source, out, err),
+        Some(command) => carry_out(alloc, command, source, out, err, faulty),
         None => match put_all(err, b"usage\n") {
             Ok(()) => Status::Usage,
             Err(_) => Status::Sink,
@@ -61,9 +67,12 @@ fn carry_out<S: Source, O: Sink, E: Sink>(
     source: &mut S,
     out: &mut O,
     err: &mut E,
+    faulty: &mut Option<Faulty>,
 ) -> Status
     requires { HasPlace command }
-    ensures { Keeps S.Source O.Sink E.Sink command result source.old source.new out.old out.new err.old err.new }
+    ensures faulty { result ≡ Status.Fault → IsFaulty command (S.left source.old) (S.left source.new) faulty.new }
+    ensures no_fault { result ≢ Status.Fault → faulty.new ≡ faulty.old }
+    ensures keeps { Keeps S.Source O.Sink E.Sink command result source.old source.new out.old out.new err.old err.new }
 {
     let input = match take_input(alloc, command, source) {
         Ok(input) => input,
@@ -78,7 +87,14 @@ fn carry_out<S: Source, O: Sink, E: Sink>(
         },
         Err(ReplyFault::Memory) => Status::Memory,
         Err(ReplyFault::At { reply, kind }) => match put_fault(reply, kind, err) {
-            Ok(()) => Status::Fault,
+            Ok(()) => {
+                *faulty = Some(Faulty {
+                    replies: input,
+                    reply,
+                    kind,
+                });
+                Status::Fault
+            }
             Err(_) => Status::Sink,
         },
     }

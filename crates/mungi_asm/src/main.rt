@@ -6,6 +6,7 @@
 //! last: why the program failed.
 #![tactic(auto)]
 
+mod faulty;
 mod program;
 mod usage;
 

@@ -4,8 +4,9 @@ ghost use Rattle.mg_filter.specs.Statuses.{code_of};
 ghost use Rattle.mungi_asm.specs.Program.{Did};
 
 use crate::NAME;
+use crate::faulty::report_faulty;
 use crate::usage::report_usage;
-use mg_asm_session::{TEXT_LIMIT, top};
+use mg_asm_session::{Faulty, TEXT_LIMIT, top};
 use mg_console::{Stream, report_filter_status};
 use mg_filter::Status;
 use mg_io::{Sink, Source};
@@ -22,9 +23,13 @@ pub(crate) fn carry_out<R: AllocGlobal + Eprint, S: Source + Stream, O: Sink + S
 ) -> u8
     ensures { EndsAs code_of (λ status. Did S.Source O.Sink E.Sink words.now status source.old source.new out.old out.new err.old err.new) result }
 {
-    let status = command(rt.alloc(), words, source, out, err);
+    let mut faulty = None;
+    let status = command(rt.alloc(), words, source, out, err, &mut faulty);
     if status == Status::Usage {
         report_usage(rt, words);
+    }
+    if let Some(faulty) = &faulty {
+        report_faulty(rt, faulty);
     }
     let limit = TEXT_LIMIT as u64;
     report_filter_status(rt, NAME, status, limit, source.error(), out.error());
@@ -38,8 +43,9 @@ fn command<S: Source, O: Sink, E: Sink>(
     source: &mut S,
     out: &mut O,
     err: &mut E,
+    faulty: &mut Option<Faulty>,
 ) -> Status
     ensures { Did S.Source O.Sink E.Sink words.now result source.old source.new out.old out.new err.old err.new }
 {
-    top(alloc, words, source, out, err)
+    top(alloc, words, source, out, err, faulty)
 }

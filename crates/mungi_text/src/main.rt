@@ -6,6 +6,7 @@
 //! last: why the program failed, and that a document is where thread 1's capability list is.
 #![tactic(auto)]
 
+mod faulty;
 mod program;
 mod usage;
 

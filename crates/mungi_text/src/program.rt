@@ -4,10 +4,11 @@ ghost use Rattle.mg_filter.specs.Statuses.{code_of};
 ghost use Rattle.mungi_text.specs.Program.{Did};
 
 use crate::NAME;
+use crate::faulty::report_faulty;
 use crate::usage::report_usage;
 use mg_console::{Stream, report, report_filter_status};
 use mg_document::BYTE_LIMIT;
-use mg_document_session::{Command, Status, TEXT_LIMIT, read_words, top};
+use mg_document_session::{Command, Faulty, Status, TEXT_LIMIT, read_words, top};
 use mg_io::{Sink, Source};
 use mg_model::limits::{PAGE_SIZE, ROOT_BASE};
 use std::alloc::Global;
@@ -23,13 +24,17 @@ pub(crate) fn carry_out<R: AllocGlobal + Eprint, S: Source + Stream, O: Sink + S
 ) -> u8
     ensures { EndsAs code_of (λ status. Did S.Source O.Sink E.Sink words.now status source.old source.new out.old out.new err.old err.new) result }
 {
-    let status = carried_out(rt.alloc(), words, source, out, err);
+    let mut faulty = None;
+    let status = carried_out(rt.alloc(), words, source, out, err, &mut faulty);
     let command = read_words(words);
     if status == Status::Usage {
         report_usage(rt, words);
     }
     if status == Status::Done {
         report_place(rt, command);
+    }
+    if let Some(faulty) = &faulty {
+        report_faulty(rt, faulty);
     }
     let limit = limit_of(command);
     report_filter_status(rt, NAME, status, limit, source.error(), out.error());
@@ -43,10 +48,11 @@ fn carried_out<S: Source, O: Sink, E: Sink>(
     source: &mut S,
     out: &mut O,
     err: &mut E,
+    faulty: &mut Option<Faulty>,
 ) -> Status
     ensures { Did S.Source O.Sink E.Sink words.now result source.old source.new out.old out.new err.old err.new }
 {
-    top(alloc, words, source, out, err)
+    top(alloc, words, source, out, err, faulty)
 }
 
 /// The most bytes that a command reads.

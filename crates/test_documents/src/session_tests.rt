@@ -1,5 +1,5 @@
 // The program's call, on sources and sinks in memory.
-use mg_document_session::top;
+use mg_document_session::{Faulty, top};
 use mg_io::{MemSink, MemSource};
 use std::alloc::Global;
 use std::process::Abort;
@@ -25,6 +25,17 @@ fn sink(rt: &impl Abort, alloc: Global, puts: &[u64]) -> MemSink {
     MemSink::new(alloc, 256, puts).expect(rt, "memory")
 }
 
+/// Whether a run hands out its input exactly at a fault, and with it the number in the line that `err` took.
+fn is_kept(faulty: &Option<Faulty>, input: &[u8], line: &str) -> bool {
+    match faulty {
+        Some(faulty) => {
+            faulty.replies.as_slice() == input
+                && line.as_bytes().get(6).copied() == Some(b'0'.saturating_add(faulty.reply as u8))
+        }
+        None => line.is_empty() || line == "usage\n",
+    }
+}
+
 /// What a run ends with: its status, and what the two sinks take.
 type Ending = (u8, &'static str, &'static str);
 
@@ -34,9 +45,10 @@ fn is_end(
     source: &mut MemSource,
     out: &mut MemSink,
     err: &mut MemSink,
+    faulty: &mut Option<Faulty>,
     ending: Ending,
 ) -> bool {
-    let status = top(alloc, words, source, out, err);
+    let status = top(alloc, words, source, out, err, faulty);
     status.code() == ending.0
         && out.bytes() == ending.1.as_bytes()
         && err.bytes() == ending.2.as_bytes()
@@ -54,7 +66,19 @@ fn ends(
     let words = words_of(rt, alloc, words);
     let mut source = source(rt, alloc, input.as_bytes(), takes);
     let (mut out, mut err) = (sink(rt, alloc, puts), sink(rt, alloc, puts));
-    assert!(rt; is_end(alloc, &words, &mut source, &mut out, &mut err, ending));
+    let mut faulty = None;
+    assert!(rt;
+        is_end(
+            alloc,
+            &words,
+            &mut source,
+            &mut out,
+            &mut err,
+            &mut faulty,
+            ending
+        )
+    );
+    assert!(rt; is_kept(&faulty, input.as_bytes(), ending.2));
 }
 
 const PUT: &[&str] = &["put", "7", "4096"];
