@@ -1,9 +1,9 @@
 -- What the program promises. An object that does not tell its content has None for it, and a promise on content is then empty.
-use Rattle.std.specs.{Io.KnownBytes.Appends, Prelude.{ℕ, ◌+◌, ◌^◌, ◌≡◌, ◌≢◌, ◌⊎◌, List, Option, IsSomeAnd, Result, Ok, Err}}
+use Rattle.std.specs.{Io.KnownBytes.Appends, Prelude.{ℕ, ◌+◌, ◌^◌, ◌≡◌, ◌≢◌, ◌⊎◌, List, Option, IsSomeAnd, Result, Ok}}
+use Rattle.std.specs.Prelude.{Err}
 use Rattle.mg_asm.specs.{Assembled.assembled, FaultText.fault_line, Listed.listed, Printed.printed, Reading.on_ok}
 use Rattle.mg_asm.specs.{Stored.store_lines, declared.faults.AsmFault.{AsmFault, TheVariants.At}}
-use Rattle.mg_asm_session.specs.declared.faulty.Faulty.{Faulty}
-use Rattle.mg_asm_session.specs.declared.words.Command.{Command, TheVariants.{Print, Store}}
+use Rattle.mg_asm_session.specs.declared.{faulty.Faulty.Faulty, words.Command.{Command, TheVariants.{Print, Store}}}
 use Rattle.{mg_faults.specs.Faults.Rose, mg_filter.specs.{Whole.{OfWhole, TakesMore}, declared.status.Status.Status}}
 use Rattle.mg_io.specs.Known.{AppendsPrefix, TakesAtMost}
 use Rattle.mg_filter.specs.declared.status.Status.TheVariants as status

@@ -1,11 +1,11 @@
 -- What the program promises. An object that does not tell its content has None for it, and a promise on content is then empty.
-use Rattle.std.specs.{Io.KnownBytes.Appends, Prelude.{ℕ, ◌+◌, ◌^◌, ◌≡◌, ◌≢◌, ◌⊎◌, List, [], ◌++◌, Option, IfSome, IsSomeAnd}}
-use Rattle.std.specs.Prelude.{Result, Ok, Err}
+use Rattle.std.specs.{Io.KnownBytes.Appends, Prelude.{ℕ, ◌+◌, ◌^◌, ◌≡◌, ◌≢◌, ◌⊎◌, List, [], ◌++◌, Option, IfSome}}
+use Rattle.std.specs.Prelude.{IsSomeAnd, Result, Ok, Err}
 use Rattle.mg_document.specs.{Asked.{get_calls, get_text, put_calls, put_text}, Documents.byte_limit}
-use Rattle.mg_document.specs.{FaultText.fault_line, Replies.bytes_told, declared.faults.ReplyFault.{ReplyFault, TheVariants.At}}
-use Rattle.mg_document_session.specs.declared.faulty.Faulty.{Faulty}
-use Rattle.mg_document_session.specs.{Trips.{Trip, replies}, declared.words.Command.{Command, TheVariants.{Bytes, Get}}}
-use Rattle.{mg_document_session.specs.declared.words.Command.TheVariants.Put, mg_faults.specs.Faults.Rose}
+use Rattle.mg_document.specs.{FaultText.fault_line, Replies.bytes_told, declared.faults.ReplyFault.ReplyFault}
+use Rattle.{mg_document.specs.declared.faults.ReplyFault.TheVariants.At, mg_document_session.specs.Trips.Trip}
+use Rattle.mg_document_session.specs.{Trips.replies, declared.{faulty.Faulty.Faulty, words.Command.Command}}
+use Rattle.{mg_document_session.specs.declared.words.Command.TheVariants.{Bytes, Get, Put}, mg_faults.specs.Faults.Rose}
 use Rattle.mg_filter.specs.{Whole.{OfWhole, TakesMore}, declared.status.Status.Status}
 use Rattle.{mg_io.specs.Known.{AppendsPrefix, TakesAtMost}, mg_model.specs.Lines.lines}
 use Rattle.mg_filter.specs.declared.status.Status.TheVariants as status

@@ -3,8 +3,8 @@
 -- An access is warm if an earlier line made an allowed access with its key and nothing came between: no line that disturbs,
 -- and no allowed access with another key that has the same seat. The earlier lines of a session are given here as a list of
 -- events, the last one first.
-use Rattle.std.specs.{List.list_any, Option.option_map_or, Prelude.{ℕ, ◌+◌, ◌*◌, ◌&&◌, nat_le, nat_lt, Bool}}
-use Rattle.std.specs.Prelude.{true, false, not, List, [], ◌∷◌, ◌++◌, if◌then◌else◌, Option, Some}
+use Rattle.std.specs.{List.list_any, Option.option_map_or, Prelude.{ℕ, ◌+◌, ◌*◌, ◌&&◌, nat_le, nat_lt, Bool, true}}
+use Rattle.std.specs.Prelude.{false, not, List, [], ◌∷◌, ◌++◌, if◌then◌else◌, Option, Some}
 use Rattle.mg_model.specs.{Access.allowed, Accesses.{Access, accesses, fetched, turning, line_words}, Keys.Key}
 use Rattle.mg_model.specs.{Keys.{first_at, has_seat, is_key, key_of, seat_of, keys_taken}, ObjectCalls.is_aligned}
 use Rattle.mg_model.specs.{Script.operand, State.{Object, State, Thread, ThreadRow}, Step.step, Turn.picked}
