@@ -53,6 +53,12 @@ fn is_of_opening(kind: ErrorKind) -> bool {
         || kind == ErrorKind::NotFound
 }
 
+/// Whether a call with this fault had the file, so that the file's size may be the cause.
+pub(crate) fn had_its_file(fault: &FileFault) -> bool {
+    let kind = fault.error.kind();
+    !is_of_opening(kind) && kind != ErrorKind::NotSeekable && kind != ErrorKind::WouldBlock
+}
+
 /// Says why a call of a file failed, if one did.
 pub fn report_fault<R: Eprint>(rt: &R, program: &str, path: &str, fault: Option<&FileFault>) {
     if let Some(fault) = fault {

@@ -2,15 +2,15 @@
 ghost use Rattle.mg_disk.specs.Stops.{WritesNothing};
 
 use crate::commands::{MUNGI, report_commands};
-use crate::endings::report_fault;
+use crate::endings::{had_its_file, report_fault};
 use crate::files::disk_in;
 use crate::notes::{Notes, Task};
 use crate::shown::InFile;
 use crate::statuses::report_status;
 use crate::volumes::{report_unmigrated, report_volume};
 use crate::words::word;
-use mg_disk::Disk;
-use mg_file::{FileDisk, Found, OneHolder};
+use mg_disk::{BLOCK_SIZE, Disk};
+use mg_file::{FileDisk, FileFault, Found, OneHolder};
 use mg_layout::Geometry;
 use mg_serve::Status;
 use mg_text::read_number;
@@ -61,6 +61,7 @@ pub fn report_end<R: AllocGlobal + Eprint, D: Disk + InFile, E: InFile>(
     if status == Status::Disk {
         report_fault(rt, MUNGI, word(words, 0), disk.fault());
         report_fault(rt, MUNGI, word(words, 2), old.fault());
+        report_need(rt, words, disk.fault());
     }
     if copies && status == Status::NoVolume {
         report_unmigrated(rt, MUNGI, word(words, 2), old.found());
@@ -71,6 +72,20 @@ pub fn report_end<R: AllocGlobal + Eprint, D: Disk + InFile, E: InFile>(
         report_commands(rt, words);
     }
     report_status(rt, MUNGI, status, read, written);
+}
+
+/// Says how many bytes the volume needs that `format` could not make, unless its file could not be opened.
+fn report_need<R: Eprint>(rt: &R, words: &[String], fault: Option<&FileFault>) {
+    match (blocks_made(words), fault) {
+        (Some(blocks), Some(fault)) if had_its_file(fault) => {
+            let path = word(words, 0);
+            let bytes = blocks.saturating_mul(BLOCK_SIZE as u64);
+            let _ = eprintln!(rt;
+                "{MUNGI}: {path}: the volume needs {bytes} bytes; a device with fewer is too small"
+            );
+        }
+        _ => {}
+    }
 }
 
 /// Says what only the file of a volume shows. It says nothing for `format`, which makes the volume, and for a copy, whose volume is in
