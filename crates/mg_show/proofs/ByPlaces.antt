@@ -1,7 +1,7 @@
 -- The texts of objects, each by its place, object by object.
-use Rattle.mg_show.proofs.Names.{◌≡◌, ℕ, suc, ◌+◌, ◌<◌, List, [], ◌∷◌, ◌++◌, flat_map, length, slice_index_or, take, HoldsAt, sym, ap, refl, ◌∙◌}
-use Rattle.{mg_show.proofs.Names.{append_assoc, append-nil, arith, if◌then◌else◌, Bool, ObjectRow, by_place}, std.proofs.lemmas.List.length-take}
-use Rattle.std.proofs.lemmas.List.{take_more}
+use Rattle.{mg_model.specs.State.ObjectRow, mg_show.specs.Reached.by_place, std.proofs.Common.{◌≡◌, ℕ, suc, ◌+◌, ◌<◌, List, [], ◌∷◌, ◌++◌, flat_map}}
+use Rattle.std.proofs.{Common.{length, take, sym, ap, refl, ◌∙◌, append_assoc, append-nil, arith, if◌then◌else◌}, lemmas.List.length-take}
+use Rattle.std.{proofs.lemmas.List.take_more, specs.{List.HoldsAt, Prelude.{slice_index_or, Bool}}}
 
 module _ {A : Type 0} (text : ℕ → ObjectRow → List A) where
   places-append : (j : ℕ) (xs ys : List (ℕ × ObjectRow)) → by_place text j (xs ++ ys) ≡ by_place text j xs ++ by_place text (j + length xs) ys

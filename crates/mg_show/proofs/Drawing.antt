@@ -1,14 +1,16 @@
 -- The graph by the bytes and the ranks of objects is that of the state.
-use Rattle.{mg_model.specs.State.{CallFrame, State}, mg_show.proofs.{ByPlaces.places-same, Letters.{any-right, rights-letters}, Listing.held-bare}}
-use Rattle.mg_show.proofs.Names.{◌≡◌, ℕ, suc, ◌+◌, ◌-◌, ◌<◌, ◌==◌, ◌&&◌, ◌||◌, Bool, true, false, List, [], ◌∷◌, ◌++◌, codes, find, flat_map}
-use Rattle.mg_show.proofs.Names.{if◌then◌else◌, length, map, None, Option, Some, slice_index, slice_index_or, take, list_any, option_map}
-use Rattle.mg_show.proofs.Names.{option_map_or, refl, sym, eq-eqb, ap, ◌∙◌, append_assoc, arith, get_or, fun_ext, flat_map-map, list_any-append}
-use Rattle.mg_show.proofs.Names.{Image, Right, R, Slot, holds, last_slots, has_right, Object, ObjectRow, Thread, ThreadRow, is_among, part_text}
-use Rattle.mg_show.proofs.Names.{reached, thread_part, holds_now, is_list, object_name, slot_arrow, thread_node, bases_of, domains_drawn}
-use Rattle.mg_show.proofs.Names.{entries_drawn, graph_end, graph_head, lists_ranked, node_if, nodes_ranked, threads_drawn, given, is_within, named_by}
-use Rattle.mg_show.proofs.Names.{listed, letters, letters_by, bare, numbered, object_in, state_shown, AreOpened, AreRanked, flat_more, Shown}
-use Rattle.mg_show.specs.{DotText.{arrow, dot_text, entry_arrow, list_arrows, thread_name}, Drawn.{entry_bits, part_ranked, slot_bits}}
-use Rattle.std.{proofs.lemmas.List.Elements.{All-head, All-tail}, specs.Prelude.{All, slice_get}}
+use Rattle.{mg_disk.specs.Disk.Image, mg_model.specs.{Access.{holds, last_slots}, Rights.{has_right, letters}, State.{CallFrame, State, Object}}}
+use Rattle.mg_model.specs.{State.{ObjectRow, Thread, ThreadRow}, declared.{rights.Right.{Right, TheVariants.R}, slots.Slot.Slot}}
+use Rattle.mg_show.{proofs.{ByPlaces.places-same, Letters.{any-right, rights-letters}, Listing.held-bare}, specs.DotFrom.{is_among, part_text}}
+use Rattle.mg_show.specs.{DotFrom.{reached, thread_part}, DotText.{holds_now, is_list, object_name, slot_arrow, thread_node, arrow, dot_text}}
+use Rattle.mg_show.specs.{DotText.{entry_arrow, list_arrows, thread_name}, Drawn.{bases_of, domains_drawn, entries_drawn, graph_end, graph_head}}
+use Rattle.mg_show.specs.{Drawn.{lists_ranked, node_if, nodes_ranked, threads_drawn, entry_bits, part_ranked, slot_bits}, Marking.{given, is_within}}
+use Rattle.mg_show.specs.{Marking.named_by, ReachText.letters_by, Reached.listed, Shown.{bare, numbered, object_in, state_shown}, Walked.AreOpened}
+use Rattle.{mg_show.specs.{Walked.AreRanked, WritingLemmas.flat_more, declared.held.Shown.Shown}, std.proofs.Common.{◌≡◌, ℕ, suc, ◌+◌, ◌-◌, ◌<◌}}
+use Rattle.std.proofs.Common.{◌||◌, List, [], ◌∷◌, ◌++◌, codes, flat_map, if◌then◌else◌, length, map, None, Some, slice_index, take, refl, sym, ap}
+use Rattle.std.proofs.{Common.{◌∙◌, append_assoc, arith, get_or}, Math.Path.fun_ext, lemmas.{Bool.eq-eqb, List.Elements.{All-head, All-tail}}}
+use Rattle.std.{proofs.lemmas.List.Folds.{flat_map-map, list_any-append}, specs.{List.list_any, Option.{option_map, option_map_or}, Prelude.◌==◌}}
+use Rattle.std.specs.Prelude.{◌&&◌, Bool, true, false, find, Option, slice_index_or, All, slice_get}
 
 -- bits that have the rights that pass
 module _ (s : State) (base password bits : ℕ) (same : (right : Right) → has_right bits right ≡ holds_now s base password right) where

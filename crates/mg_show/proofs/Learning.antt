@@ -1,7 +1,8 @@
 -- What reads give, one after another, and what the lists that are read add to marks.
-use Rattle.{mg_check.specs.ReadRuns.{same_contents, still_read}, mg_disk.specs.Reads.OnlyRead, mg_show.proofs.Marked.{marks_none, marks_then}}
-use Rattle.mg_show.proofs.Names.{◌≡◌, ℕ, Bool, List, [], ◌++◌, Option, ap, refl, subst, ◌∙◌, Image, Fits, Slot, ObjectRow, Finds, Learns, Marks}
-use Rattle.mg_show.{proofs.Names.{named_by, Shown, Held, reads_none}, specs.{Shown.CanShow, WritingLemmas.{reads_kept, reads_then}}}
+use Rattle.{mg_check.specs.ReadRuns.{same_contents, still_read}, mg_disk.specs.{Disk.Image, Reads.OnlyRead}, mg_journal.specs.Looked.Fits}
+use Rattle.{mg_model.specs.{State.ObjectRow, declared.slots.Slot.Slot}, mg_show.{proofs.Marked.{marks_none, marks_then}, specs.Marking.Finds}}
+use Rattle.mg_show.specs.{Marking.{Learns, Marks, named_by}, Shown.CanShow, Writing.Held, WritingLemmas.{reads_none, reads_kept, reads_then}}
+use Rattle.{mg_show.specs.declared.held.Shown.Shown, std.{proofs.Common.{◌≡◌, ℕ, List, [], ◌++◌, ap, refl, subst, ◌∙◌}, specs.Prelude.{Bool, Option}}}
 use Rattle.mg_disk.specs.declared.disk.Disk as disks
 
 module _ {D : Type 0} (facts : disks.Ghosts D) where

@@ -1,7 +1,7 @@
 -- The rights by their bits: their letters, and six digits.
-use Rattle.mg_show.proofs.Names.{◌≡◌, ℕ, ◌/◌, ◌%◌, ◌==◌, Bool, true, false, if◌then◌else◌, list_any, refl, ap, arith, Right, R, W, X, D, P, O}
-use Rattle.{mg_show.proofs.Names.{has_right, letters, letters_by, rights_text, ◌+◌, ◌*◌, ◌≤◌}, std.proofs.lemmas.Bool.Decides.nat_tests}
-use Rattle.std.specs.Prelude.{not}
+use Rattle.mg_model.specs.{Rights.{has_right, letters}, declared.rights.Right.{Right, TheVariants.{R, W, X, D, P, O}}}
+use Rattle.{mg_show.specs.{ReachText.letters_by, StateText.rights_text}, std.proofs.Common.{◌≡◌, ℕ, ◌/◌, if◌then◌else◌, refl, ap, arith, ◌+◌, ◌*◌}}
+use Rattle.std.{proofs.{Common.◌≤◌, lemmas.Bool.Decides.nat_tests}, specs.{List.list_any, Prelude.{◌%◌, ◌==◌, Bool, true, false, not}}}
 
 pub none-has : (bits : ℕ) → bits % 64 ≡ 0 → (right : Right) → has_right bits right ≡ false
 none-has bits none R = let e : bits / 1 % 2 ≡ 0 = omega arith in ap (λ n. n == 1) e

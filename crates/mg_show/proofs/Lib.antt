@@ -1,4 +1,3 @@
-mod Names
 mod WordTexts
 mod RowsKept
 mod RowsShown

@@ -1,9 +1,11 @@
 -- The list in the first page of an object, and the object that has a base.
-use Rattle.{mg_model.specs.Access.based_at, mg_show.proofs.Names.{◌≡◌, ℕ, zero, suc, ◌+◌, ◌*◌, ◌≤◌, ◌==◌, false, List, [], ◌∷◌, ◌++◌, find}}
-use Rattle.mg_show.proofs.Names.{if◌then◌else◌, length, map, Option, None, Some, slice_index, option_map, option_map_or, refl, sym, ap, ◌∙◌, arith}
-use Rattle.mg_show.proofs.Names.{Image, Right, R, Slot, pairs_from, pairs_of, pairs_under, holds, Object, ObjectRow, object_spelled, page_words}
-use Rattle.mg_show.proofs.Names.{pages_words, holds_now, listed, object_in, state_shown, Shown, ◌<◌, get_or, block_words, number_at, numbers_at}
-use Rattle.{mg_show.proofs.WordTexts.length-page_words, std.proofs.Math.ListN.get_or-append}
+use Rattle.{mg_disk.specs.Disk.Image, mg_model.specs.{Abbreviations.{pairs_from, pages_words}, Access.{based_at, pairs_of, pairs_under, holds}}}
+use Rattle.mg_model.specs.{Bytes.{block_words, number_at, numbers_at}, State.{Object, ObjectRow}, Volume.{object_spelled, page_words}}
+use Rattle.{mg_model.specs.declared.{rights.Right.{Right, TheVariants.R}, slots.Slot.Slot}, mg_show.proofs.WordTexts.length-page_words}
+use Rattle.{mg_show.specs.{DotText.holds_now, Reached.listed, Shown.{object_in, state_shown}, declared.held.Shown.Shown}, std.proofs.Common.{◌≡◌, ℕ}}
+use Rattle.std.proofs.Common.{suc, ◌+◌, ◌*◌, ◌≤◌, List, [], ◌∷◌, ◌++◌, if◌then◌else◌, length, map, None, Some, slice_index, refl, sym, ap, ◌∙◌, arith}
+use Rattle.std.{proofs.{Common.{◌<◌, get_or}, Math.ListN.get_or-append}, specs.{Option.{option_map, option_map_or}, Prelude.{zero, ◌==◌, false}}}
+use Rattle.std.specs.Prelude.{find, Option}
 
 -- Entries, one by one
 

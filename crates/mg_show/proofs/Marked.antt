@@ -1,8 +1,10 @@
 -- A mark for each object, and what capabilities add to it.
-use Rattle.mg_show.proofs.Names.{◌≡◌, ◌≢◌, ℕ, ◌+◌, ◌<◌, ◌≤◌, ◌⊎◌, ◌||◌, Bool, All, List, [], ◌∷◌, ◌++◌, length, slice_index, slice_index_or, take}
-use Rattle.mg_show.proofs.Names.{AllPairs, AllWithin, HoldsAt, refl, sym, ap, ◌∙◌, arith, get_or, subst, ⊎_elim, or-false, or_assoc, cases_lt}
-use Rattle.mg_show.{proofs.Names.{list_any-append, map_more, Slot, IsObjectRow, ObjectRow, AreApart, IsPlaceOf, Marks, named_by}, specs.Marking.IsCut}
-use Rattle.std.{proofs.lemmas.{Bool.{cases_eq, Decides.nat_tests}, List.{get_or-set_other, get_or-set_same, length-set}}, specs.Prelude.slice_set}
+use Rattle.{mg_model.specs.{Ranges.IsObjectRow, State.ObjectRow, declared.slots.Slot.Slot}, mg_objects.specs.Held.AreApart}
+use Rattle.{mg_show.specs.Marking.{IsPlaceOf, Marks, named_by, IsCut}, std.proofs.Common.{◌≡◌, ℕ, ◌+◌, ◌<◌, ◌≤◌, ◌||◌, List, [], ◌∷◌, ◌++◌, length}}
+use Rattle.std.proofs.{Common.{slice_index, take, refl, sym, ap, ◌∙◌, arith, get_or, subst, ⊎_elim}, Math.Bool.{or-false, or_assoc}}
+use Rattle.std.proofs.lemmas.{Bool.{cases_lt, cases_eq, Decides.nat_tests}, List.{map_more, get_or-set_other, get_or-set_same, length-set}}
+use Rattle.std.{proofs.lemmas.List.Folds.list_any-append, specs.{List.{AllPairs, AllWithin, HoldsAt}, Prelude.{◌≢◌, ◌⊎◌, Bool, All, slice_index_or}}}
+use Rattle.std.specs.Prelude.{slice_set}
 
 -- bases rise
 pub bases-rise : (objects : List (ℕ × ObjectRow)) → All (λ (o : ℕ × ObjectRow). IsObjectRow o.1) objects → AreApart objects → AllPairs (λ (a b : ℕ × ObjectRow). a.1.base < b.1.base) objects

@@ -1,11 +1,12 @@
 -- What is defined by the judgement of each access is what the walk over lists gives.
-use Rattle.{mg_model.specs.Access.{allowed, at, covers, domain_of}, mg_show.proofs.{ByPlaces.places-same, Letters.{none-has, rights-letters}}}
-use Rattle.mg_show.proofs.Names.{slice_index, slice_index_or, ap, Slot, capabilities, has_right, Marks, bits_line, marked_reach, row_reach}
-use Rattle.mg_show.proofs.Names.{letters_by, reach_line, ◌≡◌, ℕ, zero, suc, ◌+◌, ◌*◌, ◌<◌, ◌≤◌, ◌==◌, Bool, true, false, All, List, [], ◌∷◌, ◌++◌}
-use Rattle.mg_show.proofs.Names.{filter, find, flat_map, if◌then◌else◌, length, map, Some, AllPairs, option_map_or, refl, sym, ◌∙◌, arith, get_or}
-use Rattle.mg_show.proofs.Names.{fun_ext, eq-eqb, flat_map-map, Image, Right, holds, last_slots, IsObjectRow, ObjectRow, Thread, ThreadRow, AreApart}
-use Rattle.mg_show.{proofs.Names.{given, thread_reached, numbered, object_in, state_shown, Shown}, specs.ReachText.{reach_text, thread_reach}}
-use Rattle.{mg_show.specs.Reached.reached_by, std.proofs.lemmas.Bool.Decides.nat_tests}
+use Rattle.{mg_disk.specs.Disk.Image, mg_model.specs.{Access.{allowed, at, covers, domain_of, capabilities, holds, last_slots}, Ranges.IsObjectRow}}
+use Rattle.mg_model.specs.{Rights.has_right, State.{ObjectRow, Thread, ThreadRow}, declared.{rights.Right.Right, slots.Slot.Slot}}
+use Rattle.{mg_objects.specs.Held.AreApart, mg_show.{proofs.{ByPlaces.places-same, Letters.{none-has, rights-letters}}, specs.Marking.{Marks, given}}}
+use Rattle.mg_show.specs.{ReachText.{letters_by, reach_line, reach_text, thread_reach}, Reached.{bits_line, marked_reach, row_reach, thread_reached}}
+use Rattle.{mg_show.specs.{Reached.reached_by, Shown.{numbered, object_in, state_shown}, declared.held.Shown.Shown}, std.proofs.Common.slice_index}
+use Rattle.std.proofs.Common.{ap, ◌≡◌, ℕ, suc, ◌+◌, ◌*◌, ◌<◌, ◌≤◌, List, [], ◌∷◌, ◌++◌, flat_map, if◌then◌else◌, length, map, Some, refl, sym, ◌∙◌}
+use Rattle.std.proofs.{Common.{arith, get_or}, Math.Path.fun_ext, lemmas.{Bool.{eq-eqb, Decides.nat_tests}, List.Folds.flat_map-map}}
+use Rattle.std.specs.{List.AllPairs, Option.option_map_or, Prelude.{slice_index_or, zero, ◌==◌, Bool, true, false, All, filter, find}}
 
 -- the same at each element
 pub flat_map_same : {X Y : Type 0} (f g : X → List Y) (xs : List X) → ((i : ℕ) → i < length xs → (d : X) → f (get_or xs i d) ≡ g (get_or xs i d)) → flat_map f xs ≡ flat_map g xs

@@ -1,10 +1,11 @@
 -- What rows keep that were read of a volume, and the parts of the state that they spell.
-use Rattle.mg_model.specs.{KeptListLemmas.{AllPairs-head, AllPairs-nil}, Objects.with_object, Tests.all_distinct, Volume.objects_spelled}
-use Rattle.{mg_model.specs.Volume.{accounts_fit, are_apart, bound_pages}, mg_objects.specs.Held.{by_base, into_place, live_from, IsBefore}}
-use Rattle.{mg_rules.specs.RowsRead.{AreKept, placed_from}, mg_show.proofs.Names.{None, Option, Some, cases_Bool, Object, ◌≡◌, ℕ, ◌+◌, nat_le, true}}
-use Rattle.mg_show.proofs.Names.{List, [], ◌∷◌, map, sum_by, refl, sym, ap, ◌∙◌, arith, and_parts, leb-true, All-cons, All-nil, state_in, VolumeRows}
-use Rattle.mg_show.proofs.Names.{AccRow, page_behind, page_of, ObjectRow, object_spelled, AreApart, objects_in}
-use Rattle.std.proofs.lemmas.{Bool.Decides.nat_tests, List.{Elements.All-weaker, Kept.AllPairs-cons}}
+use Rattle.mg_model.specs.{KeptListLemmas.{AllPairs-head, AllPairs-nil}, Objects.{with_object, page_behind, page_of}, State.{Object, ObjectRow}}
+use Rattle.mg_model.specs.{Tests.all_distinct, Volume.{objects_spelled, accounts_fit, are_apart, bound_pages, object_spelled}}
+use Rattle.{mg_model.specs.declared.accounts.AccRow.AccRow, mg_objects.specs.Held.{by_base, into_place, live_from, IsBefore, AreApart, objects_in}}
+use Rattle.{mg_rules.specs.{RowsRead.{AreKept, placed_from, state_in}, declared.volume_rows.VolumeRows.VolumeRows}, std.proofs.Common.{None, Some}}
+use Rattle.std.proofs.{Common.{◌≡◌, ℕ, ◌+◌, List, [], ◌∷◌, map, refl, sym, ap, ◌∙◌, arith}, lemmas.Bool.{cases_Bool, and_parts, leb-true}}
+use Rattle.std.{proofs.lemmas.{Bool.Decides.nat_tests, List.{Elements.{All-cons, All-nil, All-weaker}, Kept.AllPairs-cons}}, specs.Prelude.Option}
+use Rattle.std.specs.Prelude.{nat_le, true, sum_by}
 use Rattle.mg_rules.specs.RowsRead as rows
 
 -- accounts without their places

@@ -1,9 +1,10 @@
 -- From the text that was put of the contents, and what waited of it, to what is kept of the volume whose rows were read.
-use Rattle.{mg_check.specs.ReadRuns.only_none, mg_io.specs.Known.AppendsPrefix-none, mg_model.specs.{Layout.total_blocks, Replay.replay, State.State}}
-use Rattle.{mg_model.specs.Volume.{Is, volume}, mg_rules.specs.RowsRead.IsReadAs, mg_show.proofs.Names.{ℕ, ◌≡◌, List, [], ◌++◌, None, Option, Some}}
-use Rattle.mg_show.proofs.Names.{refl, sym, ap, inl, inr, subst, append-nil, ⊎_elim, ◌∙◌, Appends, ForSome, state_in, VolumeRows, Image}
-use Rattle.mg_show.{proofs.Names.{AppendsPrefix, text_of, Held, Puts, PutsOf}, specs.{Putting.{ShowsRows, status_of}, Writing.{Adds, Writes}}}
-use Rattle.{mg_show.specs.{WritingLemmas.writes_then, declared.{command.Text.Text, faults.ShowFault.ShowFault}}, std.proofs.Common.arith}
+use Rattle.{mg_check.specs.ReadRuns.only_none, mg_disk.specs.Disk.Image, mg_io.specs.Known.{AppendsPrefix-none, AppendsPrefix}}
+use Rattle.{mg_model.specs.{Layout.total_blocks, Replay.replay, State.State, Volume.{Is, volume}}, mg_rules.specs.RowsRead.{IsReadAs, state_in}}
+use Rattle.{mg_rules.specs.declared.volume_rows.VolumeRows.VolumeRows, mg_show.specs.{Commands.text_of, Putting.{ShowsRows, status_of}, Writing.Held}}
+use Rattle.mg_show.specs.{Writing.{Puts, PutsOf, Adds, Writes}, WritingLemmas.writes_then, declared.{command.Text.Text, faults.ShowFault.ShowFault}}
+use Rattle.std.proofs.Common.{ℕ, ◌≡◌, List, [], ◌++◌, None, Some, refl, sym, ap, inl, inr, subst, append-nil, ⊎_elim, ◌∙◌, arith}
+use Rattle.std.specs.{Io.KnownBytes.Appends, Option.ForSome, Prelude.Option}
 use Rattle.mg_disk.specs.declared.disk.Disk as disks
 use Rattle.mg_io.specs.declared.traits.Sink as sinks
 use Rattle.mg_serve.specs.declared.status.Status.TheVariants as status

@@ -1,6 +1,6 @@
 -- What the words of a command line ask for, by their number.
-use Rattle.{mg_io.specs.Arguments.arguments, mg_show.proofs.Names.{◌⊎◌, ⊎_elim, ℕ, ◌<◌, ◌≤◌, ◌≡◌, List, [], ◌∷◌, length, get_or, None, Some, refl}}
-use Rattle.{mg_show.{proofs.Names.arith, specs.Commands.{part_named, spelled}}, std.specs.{Prelude.String, String.string_bytes}}
+use Rattle.{mg_io.specs.Arguments.arguments, mg_show.specs.Commands.{part_named, spelled}, std.proofs.Common.{⊎_elim, ℕ, ◌<◌, ◌≤◌, ◌≡◌, List, []}}
+use Rattle.std.{proofs.Common.{◌∷◌, length, get_or, None, Some, refl, arith}, specs.{Prelude.{◌⊎◌, String}, String.string_bytes}}
 use Rattle.std.specs.declared.alloc.Global.{Global}
 use Rattle.mg_show.specs.declared.command.Text.TheVariants as texts
 

@@ -1,10 +1,12 @@
 -- The state of a volume that is held is the one that its rows spell, and its text.
-use Rattle.mg_show.proofs.Names.{◌==◌, true, false, filter, sum_by, ◌+◌, ◌<◌, List, [], ◌∷◌, get_or, take, ap, refl, append_assoc, append-nil, AccRow}
-use Rattle.mg_show.proofs.Names.{pages_paid, ◌≡◌, ℕ, ◌++◌, flat_map, length, map, sym, ◌∙◌, fun_ext, flat_map-map, map-map, pages_at, state_in}
-use Rattle.mg_show.proofs.Names.{VolumeRows, Image, ObjectRow, ThreadRow, objects_in, numbered, state_shown, accounts_text, object_text, thread_text}
-use Rattle.mg_show.{proofs.{Names.{rows_text, Shown}, RowsKept.{objects-in-order, accounts-placed}}, specs.StateText.{account_text, counters_text}}
-use Rattle.{mg_show.specs.{StateText.{settings_text, state_text}, WordText.row_text}, mg_space.specs.Space.{paid_by, ArePaid}}
-use Rattle.std.{proofs.{Common.arith, lemmas.List.{length-take-le, take_more, Sums.sum_by-cons}}, specs.Prelude.{Bool, if◌then◌else◌}}
+use Rattle.{mg_bank.specs.Bank.pages_at, mg_disk.specs.Disk.Image, mg_model.specs.{State.{ObjectRow, ThreadRow}, declared.accounts.AccRow.AccRow}}
+use Rattle.{mg_objects.specs.Held.objects_in, mg_rules.specs.{RowsRead.state_in, declared.volume_rows.VolumeRows.VolumeRows}}
+use Rattle.mg_show.{proofs.RowsKept.{objects-in-order, accounts-placed}, specs.{Shown.{numbered, state_shown}, StateText.{pages_paid, accounts_text}}}
+use Rattle.mg_show.specs.{StateText.{object_text, thread_text, account_text, counters_text, settings_text, state_text}, WordText.rows_text}
+use Rattle.{mg_show.specs.{WordText.row_text, declared.held.Shown.Shown}, mg_space.specs.Space.{paid_by, ArePaid}, std.proofs.Common.{◌+◌, ◌<◌, List}}
+use Rattle.std.proofs.Common.{[], ◌∷◌, get_or, take, ap, refl, append_assoc, append-nil, ◌≡◌, ℕ, ◌++◌, flat_map, length, map, sym, ◌∙◌, arith}
+use Rattle.std.proofs.{Math.Path.fun_ext, lemmas.{List.{length-take-le, take_more, Folds.flat_map-map, Sums.sum_by-cons}, Simd.map-map}}
+use Rattle.std.specs.Prelude.{◌==◌, true, false, filter, sum_by, Bool, if◌then◌else◌}
 
 pub state-told : (rows : VolumeRows) (r : Image) (shown : Shown) → shown.params ≡ rows.params → shown.counters ≡ rows.globals
     → shown.threads.items ≡ rows.threads.items

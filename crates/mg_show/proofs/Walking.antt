@@ -1,11 +1,13 @@
 -- What is reached step by step, and the ranks that a walk gives.
-use Rattle.mg_show.proofs.{ByPlaces.places-next, Marked.marks_then, Names.{◌≡◌, ℕ, zero, suc, ◌+◌, ◌<◌, ◌≤◌, ◌==◌, ◌&&◌, ◌||◌, nat_le, Bool, true}}
-use Rattle.mg_show.proofs.Names.{false, List, [], ◌∷◌, ◌++◌, flat_map, if◌then◌else◌, length, map, None, slice_index, slice_index_or, take, HoldsAt}
-use Rattle.mg_show.proofs.Names.{append-nil, refl, sym, ap, subst, ◌∙◌, arith, ⊎_elim, or-false, or_assoc, cases_lt, le-leb, list_any-append}
-use Rattle.mg_show.proofs.Names.{map-append, map-map, Image, R, Slot, pairs_of, has_right, Object, ObjectRow, is_among, reached, is_list, bases_of}
-use Rattle.mg_show.proofs.Names.{Marks, given, gives_rank, is_within, named_by, by_place, listed, object_in, state_shown, AreOpened, AreRanked}
-use Rattle.{mg_show.proofs.Names.{listed_at, Shown}, std.proofs.{Math.Bool.{and-false, and-or_distrib_right, and-true}, lemmas.Bool.lt-leb}}
-use Rattle.std.proofs.lemmas.Bool.Decides.{nat_tests}
+use Rattle.{mg_disk.specs.Disk.Image, mg_model.specs.{Access.pairs_of, Rights.has_right, State.{Object, ObjectRow}}}
+use Rattle.{mg_model.specs.declared.{rights.Right.TheVariants.R, slots.Slot.Slot}, mg_show.proofs.{ByPlaces.places-next, Marked.marks_then}}
+use Rattle.mg_show.specs.{DotFrom.{is_among, reached}, DotText.is_list, Drawn.bases_of, Marking.{Marks, given, gives_rank, is_within, named_by}}
+use Rattle.mg_show.specs.{Reached.{by_place, listed}, Shown.{object_in, state_shown}, Walked.{AreOpened, AreRanked, listed_at}}
+use Rattle.{mg_show.specs.declared.held.Shown.Shown, std.proofs.Common.{◌≡◌, ℕ, suc, ◌+◌, ◌<◌, ◌≤◌, ◌||◌, List, [], ◌∷◌, ◌++◌, flat_map}}
+use Rattle.std.proofs.Common.{if◌then◌else◌, length, map, None, slice_index, take, append-nil, refl, sym, ap, subst, ◌∙◌, arith, ⊎_elim}
+use Rattle.std.proofs.{Math.Bool.{or-false, or_assoc, and-false, and-or_distrib_right, and-true}, lemmas.Bool.{cases_lt, le-leb, lt-leb}}
+use Rattle.std.{proofs.lemmas.{Bool.Decides.nat_tests, List.{map-append, Folds.list_any-append}, Simd.map-map}, specs.{List.HoldsAt, Prelude.zero}}
+use Rattle.std.specs.Prelude.{◌==◌, ◌&&◌, nat_le, Bool, true, false, slice_index_or}
 
 -- Tests
 

@@ -1,9 +1,9 @@
 -- Words as text, some behind others.
-use Rattle.{mg_model.specs.Replay.block_of, mg_show.proofs.Names.{◌<◌, get_or, map, take, map_more, spaced, ◌≡◌, ℕ, zero, suc, ◌+◌, ◌*◌, ◌%◌, ◌==◌}}
-use Rattle.mg_show.proofs.Names.{List, [], ◌∷◌, ◌++◌, length, Some, option_map_or, refl, sym, ap, ◌∙◌, append_assoc, append-nil, length-append, arith}
-use Rattle.mg_show.proofs.Names.{block_words, number_at, numbers_at, first_frame, page_of, ObjectRow, page_words, pages_words, words_text, word_text}
-use Rattle.{mg_show.specs.WordText.{block_text, page_text, pages_text, row_text}, std.{proofs.lemmas.List.length-replicate, specs.Prelude.position}}
-use Rattle.std.specs.Prelude.{replicate}
+use Rattle.mg_model.specs.{Abbreviations.pages_words, Bytes.{block_words, number_at, numbers_at}, Layout.first_frame, Objects.page_of, Print.spaced}
+use Rattle.{mg_model.specs.{Replay.block_of, State.ObjectRow, Volume.page_words}, mg_show.specs.{StateText.words_text, WordText.word_text}}
+use Rattle.{mg_show.specs.WordText.{block_text, page_text, pages_text, row_text}, std.proofs.Common.{◌<◌, get_or, map, take, ◌≡◌, ℕ, suc, ◌+◌, ◌*◌}}
+use Rattle.std.proofs.Common.{List, [], ◌∷◌, ◌++◌, length, Some, refl, sym, ap, ◌∙◌, append_assoc, append-nil, length-append, arith}
+use Rattle.std.{proofs.lemmas.List.{map_more, length-replicate}, specs.{Option.option_map_or, Prelude.{zero, ◌%◌, ◌==◌, position, replicate}}}
 
 -- behind other words
 words_text-append : (address : ℕ) (xs ys : List ℕ) → words_text address (xs ++ ys) ≡ words_text address xs ++ words_text (address + 8 * length xs) ys

@@ -1,4 +1,4 @@
-use Rattle.mg_show.proofs.{Names.{◌∙◌, arith, inl, inr}, Spelled.{five_words, none_asked, one_word}}
+use Rattle.{mg_show.proofs.Spelled.{five_words, none_asked, one_word}, std.proofs.Common.{◌∙◌, arith, inl, inr}}
 use Rattle.mg_show.proofs.command.read_words.Goals as goal
 
 pub returns-in-len1 : goal.returns-in-len1

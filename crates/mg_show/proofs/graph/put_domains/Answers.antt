@@ -1,4 +1,5 @@
-use Rattle.mg_show.proofs.{Drawing.slots-last, Names.{ℕ, ◌+◌, ap, arith, flat_map, last_slots, ThreadRow, slot_arrow, bare, puts_more, puts_same}}
+use Rattle.{mg_model.specs.{Access.last_slots, State.ThreadRow}, mg_show.{proofs.Drawing.slots-last, specs.{DotText.slot_arrow, Shown.bare}}}
+use Rattle.{mg_show.specs.WritingLemmas.{puts_more, puts_same}, std.proofs.Common.{ℕ, ◌+◌, ap, arith, flat_map}}
 use Rattle.mg_show.proofs.graph.put_domains.Goals as goal
 
 pub loop-t-preserved : goal.loop-t-preserved

@@ -1,4 +1,4 @@
-use Rattle.mg_show.proofs.Names.{take, domains_drawn, Puts}
+use Rattle.{mg_show.specs.{Drawn.domains_drawn, Writing.Puts}, std.proofs.Common.take}
 use Rattle.mg_show.proofs.graph.put_domains.Given as goal
 
 abbrev pub invariant-loop-t : goal.invariant-loop-t

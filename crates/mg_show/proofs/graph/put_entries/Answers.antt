@@ -1,5 +1,6 @@
-use Rattle.mg_show.proofs.{Drawing.{entries-more, entry-drawn, entry-none}, Names.{◌∙◌, arith, get_or, ne_eqb, Slot, bare, puts_none, puts_same}}
-use Rattle.mg_show.proofs.{Names.puts_then, graph.put_entries.Goals.{else-slot-ne0, then-slot-ne0}}
+use Rattle.{mg_model.specs.declared.slots.Slot.Slot, mg_show.proofs.Drawing.{entries-more, entry-drawn, entry-none}}
+use Rattle.mg_show.{proofs.graph.put_entries.Goals.{else-slot-ne0, then-slot-ne0}, specs.{Shown.bare, WritingLemmas.{puts_none, puts_same}}}
+use Rattle.{mg_show.specs.WritingLemmas.puts_then, std.proofs.{Common.{◌∙◌, arith, get_or}, lemmas.Bool.ne_eqb}}
 use Rattle.mg_show.proofs.graph.put_entries.Goals as goal
 
 pub loop-slot-preserved : goal.loop-slot-preserved

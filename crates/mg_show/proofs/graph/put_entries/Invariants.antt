@@ -1,4 +1,4 @@
-use Rattle.mg_show.proofs.Names.{take, entries_drawn, named_by, Puts}
+use Rattle.{mg_show.specs.{Drawn.entries_drawn, Marking.named_by, Writing.Puts}, std.proofs.Common.take}
 use Rattle.mg_show.proofs.graph.put_entries.Given as goal
 
 -- the entries before this one are put

@@ -1,4 +1,4 @@
-use Rattle.mg_show.proofs.{Drawing.dot-told, Names.{arith, of_same}}
+use Rattle.{mg_show.{proofs.Drawing.dot-told, specs.WritingLemmas.of_same}, std.proofs.Common.arith}
 use Rattle.mg_show.proofs.graph.put_graph.Goals as goal
 
 pub returns : goal.returns

@@ -1,6 +1,8 @@
-use Rattle.mg_show.proofs.{ByPlaces.places-next, Names.{◌&&◌, ◌≡◌, ◌∙◌, ℕ, Bool, List, Slot, ap, named_by, of_behind, true, false, sym, arith}}
-use Rattle.mg_show.proofs.Names.{slice_index, Image, R, has_right, entries_drawn, listed, lists_ranked, is_within, of_all, of_put, of_same, of_then}
-use Rattle.mg_show.proofs.{Names.puts_none, graph.put_lists.Goals.{else-is_within-has_r, then-is_within-has_r}}
+use Rattle.{mg_disk.specs.Disk.Image, mg_model.specs.{Rights.has_right, declared.{rights.Right.TheVariants.R, slots.Slot.Slot}}}
+use Rattle.mg_show.{proofs.{ByPlaces.places-next, graph.put_lists.Goals.{else-is_within-has_r, then-is_within-has_r}}, specs.Drawn.entries_drawn}
+use Rattle.mg_show.specs.{Drawn.lists_ranked, Marking.{named_by, is_within}, Reached.listed, WritingLemmas.{of_behind, of_all, of_put, of_same}}
+use Rattle.{mg_show.specs.WritingLemmas.{of_then, puts_none}, std.proofs.Common.{◌≡◌, ◌∙◌, ℕ, List, ap, sym, arith, slice_index}}
+use Rattle.std.specs.Prelude.{◌&&◌, Bool, true, false}
 use Rattle.mg_show.proofs.graph.put_lists.Goals as goal
 
 pub loop-i-init : goal.loop-i-init

@@ -1,4 +1,4 @@
-use Rattle.mg_show.proofs.Names.{take, lists_ranked, held_in, PutsOf}
+use Rattle.{mg_show.specs.{Drawn.lists_ranked, Shown.held_in, Writing.PutsOf}, std.proofs.Common.take}
 use Rattle.mg_show.proofs.graph.put_lists.Given as goal
 
 -- the arrows of the lists before this one are put

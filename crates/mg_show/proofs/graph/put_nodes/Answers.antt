@@ -1,6 +1,7 @@
-use Rattle.mg_show.proofs.{ByPlaces.places-next, Names.{◌+◌, ◌∙◌, ◌≡◌, Bool, true, false, sym, arith, slice_index, R, has_right, is_within}}
-use Rattle.mg_show.proofs.{Names.{puts_none, puts_same, puts_then}, graph.put_nodes.Goals.{else-is_within, then-is_within}}
-use Rattle.mg_show.specs.{DotText.object_node, Drawn.shape}
+use Rattle.{mg_model.specs.{Rights.has_right, declared.rights.Right.TheVariants.R}, mg_show.proofs.ByPlaces.places-next}
+use Rattle.mg_show.{proofs.graph.put_nodes.Goals.{else-is_within, then-is_within}, specs.{DotText.object_node, Drawn.shape, Marking.is_within}}
+use Rattle.{mg_show.specs.WritingLemmas.{puts_none, puts_same, puts_then}, std.proofs.Common.{◌+◌, ◌∙◌, ◌≡◌, sym, arith, slice_index}}
+use Rattle.std.specs.Prelude.{Bool, true, false}
 use Rattle.mg_show.proofs.graph.put_nodes.Goals as goal
 
 pub loop-i-preserved : goal.loop-i-preserved

@@ -1,4 +1,4 @@
-use Rattle.mg_show.proofs.Names.{take, nodes_ranked, Puts}
+use Rattle.{mg_show.specs.{Drawn.nodes_ranked, Writing.Puts}, std.proofs.Common.take}
 use Rattle.mg_show.proofs.graph.put_nodes.Given as goal
 
 abbrev pub invariant-loop-i : goal.invariant-loop-i

@@ -1,4 +1,5 @@
-use Rattle.mg_show.{proofs.{Drawing.part-told, Names.{arith, refl, bases_of}, Walking.ranked-first}, specs.WritingLemmas.of_after}
+use Rattle.{mg_show.{proofs.{Drawing.part-told, Walking.ranked-first}, specs.{Drawn.bases_of, WritingLemmas.of_after}}, std.proofs.Common.arith}
+use Rattle.std.proofs.Common.{refl}
 use Rattle.mg_show.proofs.graph.put_part.Goals as goal
 
 pub returns : goal.returns

@@ -1,4 +1,4 @@
-use Rattle.mg_show.proofs.Names.{refl, graph_end, graph_head, of_put, of_then, puts_same, puts_then}
+use Rattle.{mg_show.specs.{Drawn.{graph_end, graph_head}, WritingLemmas.{of_put, of_then, puts_same, puts_then}}, std.proofs.Common.refl}
 use Rattle.mg_show.proofs.graph.put_ranked.Goals as goal
 
 pub returns : goal.returns

@@ -1,4 +1,5 @@
-use Rattle.mg_show.proofs.{Drawing.slot-drawn, Names.{arith, ◌∙◌, get_or, Slot, slot_arrow, bare, flat_more, puts_same, puts_then}}
+use Rattle.{mg_model.specs.declared.slots.Slot.Slot, mg_show.{proofs.Drawing.slot-drawn, specs.{DotText.slot_arrow, Shown.bare}}}
+use Rattle.{mg_show.specs.WritingLemmas.{flat_more, puts_same, puts_then}, std.proofs.Common.{arith, ◌∙◌, get_or}}
 use Rattle.mg_show.proofs.graph.put_slots.Goals as goal
 
 pub loop-slot-preserved : goal.loop-slot-preserved

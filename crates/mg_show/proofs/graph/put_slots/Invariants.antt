@@ -1,4 +1,4 @@
-use Rattle.mg_show.proofs.Names.{flat_map, take, slot_arrow, bare, Puts}
+use Rattle.{mg_show.specs.{DotText.slot_arrow, Shown.bare, Writing.Puts}, std.proofs.Common.{flat_map, take}}
 use Rattle.mg_show.proofs.graph.put_slots.Given as goal
 
 abbrev pub invariant-loop-slot : goal.invariant-loop-slot

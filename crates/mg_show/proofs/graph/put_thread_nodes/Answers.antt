@@ -1,4 +1,5 @@
-use Rattle.mg_show.proofs.Names.{ℕ, ◌+◌, arith, ThreadRow, thread_node, puts_more, puts_same}
+use Rattle.{mg_model.specs.State.ThreadRow, mg_show.specs.{DotText.thread_node, WritingLemmas.{puts_more, puts_same}}, std.proofs.Common.{ℕ, ◌+◌}}
+use Rattle.std.proofs.Common.{arith}
 use Rattle.mg_show.proofs.graph.put_thread_nodes.Goals as goal
 
 pub loop-t-preserved : goal.loop-t-preserved

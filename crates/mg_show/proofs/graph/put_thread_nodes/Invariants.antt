@@ -1,4 +1,4 @@
-use Rattle.mg_show.proofs.Names.{take, threads_drawn, Puts}
+use Rattle.{mg_show.specs.{Drawn.threads_drawn, Writing.Puts}, std.proofs.Common.take}
 use Rattle.mg_show.proofs.graph.put_thread_nodes.Given as goal
 
 abbrev pub invariant-loop-t : goal.invariant-loop-t

@@ -1,5 +1,6 @@
-use Rattle.mg_show.proofs.{Drawing.{found-all, slots-last, thread-told}, Names.{ℕ, ◌+◌, ◌<◌, ◌==◌, [], All, None, Some, find, map, ap, subst, sym}}
-use Rattle.mg_show.proofs.Names.{◌∙◌, All-cons, All-nil, thread_limit, ThreadRow, part_text, bases_of, numbered, state_shown, of_same}
+use Rattle.{mg_model.specs.{Limits.thread_limit, State.ThreadRow}, mg_show.proofs.Drawing.{found-all, slots-last, thread-told}}
+use Rattle.{mg_show.specs.{DotFrom.part_text, Drawn.bases_of, Shown.{numbered, state_shown}, WritingLemmas.of_same}, std.proofs.Common.{ℕ, ◌+◌, ◌<◌}}
+use Rattle.std.{proofs.{Common.{[], None, Some, map, ap, subst, sym, ◌∙◌}, lemmas.List.Elements.{All-cons, All-nil}}, specs.Prelude.{◌==◌, All, find}}
 use Rattle.mg_show.proofs.graph.put_thread_part.Goals as goal
 
 pub put_part-requires-clause-places : goal.put_part-requires-clause-places

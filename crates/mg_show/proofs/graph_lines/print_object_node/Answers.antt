@@ -1,5 +1,5 @@
-use Rattle.mg_show.{proofs.Names.{◌≡◌, ℕ, List, [], ◌∷◌, ◌++◌, append_assoc, arith, codes, object_name, quoted}, specs.DotText.object_label}
-use Rattle.mg_show.specs.Drawn.{shape}
+use Rattle.{mg_show.specs.{DotText.{object_name, quoted, object_label}, Drawn.shape}, std.proofs.Common.{◌≡◌, ℕ, List, [], ◌∷◌, ◌++◌, append_assoc}}
+use Rattle.std.proofs.Common.{arith, codes}
 use Rattle.mg_show.proofs.graph_lines.print_object_node.Goals as goal
 
 -- a text between quotes, of which each stands with the text beside it

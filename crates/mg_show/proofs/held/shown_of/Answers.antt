@@ -1,5 +1,5 @@
-use Rattle.{mg_model.specs.Limits.credit_limit, mg_show.proofs.{Names.{subst, sym, ◌≤◌}, RowsKept.{apart_kept, credits_kept, distinct_kept}}}
-use Rattle.std.proofs.Common.{rules}
+use Rattle.{mg_model.specs.Limits.credit_limit, mg_show.proofs.RowsKept.{apart_kept, credits_kept, distinct_kept}, std.proofs.Common.{subst, sym}}
+use Rattle.std.proofs.Common.{◌≤◌, rules}
 use Rattle.mg_show.proofs.held.shown_of.Goals as goal
 
 pub of-requires-2-clause-credits : goal.of-requires-2-clause-credits

@@ -1,4 +1,4 @@
-use Rattle.mg_show.proofs.{Names.{◌∷◌, ◌++◌, [], get_or, ap, ◌∙◌, arith, hex_text, spaced}, WordTexts.spaced-more}
+use Rattle.{mg_model.specs.Print.{hex_text, spaced}, mg_show.proofs.WordTexts.spaced-more, std.proofs.Common.{◌∷◌, ◌++◌, [], get_or, ap, ◌∙◌, arith}}
 use Rattle.mg_show.proofs.lines.print_words.Goals as goal
 
 pub loop-word-preserved : goal.loop-word-preserved

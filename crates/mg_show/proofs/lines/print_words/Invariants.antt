@@ -1,4 +1,5 @@
-use Rattle.mg_show.proofs.Names.{◌≡◌, ◌+◌, ◌*◌, ◌≤◌, ◌++◌, length, map, take, array_vec_len, hex_text, spaced}
+use Rattle.{arrayvec.specs.ArrayVec.array_vec_len, mg_model.specs.Print.{hex_text, spaced}, std.proofs.Common.{◌≡◌, ◌+◌, ◌*◌, ◌≤◌, ◌++◌, length, map}}
+use Rattle.std.proofs.Common.{take}
 use Rattle.mg_show.proofs.lines.print_words.Given as goal
 
 abbrev pub invariant-loop-word : goal.invariant-loop-word

@@ -1,4 +1,4 @@
-use Rattle.mg_show.{proofs.Names.{◌≡◌, ◌+◌, ◌*◌, ◌≤◌, ◌++◌, take, array_vec_len}, specs.StateText.seed_text}
+use Rattle.{arrayvec.specs.ArrayVec.array_vec_len, mg_show.specs.StateText.seed_text, std.proofs.Common.{◌≡◌, ◌+◌, ◌*◌, ◌≤◌, ◌++◌, take}}
 use Rattle.mg_show.proofs.lines.push_seed.Given as goal
 
 abbrev pub invariant-loop-byte : goal.invariant-loop-byte

@@ -1,4 +1,5 @@
-use Rattle.mg_show.proofs.{Names.{◌∷◌, ◌++◌, [], get_or, ap, ◌∙◌, arith, spaced, step_text}, WordTexts.spaced-more}
+use Rattle.{mg_model.specs.Print.spaced, mg_show.{proofs.WordTexts.spaced-more, specs.StateText.step_text}, std.proofs.Common.{◌∷◌, ◌++◌, [], get_or}}
+use Rattle.std.proofs.Common.{ap, ◌∙◌, arith}
 use Rattle.mg_show.proofs.lines.push_steps.Goals as goal
 
 pub loop-step-preserved : goal.loop-step-preserved

@@ -1,4 +1,5 @@
-use Rattle.mg_show.proofs.Names.{◌≡◌, ◌+◌, ◌*◌, ◌≤◌, ◌++◌, map, take, array_vec_len, spaced, step_text}
+use Rattle.{arrayvec.specs.ArrayVec.array_vec_len, mg_model.specs.Print.spaced, mg_show.specs.StateText.step_text, std.proofs.Common.{◌≡◌, ◌+◌, ◌*◌}}
+use Rattle.std.proofs.Common.{◌≤◌, ◌++◌, map, take}
 use Rattle.mg_show.proofs.lines.push_steps.Given as goal
 
 abbrev pub invariant-loop-step : goal.invariant-loop-step

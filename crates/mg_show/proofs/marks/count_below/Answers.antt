@@ -1,4 +1,4 @@
-use Rattle.mg_show.proofs.{Marked.{above-more, bases-rise, below-more}, Names.{◌+◌, ◌-◌, ◌/◌, arith}}
+use Rattle.{mg_show.proofs.Marked.{above-more, bases-rise, below-more}, std.proofs.Common.{◌+◌, ◌-◌, ◌/◌, arith}}
 use Rattle.mg_show.proofs.marks.count_below.Goals as goal
 
 pub loop-low-preserved-then-base : goal.loop-low-preserved-then-base

@@ -1,4 +1,4 @@
-use Rattle.mg_show.proofs.Names.{ℕ, ◌-◌, ◌≤◌, ◌<◌, length, AllWithin, ObjectRow}
+use Rattle.{mg_model.specs.State.ObjectRow, std.{proofs.Common.{ℕ, ◌-◌, ◌≤◌, ◌<◌, length}, specs.List.AllWithin}}
 use Rattle.mg_show.proofs.marks.count_below.Given as goal
 
 -- the cut lies between the two

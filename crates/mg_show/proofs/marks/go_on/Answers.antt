@@ -1,5 +1,6 @@
-use Rattle.mg_show.proofs.{Learning.{found_list, found_none, learns_then}, Names.{◌&&◌, ◌==◌, ◌≡◌, ℕ, List, Bool, arith, sym, ◌∙◌, true, false}}
-use Rattle.mg_show.proofs.{Names.{slice_index, Image, R, has_right}, Walking.listed-next, marks.go_on.Goals.{else-ranks-i, then-ranks-i}}
+use Rattle.{mg_disk.specs.Disk.Image, mg_model.specs.{Rights.has_right, declared.rights.Right.TheVariants.R}, mg_show.proofs.Learning.found_list}
+use Rattle.mg_show.proofs.{Learning.{found_none, learns_then}, Walking.listed-next, marks.go_on.Goals.{else-ranks-i, then-ranks-i}}
+use Rattle.std.{proofs.Common.{◌≡◌, ℕ, List, arith, sym, ◌∙◌, slice_index}, specs.Prelude.{◌&&◌, ◌==◌, Bool, true, false}}
 use Rattle.mg_show.proofs.marks.go_on.Goals as goal
 
 pub loop-i-preserved : goal.loop-i-preserved

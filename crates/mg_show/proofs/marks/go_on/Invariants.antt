@@ -1,4 +1,4 @@
-use Rattle.mg_show.proofs.Names.{◌+◌, take, Finds, gives_rank, is_within, held_in, listed_at}
+use Rattle.{mg_show.specs.{Marking.{Finds, gives_rank, is_within}, Shown.held_in, Walked.listed_at}, std.proofs.Common.{◌+◌, take}}
 use Rattle.mg_show.proofs.marks.go_on.Given as goal
 
 -- what the lists before this one name has its rank

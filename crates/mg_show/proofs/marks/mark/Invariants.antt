@@ -1,4 +1,4 @@
-use Rattle.mg_show.proofs.Names.{take, holds, has_right, Marks, named_by}
+use Rattle.{mg_model.specs.{Access.holds, Rights.has_right}, mg_show.specs.Marking.{Marks, named_by}, std.proofs.Common.take}
 use Rattle.mg_show.proofs.marks.mark.Given as goal
 
 -- the capabilities before this one have given their rights

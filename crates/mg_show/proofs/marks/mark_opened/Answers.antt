@@ -1,5 +1,6 @@
-use Rattle.mg_show.proofs.{Drawing.all-given, Names.{◌||◌, slice_index_or, List, ℕ, ◌≤◌, arith, flat_map, length, ◌∙◌, take_all, R, holds}}
-use Rattle.mg_show.proofs.Names.{last_slots, has_right, ThreadRow, given, named_by}
+use Rattle.mg_model.specs.{Access.{holds, last_slots}, Rights.has_right, State.ThreadRow, declared.rights.Right.TheVariants.R}
+use Rattle.{mg_show.{proofs.Drawing.all-given, specs.Marking.{given, named_by}}, std.proofs.Common.{◌||◌, List, ℕ, ◌≤◌, arith, flat_map, length, ◌∙◌}}
+use Rattle.std.{proofs.lemmas.List.take_all, specs.Prelude.slice_index_or}
 use Rattle.mg_show.proofs.marks.mark_opened.Goals as goal
 
 abbrev named : ℕ × ThreadRow → List (ℕ × ℕ)

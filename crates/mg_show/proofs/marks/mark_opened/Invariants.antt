@@ -1,4 +1,5 @@
-use Rattle.mg_show.proofs.Names.{ℕ, flat_map, take, holds, last_slots, has_right, ThreadRow, Marks, named_by}
+use Rattle.{mg_model.specs.{Access.{holds, last_slots}, Rights.has_right, State.ThreadRow}, mg_show.specs.Marking.{Marks, named_by}}
+use Rattle.std.proofs.Common.{ℕ, flat_map, take}
 use Rattle.mg_show.proofs.marks.mark_opened.Given as goal
 
 -- the present frames of the threads before this one have given their rights

@@ -1,4 +1,4 @@
-use Rattle.mg_show.proofs.{Marked.{bases-rise, place-found, place-none}, Names.{ap, arith, inr}}
+use Rattle.{mg_show.proofs.Marked.{bases-rise, place-found, place-none}, std.proofs.Common.{ap, arith, inr}}
 use Rattle.mg_show.proofs.marks.place_of.Goals as goal
 
 pub returns-then-base : goal.returns-then-base

@@ -1,5 +1,6 @@
-use Rattle.mg_show.proofs.{Marked.{marks_more, marks_no, marks_one}, Names.{[], ◌∷◌, ◌≢◌, All, List, ℕ, ◌∙◌, arith, get_or, subst, ObjectRow, Slot}}
-use Rattle.mg_show.proofs.{Names.{IsPlaceOf, Marks, gives_rank, is_within}, marks.rank.Goals.{in-None, in-Some}}
+use Rattle.{mg_model.specs.{State.ObjectRow, declared.slots.Slot.Slot}, mg_show.proofs.Marked.{marks_more, marks_no, marks_one}}
+use Rattle.{mg_show.{proofs.marks.rank.Goals.{in-None, in-Some}, specs.Marking.{IsPlaceOf, Marks, gives_rank, is_within}}, std.proofs.Common.[]}
+use Rattle.std.{proofs.Common.{◌∷◌, List, ℕ, ◌∙◌, arith, get_or, subst}, specs.Prelude.{◌≢◌, All}}
 use Rattle.mg_show.proofs.marks.rank.Goals as goal
 
 pub loop-slot-preserved : goal.loop-slot-preserved

@@ -1,4 +1,4 @@
-use Rattle.mg_show.proofs.Names.{take, Marks, gives_rank, is_within, named_by}
+use Rattle.{mg_show.specs.Marking.{Marks, gives_rank, is_within, named_by}, std.proofs.Common.take}
 use Rattle.mg_show.proofs.marks.rank.Given as goal
 
 -- the objects that the capabilities before this one name have the rank

@@ -1,4 +1,4 @@
-use Rattle.mg_show.proofs.{Letters.none-has, Listing.held, Names.{[], None, Some, ◌||◌, refl, ◌∙◌, holds}}
+use Rattle.{mg_model.specs.Access.holds, mg_show.proofs.{Letters.none-has, Listing.held}, std.proofs.Common.{[], None, Some, ◌||◌, refl, ◌∙◌}}
 use Rattle.mg_show.proofs.marks.rights_on.Goals as goal
 
 pub returns-in-Some : goal.returns-in-Some

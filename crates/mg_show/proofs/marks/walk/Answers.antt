@@ -1,4 +1,4 @@
-use Rattle.mg_show.proofs.{Learning.learns_then, Names.{◌+◌, arith, ◌∙◌}, Walking.ranked-more}
+use Rattle.{mg_show.proofs.{Learning.learns_then, Walking.ranked-more}, std.proofs.Common.{◌+◌, arith, ◌∙◌}}
 use Rattle.mg_show.proofs.marks.walk.Goals as goal
 
 pub loop-k-preserved : goal.loop-k-preserved

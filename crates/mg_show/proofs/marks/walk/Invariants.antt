@@ -1,4 +1,4 @@
-use Rattle.mg_show.proofs.Names.{◌≡◌, ℕ, ◌+◌, List, length, Learns, held_in, AreRanked}
+use Rattle.{mg_show.specs.{Marking.Learns, Shown.held_in, Walked.AreRanked}, std.proofs.Common.{◌≡◌, ℕ, ◌+◌, List, length}}
 use Rattle.mg_show.proofs.marks.walk.Given as goal
 
 -- what is reached in fewer steps has its rank

@@ -1,4 +1,4 @@
-use Rattle.mg_show.proofs.{Letters.bits-are, Names.{◌||◌, holds, has_right}}
+use Rattle.{mg_model.specs.{Access.holds, Rights.has_right}, mg_show.proofs.Letters.bits-are, std.proofs.Common.◌||◌}
 use Rattle.mg_show.proofs.marks.with_rights.Goals as goal
 
 pub returns : goal.returns

@@ -1,5 +1,5 @@
-use Rattle.mg_show.proofs.{Listing.block-entries-more, Names.{List, length, length-append, ◌<◌, ◌*◌, ◌∷◌, ◌++◌, [], ap, arith, refl, ◌∙◌, map-append}}
-use Rattle.mg_show.proofs.Names.{Slot, named_by}
+use Rattle.{mg_model.specs.declared.slots.Slot.Slot, mg_show.{proofs.Listing.block-entries-more, specs.Marking.named_by}, std.proofs.Common.List}
+use Rattle.std.proofs.{Common.{length, length-append, ◌<◌, ◌*◌, ◌∷◌, ◌++◌, [], ap, arith, refl, ◌∙◌}, lemmas.List.map-append}
 use Rattle.mg_show.proofs.pages.list_in.Goals as goal
 
 pub loop-k-preserved : goal.loop-k-preserved

@@ -1,4 +1,4 @@
-use Rattle.mg_show.proofs.Names.{◌≡◌, length, pairs_from, block_words, named_by}
+use Rattle.{mg_model.specs.{Abbreviations.pairs_from, Bytes.block_words}, mg_show.specs.Marking.named_by, std.proofs.Common.{◌≡◌, length}}
 use Rattle.mg_show.proofs.pages.list_in.Given as goal
 
 -- the entries before this one

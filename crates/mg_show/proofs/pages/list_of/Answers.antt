@@ -1,4 +1,5 @@
-use Rattle.mg_show.proofs.{Listing.list_first, Names.{◌/◌, ap, length, ◌∙◌, pairs_of, page_of, page_words}}
+use Rattle.{mg_model.specs.{Access.pairs_of, Objects.page_of, Volume.page_words}, mg_show.proofs.Listing.list_first, std.proofs.Common.{◌/◌, ap}}
+use Rattle.std.proofs.Common.{length, ◌∙◌}
 use Rattle.mg_show.proofs.pages.list_of.Goals as goal
 
 pub returns : goal.returns

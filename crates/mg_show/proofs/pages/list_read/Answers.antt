@@ -1,4 +1,4 @@
-use Rattle.mg_show.proofs.Names.{ap, sym, ◌∙◌, pairs_of, words_read}
+use Rattle.{mg_model.specs.Access.pairs_of, mg_show.specs.WordText.words_read, std.proofs.Common.{ap, sym, ◌∙◌}}
 use Rattle.mg_show.proofs.pages.list_read.Goals as goal
 
 pub returns-then-is_held : goal.returns-then-is_held

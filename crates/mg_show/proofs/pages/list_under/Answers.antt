@@ -1,5 +1,5 @@
-use Rattle.mg_show.proofs.{Learning.learns_none, Listing.opened, Names.{[], None, Some, ap, if◌then◌else◌, refl, sym, ◌∙◌, R, holds, named_by}}
-use Rattle.mg_show.proofs.Names.{listed}
+use Rattle.{mg_model.specs.{Access.holds, declared.rights.Right.TheVariants.R}, mg_show.proofs.{Learning.learns_none, Listing.opened}}
+use Rattle.{mg_show.specs.{Marking.named_by, Reached.listed}, std.proofs.Common.{[], None, Some, ap, if◌then◌else◌, refl, sym, ◌∙◌}}
 use Rattle.mg_show.proofs.pages.list_under.Goals as goal
 
 pub returns-then-holds : goal.returns-then-holds

@@ -1,4 +1,4 @@
-use Rattle.mg_show.proofs.{Names.{ap, length, sym, ◌∙◌, first_frame, block_words}, WordTexts.page-held}
+use Rattle.{mg_model.specs.{Bytes.block_words, Layout.first_frame}, mg_show.proofs.WordTexts.page-held, std.proofs.Common.{ap, length, sym, ◌∙◌}}
 use Rattle.mg_show.proofs.pages.read_page.Goals as goal
 
 pub returns-in-Ok-clause-page : goal.returns-in-Ok-clause-page

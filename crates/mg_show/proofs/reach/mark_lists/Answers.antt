@@ -1,4 +1,5 @@
-use Rattle.mg_show.proofs.{Learning.{found_list, found_same, found_then}, Names.{Slot, pairs_under, state_shown, flat_more}}
+use Rattle.{mg_model.specs.{Access.pairs_under, declared.slots.Slot.Slot}, mg_show.proofs.Learning.{found_list, found_same, found_then}}
+use Rattle.mg_show.specs.{Shown.state_shown, WritingLemmas.flat_more}
 use Rattle.mg_show.proofs.reach.mark_lists.Goals as goal
 
 pub loop-i-preserved : goal.loop-i-preserved

@@ -1,4 +1,5 @@
-use Rattle.mg_show.proofs.Names.{take, capabilities, holds, has_right, Finds, held_in, state_shown}
+use Rattle.{mg_model.specs.{Access.{capabilities, holds}, Rights.has_right}, mg_show.specs.{Marking.Finds, Shown.{held_in, state_shown}}}
+use Rattle.std.proofs.Common.{take}
 use Rattle.mg_show.proofs.reach.mark_lists.Given as goal
 
 -- the slots before this one have given their rights

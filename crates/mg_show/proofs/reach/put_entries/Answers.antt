@@ -1,4 +1,4 @@
-use Rattle.mg_show.proofs.Names.{arith, enter_line, flat_more, puts_same, puts_then}
+use Rattle.{mg_show.specs.{Reached.enter_line, WritingLemmas.{flat_more, puts_same, puts_then}}, std.proofs.Common.arith}
 use Rattle.mg_show.proofs.reach.put_entries.Goals as goal
 
 pub loop-entry-preserved : goal.loop-entry-preserved

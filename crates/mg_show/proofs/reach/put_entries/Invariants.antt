@@ -1,4 +1,4 @@
-use Rattle.mg_show.proofs.Names.{take, flat_map, enter_line, Puts}
+use Rattle.{mg_show.specs.{Reached.enter_line, Writing.Puts}, std.proofs.Common.{take, flat_map}}
 use Rattle.mg_show.proofs.reach.put_entries.Given as goal
 
 abbrev pub invariant-loop-entry : goal.invariant-loop-entry

@@ -1,5 +1,5 @@
-use Rattle.mg_show.proofs.{ByPlaces.places-more, Names.{ap, ◌∙◌, arith, slice_index, has_right, bits_line, row_reach, puts_same, puts_then}}
-use Rattle.mg_show.proofs.Reaching.{bits-line}
+use Rattle.{mg_model.specs.Rights.has_right, mg_show.{proofs.{ByPlaces.places-more, Reaching.bits-line}, specs.Reached.{bits_line, row_reach}}}
+use Rattle.{mg_show.specs.WritingLemmas.{puts_same, puts_then}, std.proofs.Common.{ap, ◌∙◌, arith, slice_index}}
 use Rattle.mg_show.proofs.reach.put_marked.Goals as goal
 
 pub loop-i-preserved : goal.loop-i-preserved

@@ -1,4 +1,4 @@
-use Rattle.mg_show.proofs.Names.{take, marked_reach, Puts}
+use Rattle.{mg_show.specs.{Reached.marked_reach, Writing.Puts}, std.proofs.Common.take}
 use Rattle.mg_show.proofs.reach.put_marked.Given as goal
 
 abbrev pub invariant-loop-i : goal.invariant-loop-i

@@ -1,6 +1,7 @@
-use Rattle.mg_show.proofs.{Drawing.slots-last, Names.{All, ℕ, ◌++◌, ◌≤◌, ◌<◌, ap, arith, flat_map, length, subst, take, ◌∙◌, take_all, IsObjectRow}}
-use Rattle.mg_show.proofs.Names.{ObjectRow, AreApart, thread_reached, flat_more, of_behind, of_put, of_same, of_then, puts_none}
-use Rattle.mg_show.proofs.Reaching.{thread-reached, reach_same}
+use Rattle.{mg_model.specs.{Ranges.IsObjectRow, State.ObjectRow}, mg_objects.specs.Held.AreApart, mg_show.proofs.Drawing.slots-last}
+use Rattle.mg_show.{proofs.Reaching.{thread-reached, reach_same}, specs.{Reached.thread_reached, WritingLemmas.{flat_more, of_behind, of_put}}}
+use Rattle.{mg_show.specs.WritingLemmas.{of_same, of_then, puts_none}, std.proofs.Common.{ℕ, ◌++◌, ◌≤◌, ◌<◌, ap, arith, flat_map, length, subst}}
+use Rattle.std.{proofs.{Common.{take, ◌∙◌}, lemmas.List.take_all}, specs.Prelude.All}
 use Rattle.mg_show.proofs.reach.put_reach.Goals as goal
 
 pub loop-i-init : goal.loop-i-init

@@ -1,4 +1,4 @@
-use Rattle.mg_show.proofs.Names.{◌≡◌, flat_map, length, take, thread_reached, held_in, PutsOf}
+use Rattle.{mg_show.specs.{Reached.thread_reached, Shown.held_in, Writing.PutsOf}, std.proofs.Common.{◌≡◌, flat_map, length, take}}
 use Rattle.mg_show.proofs.reach.put_reach.Given as goal
 
 -- what the threads before this one reach is put

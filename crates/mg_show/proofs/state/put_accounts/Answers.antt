@@ -1,4 +1,5 @@
-use Rattle.mg_show.proofs.{Names.{◌+◌, arith, pages_at, AccRow, puts_same, puts_then}, TextTold.accounts-next}
+use Rattle.{mg_bank.specs.Bank.pages_at, mg_model.specs.declared.accounts.AccRow.AccRow, mg_show.proofs.TextTold.accounts-next}
+use Rattle.{mg_show.specs.WritingLemmas.{puts_same, puts_then}, std.proofs.Common.{◌+◌, arith}}
 use Rattle.mg_show.proofs.state.put_accounts.Goals as goal
 
 -- in the place of no account

@@ -1,4 +1,4 @@
-use Rattle.mg_show.proofs.Names.{take, pages_at, accounts_text, Puts}
+use Rattle.{mg_bank.specs.Bank.pages_at, mg_show.specs.{StateText.accounts_text, Writing.Puts}, std.proofs.Common.take}
 use Rattle.mg_show.proofs.state.put_accounts.Given as goal
 
 abbrev pub invariant-loop-i : goal.invariant-loop-i

@@ -1,5 +1,5 @@
-use Rattle.mg_show.proofs.Names.{◌≡◌, ◌+◌, ◌*◌, ◌++◌, ap, arith, sym, ◌∙◌, numbers_at, words_text, word_text, puts_same, puts_then}
-use Rattle.mg_show.proofs.WordTexts.{block_text-all, numbers_text-more}
+use Rattle.{mg_model.specs.Bytes.numbers_at, mg_show.{proofs.WordTexts.{block_text-all, numbers_text-more}, specs.StateText.words_text}}
+use Rattle.{mg_show.specs.{WordText.word_text, WritingLemmas.{puts_same, puts_then}}, std.proofs.Common.{◌≡◌, ◌+◌, ◌*◌, ◌++◌, ap, arith, sym, ◌∙◌}}
 use Rattle.mg_show.proofs.state.put_block.Goals as goal
 
 pub loop-k-preserved : goal.loop-k-preserved

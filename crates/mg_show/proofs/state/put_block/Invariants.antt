@@ -1,4 +1,4 @@
-use Rattle.mg_show.proofs.Names.{numbers_at, words_text, Puts}
+use Rattle.{mg_model.specs.Bytes.numbers_at, mg_show.specs.{StateText.words_text, Writing.Puts}}
 use Rattle.mg_show.proofs.state.put_block.Given as goal
 
 -- the words before this one are put

@@ -1,4 +1,4 @@
-use Rattle.mg_show.proofs.Names.{arith, entry_text, flat_more, puts_same, puts_then}
+use Rattle.{mg_show.specs.{StateText.entry_text, WritingLemmas.{flat_more, puts_same, puts_then}}, std.proofs.Common.arith}
 use Rattle.mg_show.proofs.state.put_entries.Goals as goal
 
 pub loop-entry-preserved : goal.loop-entry-preserved

@@ -1,4 +1,4 @@
-use Rattle.mg_show.proofs.Names.{take, flat_map, entry_text, Puts}
+use Rattle.{mg_show.specs.{StateText.entry_text, Writing.Puts}, std.proofs.Common.{take, flat_map}}
 use Rattle.mg_show.proofs.state.put_entries.Given as goal
 
 abbrev pub invariant-loop-entry : goal.invariant-loop-entry

@@ -1,4 +1,5 @@
-use Rattle.mg_show.proofs.Names.{[], ◌∷◌, ap, arith, ◌∙◌, codes, flat_map, frame_text, hex_text, line, slot_text, puts_more, puts_same, puts_then}
+use Rattle.{mg_model.specs.Print.hex_text, mg_show.specs.{StateText.{frame_text, line, slot_text}, WritingLemmas.{puts_more, puts_same, puts_then}}}
+use Rattle.std.proofs.Common.{[], ◌∷◌, ap, arith, ◌∙◌, codes, flat_map}
 use Rattle.mg_show.proofs.state.put_frames.Goals as goal
 
 pub loop-frame-preserved : goal.loop-frame-preserved

@@ -1,4 +1,4 @@
-use Rattle.mg_show.proofs.Names.{take, flat_map, frame_text, Puts}
+use Rattle.{mg_show.specs.{StateText.frame_text, Writing.Puts}, std.proofs.Common.{take, flat_map}}
 use Rattle.mg_show.proofs.state.put_frames.Given as goal
 
 abbrev pub invariant-loop-frame : goal.invariant-loop-frame

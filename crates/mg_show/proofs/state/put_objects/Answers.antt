@@ -1,4 +1,5 @@
-use Rattle.mg_show.proofs.Names.{ap, arith, flat_map, entry_text, password_text, object_text, objects_more, puts_same, puts_then}
+use Rattle.mg_show.specs.{StateText.{entry_text, password_text, object_text}, WritingLemmas.{objects_more, puts_same, puts_then}}
+use Rattle.std.proofs.Common.{ap, arith, flat_map}
 use Rattle.mg_show.proofs.state.put_objects.Goals as goal
 
 pub loop-i-preserved : goal.loop-i-preserved

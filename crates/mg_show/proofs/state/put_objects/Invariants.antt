@@ -1,4 +1,4 @@
-use Rattle.mg_show.proofs.Names.{ℕ, take, flat_map, ObjectRow, object_text, Puts}
+use Rattle.{mg_model.specs.State.ObjectRow, mg_show.specs.{StateText.object_text, Writing.Puts}, std.proofs.Common.{ℕ, take, flat_map}}
 use Rattle.mg_show.proofs.state.put_objects.Given as goal
 
 abbrev pub invariant-loop-i : goal.invariant-loop-i

@@ -1,6 +1,7 @@
-use Rattle.mg_show.proofs.Names.{◌≡◌, ◌+◌, ◌*◌, ◌∙◌, ap, arith, length, sym, Image, words_read, words_text, of_behind, of_put, of_same, of_then}
-use Rattle.mg_show.proofs.{Names.puts_none, WordTexts.{pages_text-more, pages_text-none, words_text-zeros}, state.put_pages.Goals.else-read_page}
-use Rattle.mg_show.{proofs.state.put_pages.Goals.then-read_page, specs.WordText.{block_text, page_text, pages_text}}
+use Rattle.{mg_disk.specs.Disk.Image, mg_show.proofs.WordTexts.{pages_text-more, pages_text-none, words_text-zeros}}
+use Rattle.mg_show.{proofs.state.put_pages.Goals.{else-read_page, then-read_page}, specs.{StateText.words_text, WordText.{words_read, block_text}}}
+use Rattle.{mg_show.specs.{WordText.{page_text, pages_text}, WritingLemmas.{of_behind, of_put, of_same, of_then, puts_none}}, std.proofs.Common.◌≡◌}
+use Rattle.std.proofs.Common.{◌+◌, ◌*◌, ◌∙◌, ap, arith, length, sym}
 use Rattle.mg_show.proofs.state.put_pages.Goals as goal
 
 pub loop-i-init : goal.loop-i-init

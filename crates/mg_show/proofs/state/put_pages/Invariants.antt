@@ -1,4 +1,4 @@
-use Rattle.mg_show.{proofs.Names.{length, held_in, PutsOf}, specs.WordText.pages_text}
+use Rattle.{mg_show.specs.{Shown.held_in, WordText.pages_text, Writing.PutsOf}, std.proofs.Common.length}
 use Rattle.mg_show.proofs.state.put_pages.Given as goal
 
 -- the words of the pages before this one are put

@@ -1,4 +1,4 @@
-use Rattle.mg_show.proofs.Names.{arith, password_text, puts_more, puts_same}
+use Rattle.{mg_show.specs.{StateText.password_text, WritingLemmas.{puts_more, puts_same}}, std.proofs.Common.arith}
 use Rattle.mg_show.proofs.state.put_passwords.Goals as goal
 
 pub loop-row-preserved : goal.loop-row-preserved

@@ -1,4 +1,4 @@
-use Rattle.mg_show.proofs.Names.{take, flat_map, password_text, Puts}
+use Rattle.{mg_show.specs.{StateText.password_text, Writing.Puts}, std.proofs.Common.{take, flat_map}}
 use Rattle.mg_show.proofs.state.put_passwords.Given as goal
 
 abbrev pub invariant-loop-row : goal.invariant-loop-row

@@ -1,4 +1,4 @@
-use Rattle.mg_show.proofs.Names.{arith, codes, slot_text, flat_more, puts_same, puts_then}
+use Rattle.{mg_show.specs.{StateText.slot_text, WritingLemmas.{flat_more, puts_same, puts_then}}, std.proofs.Common.{arith, codes}}
 use Rattle.mg_show.proofs.state.put_slots.Goals as goal
 
 pub loop-slot-preserved : goal.loop-slot-preserved

@@ -1,4 +1,4 @@
-use Rattle.mg_show.proofs.Names.{codes, take, flat_map, slot_text, Puts}
+use Rattle.{mg_show.specs.{StateText.slot_text, Writing.Puts}, std.proofs.Common.{codes, take, flat_map}}
 use Rattle.mg_show.proofs.state.put_slots.Given as goal
 
 abbrev pub invariant-loop-slot : goal.invariant-loop-slot

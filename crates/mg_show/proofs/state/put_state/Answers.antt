@@ -1,5 +1,5 @@
-use Rattle.mg_show.proofs.Names.{ℕ, ap, ◌∙◌, codes, flat_map, line, map, step_text, ThreadRow, numbered, thread_text, of_put, of_same, of_then}
-use Rattle.mg_show.proofs.{Names.{puts_same, puts_then}, TextTold.text-told}
+use Rattle.{mg_model.specs.State.ThreadRow, mg_show.{proofs.TextTold.text-told, specs.{Shown.numbered, StateText.{line, step_text, thread_text}}}}
+use Rattle.{mg_show.specs.WritingLemmas.{of_put, of_same, of_then, puts_same, puts_then}, std.proofs.Common.{ℕ, ap, ◌∙◌, codes, flat_map, map}}
 use Rattle.mg_show.proofs.state.put_state.Goals as goal
 
 pub returns : goal.returns

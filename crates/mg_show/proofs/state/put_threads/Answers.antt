@@ -1,5 +1,5 @@
-use Rattle.mg_show.proofs.Names.{ℕ, ◌+◌, ap, arith, ◌∙◌, flat_map, frame_text, ThreadRow, thread_text, puts_all, puts_more, puts_same, puts_then}
-use Rattle.mg_show.specs.StateText.{registers_text}
+use Rattle.{mg_model.specs.State.ThreadRow, mg_show.specs.{StateText.{frame_text, thread_text, registers_text}, WritingLemmas.{puts_all, puts_more}}}
+use Rattle.{mg_show.specs.WritingLemmas.{puts_same, puts_then}, std.proofs.Common.{ℕ, ◌+◌, ap, arith, ◌∙◌, flat_map}}
 use Rattle.mg_show.proofs.state.put_threads.Goals as goal
 
 pub loop-t-preserved : goal.loop-t-preserved

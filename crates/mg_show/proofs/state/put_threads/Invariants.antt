@@ -1,4 +1,4 @@
-use Rattle.mg_show.proofs.Names.{ℕ, ◌+◌, take, flat_map, ThreadRow, thread_text, Puts}
+use Rattle.{mg_model.specs.State.ThreadRow, mg_show.specs.{StateText.thread_text, Writing.Puts}, std.proofs.Common.{ℕ, ◌+◌, take, flat_map}}
 use Rattle.mg_show.proofs.state.put_threads.Given as goal
 
 abbrev pub invariant-loop-t : goal.invariant-loop-t

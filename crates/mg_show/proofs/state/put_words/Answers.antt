@@ -1,5 +1,5 @@
-use Rattle.mg_show.proofs.Names.{◌/◌, ap, arith, length, rows_text, objects_more, of_all, of_put, of_same, of_then, puts_none}
-use Rattle.mg_show.{proofs.WordTexts.row_text-pages, specs.WordText.row_text}
+use Rattle.mg_show.{proofs.WordTexts.row_text-pages, specs.{WordText.{rows_text, row_text}, WritingLemmas.{objects_more, of_all, of_put, of_same}}}
+use Rattle.{mg_show.specs.WritingLemmas.{of_then, puts_none}, std.proofs.Common.{◌/◌, ap, arith, length}}
 use Rattle.mg_show.proofs.state.put_words.Goals as goal
 
 pub loop-i-init : goal.loop-i-init

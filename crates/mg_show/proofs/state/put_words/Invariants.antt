@@ -1,4 +1,4 @@
-use Rattle.mg_show.proofs.Names.{length, take, rows_text, held_in, PutsOf}
+use Rattle.{mg_show.specs.{Shown.held_in, WordText.rows_text, Writing.PutsOf}, std.proofs.Common.{length, take}}
 use Rattle.mg_show.proofs.state.put_words.Given as goal
 
 -- the words of the objects before this one are put

@@ -1,4 +1,4 @@
-use Rattle.{mg_commands.specs.OpeningLemmas.{fault_tells, unopened_without}, mg_show.proofs.Names.{sym, ◌∙◌}}
+use Rattle.{mg_commands.specs.OpeningLemmas.{fault_tells, unopened_without}, std.proofs.Common.{sym, ◌∙◌}}
 use Rattle.mg_show.proofs.top_call.print_text.Goals as goal
 
 pub show_rows-requires-clause-told : goal.show_rows-requires-clause-told

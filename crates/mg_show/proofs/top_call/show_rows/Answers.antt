@@ -1,6 +1,7 @@
-use Rattle.{mg_check.specs.Reads.CanRead, mg_journal.specs.Looked.Placed, mg_rules.specs.RowsRead.ArePlaced}
-use Rattle.{mg_serve.specs.declared.status.Status.Status, mg_show.proofs.Names.{ap, arith, subst, sym, ◌∙◌, Fits, thread_limit, text_of, state_shown}}
-use Rattle.mg_show.{proofs.{RowsShown.{not_shown, rows_shown}, TextTold.state-told}, specs.Putting.ShowsRows}
+use Rattle.{mg_check.specs.Reads.CanRead, mg_journal.specs.Looked.{Placed, Fits}, mg_model.specs.Limits.thread_limit}
+use Rattle.{mg_rules.specs.RowsRead.ArePlaced, mg_serve.specs.declared.status.Status.Status, mg_show.proofs.RowsShown.{not_shown, rows_shown}}
+use Rattle.{mg_show.{proofs.TextTold.state-told, specs.{Commands.text_of, Putting.ShowsRows, Shown.state_shown}}, std.proofs.Common.{ap, arith}}
+use Rattle.std.proofs.Common.{subst, sym, ◌∙◌}
 use Rattle.mg_show.proofs.top_call.show_rows.Goals as goal
 
 pub put_text-requires-clause-placed : goal.put_text-requires-clause-placed

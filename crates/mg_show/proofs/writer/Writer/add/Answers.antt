@@ -1,4 +1,4 @@
-use Rattle.{mg_show.{proofs.Names.{subst, sym, Held, Puts}, specs.WritingLemmas.puts_kept}, std.proofs.Common.rules}
+use Rattle.{mg_show.specs.{Writing.{Held, Puts}, WritingLemmas.puts_kept}, std.proofs.Common.{subst, sym, rules}}
 use Rattle.mg_show.proofs.writer.Writer.add.Goals as goal
 
 pub returns : goal.returns
