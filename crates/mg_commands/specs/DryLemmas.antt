@@ -38,6 +38,7 @@ dry_keeps facts from to settings result before d d' zeros source source' sink si
     let (image, seen, is) = fresh_image settings (facts.seen before) (facts.seen d) zeros told made in record {
       answers = h.lines.answers image seen (fresh settings) is;
       cost = h.costs.cost image seen (fresh settings) is;
+      counts = h.costs.counts image seen (fresh settings) is;
       ends = h.lines.ends;
       others = (no_usage result h.lines.which, (λ none. none_here image seen is none), (λ disk. quiet (h.lines.disk_failed disk)), no_small result h.lines.which);
       complete = λ no_source no_sink. h.lines.complete image seen (fresh settings) is quiet no_source no_sink;

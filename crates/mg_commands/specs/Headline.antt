@@ -1,7 +1,7 @@
 -- What the program promises: the words and the records of the clauses of `top` and of `serve`, in the order in which
 -- docs/PROMISES.md states them. An object that does not tell its content has None for it; a promise on content is then empty.
 use Rattle.std.specs.{Fmt.decimal, Io.KnownBytes.Appends, List.range_with_len, Option.ForSome, Prelude.{ℕ, ◌+◌, ◌<◌}}
-use Rattle.std.specs.Prelude.{◌≤◌, ◌≡◌, ◌≢◌, ◌⊎◌, List, [], ◌∷◌, ◌++◌, codes, filter_map, length, Option, IfSome}
+use Rattle.std.specs.Prelude.{◌≤◌, ◌≡◌, ◌≢◌, ◌⊎◌, List, [], ◌∷◌, ◌++◌, codes, filter_map, length, take, Option, IfSome}
 use Rattle.std.specs.Prelude.{IsSomeAnd}
 use Rattle.mg_disk.specs.{Disk.Image, Stops.{FromLeft, LeftOr, MightHaveLeft, NothingPending, WritesNothing}}
 use Rattle.{mg_faults.specs.Faults.Rose, mg_gen.specs.{Generated.{line_text, generated_settings}, Summary.summary_text}}
@@ -10,11 +10,11 @@ use Rattle.{mg_layout.specs.MayFormat.ReadsFresh, mg_model.specs.{Bank.used, Dra
 use Rattle.mg_model.specs.{Fresh.{fresh, root_base}, Layout.total_blocks, Lines.{line_of, lines}, Print.hex_text}
 use Rattle.mg_model.specs.{Print.{ok_text, replies_text, spaced}, Settings.Settings, State.State, Step.{after, step}}
 use Rattle.mg_model.specs.{Volume.{Damaged, Is, NotVolume, OldVolume, VolumeRead, volume}, Warmth.cost}
-use Rattle.{mg_model.specs.declared.{calls.Line.Line, replies.Reply.Reply}, mg_serve.specs.Sessions.AlwaysLeft}
-use Rattle.mg_serve.specs.Sessions.{Answers, AreHeld, DiskRose, DiskUse, Ends, EndsSession, HoldsExactly, IfShort}
-use Rattle.mg_serve.specs.Sessions.{IsCut, IsDoneOrMemory, MayLeave, OfInput, OfRest, Prints, PrintsPrefix, SinkRose}
-use Rattle.mg_serve.specs.Sessions.{SinkUse, SourceRose, SourceUse, SpellsFirst, SpellsNow, input_limit, left_at}
-use Rattle.mg_serve.specs.{Sessions.{left_now, consumed}, declared.status.Status.Status}
+use Rattle.{mg_model.specs.declared.{calls.Line.Line, replies.Reply.Reply}, mg_serve.specs.Counting.CountsEach}
+use Rattle.mg_serve.specs.Sessions.{OfAnswered, AlwaysLeft, Answers, AreHeld, DiskRose, DiskUse, Ends, EndsSession}
+use Rattle.mg_serve.specs.Sessions.{HoldsExactly, IfShort, IsCut, IsDoneOrMemory, MayLeave, OfInput, OfRest, Prints}
+use Rattle.mg_serve.specs.Sessions.{PrintsPrefix, SinkRose, SinkUse, SourceRose, SourceUse, SpellsFirst, SpellsNow}
+use Rattle.mg_serve.specs.{Sessions.{input_limit, left_at, left_now, consumed}, declared.status.Status.Status}
 use Rattle.mg_disk.specs.declared.disk.Disk as disks
 use Rattle.mg_io.specs.declared.traits.Sink as sinks
 use Rattle.mg_serve.specs.declared.status.Status.TheVariants as status
@@ -45,6 +45,20 @@ abbrev pub IsWithinCost : State → Status → Option (List ℕ) → Option (Lis
 IsWithinCost s result left left' steps steps' =
     IfSome left (λ input. IsSomeAnd left' (λ rest. CostsAtMost s (lines (consumed input rest)) steps steps'
     × (IsCut result rest → CostsAtMost s (ended_lines (consumed input rest)) steps steps')))
+
+-- some first lines of an input were stepped, and what each of them counts adds up to the counter's rise
+pub record CountsFirst (s : State) (result : Status) (input : List ℕ) (taken taken' : Option (List ℕ)) (steps steps' : ℕ) : Type 0 where
+  pub stepped : ℕ
+  pub came : stepped ≤ length (lines input)
+  -- among them are all that were answered, and at the end all lines
+  pub answered_lines : OfAnswered taken taken' (λ count. count ≤ stepped)
+  pub done : result ≡ status.Done → stepped ≡ length (lines input)
+  pub counts : CountsEach [] s (take stepped (lines input)) steps steps'
+
+-- the same, if the input is told and the disk did not fail within a line
+abbrev pub IsCounted : State → Status → Option (List ℕ) → Option (List ℕ) → Option (List ℕ) → ℕ → ℕ → Type 0
+IsCounted s result left taken taken' steps steps' =
+    result ≢ status.Disk → IfSome left (λ input. CountsFirst s result input taken taken' steps steps')
 
 -- `VOLUME run` and `VOLUME run BATCH`
 
@@ -129,10 +143,14 @@ pub record LinesKeep {D S K : Type 0} (said : State → List Line → List ℕ) 
   pub complete : OfState s.disk (λ _. (DiskRose s.disk → ⊥) → (SourceRose s.source → ⊥) → (SinkRose s.sink → ⊥)
       → IfShort s.source (IsDoneOrMemory s.result))
 
--- What a run of lines may cost.
+-- What a run of lines costs.
 pub record RunCosts {D S K : Type 0} (s : Session D S K) : Type 0 where
   -- At each status the counter rose by no more than the lines that were read may cost.
   pub cost : OfState s.disk (λ state. IsWithinCost state s.result (left_at s.source) (left_now s.source) s.steps s.steps')
+  -- Unless the disk failed it rose by what each of the lines counts that were stepped. So a line that repeats an access counts its own
+  -- words alone: no list is read for it.
+  pub counts : OfState s.disk (λ state. IsCounted state s.result (left_at s.source)
+      (s.sink.facts.taken s.sink.old) (s.sink.facts.taken s.sink.new) s.steps s.steps')
   -- If there is no volume it does not rise.
   pub none_steps : s.result ≡ status.NoVolume → s.steps' ≡ s.steps
   pub untouched_steps : OfNoState s.disk (s.steps' ≡ s.steps)
@@ -150,6 +168,8 @@ pub record DryKeeps {S K : Type 0} (settings : Settings) (result : Status) (i : 
   pub answers : Answers (replies_text (fresh settings)) result i o
   -- At each status the counter rose by no more than the lines that were read may cost.
   pub cost : IsWithinCost (fresh settings) result (left_at i) (left_now i) steps steps'
+  -- It rose by what each of the lines counts that were stepped.
+  pub counts : IsCounted (fresh settings) result (left_at i) (o.facts.taken o.old) (o.facts.taken o.new) steps steps'
   pub ends : Ends 64 input_limit result i o
   -- It needs no volume and no disk.
   pub others : (result ≢ status.Usage) × (result ≢ status.NoVolume) × (result ≢ status.Disk) × (result ≢ status.TooSmall)

@@ -4,18 +4,19 @@ use Rattle.std.specs.{Io.KnownBytes.Appends, Option.ForSome, Prelude.{ℕ, ◌�
 use Rattle.std.specs.Prelude.{length, take, Option, Some, None, IfSome, IsSomeAnd, Result, Err}
 use Rattle.mg_check.specs.declared.examining.{OpenFault.OpenFault, Summary.Summary}
 use Rattle.mg_commands.specs.Headline.{EndsRun, EndsUnopened, HoldsSince, IsWithinCost, LinesKeep, OnVolume, TellsLine}
-use Rattle.mg_commands.specs.{Headline.{TellsOfNone, check_line, session_of}, Unopened.{EndsUnopenedBy, FaultTells}}
-use Rattle.{mg_commands.specs.Unopened.{TellsNothing, TellsState, fault_line, summary_line}, mg_disk.specs.Disk.Image}
-use Rattle.mg_disk.specs.{Runs.{leaves_then, leaves_wider}, Stops.{CountGoes, CountRose, Leaves, LeftOr, WritesNothing}}
-use Rattle.{mg_disk.specs.declared.disk.Disk.Ghosts, mg_faults.specs.Faults.{Rose, then_rose}}
+use Rattle.mg_commands.specs.{Headline.{TellsOfNone, check_line, session_of, IsCounted}, Unopened.EndsUnopenedBy}
+use Rattle.mg_commands.specs.Unopened.{FaultTells, TellsNothing, TellsState, fault_line, summary_line}
+use Rattle.mg_disk.specs.{Disk.Image, Runs.{leaves_then, leaves_wider}, Stops.{CountGoes, CountRose, Leaves, LeftOr}}
+use Rattle.{mg_disk.specs.{Stops.WritesNothing, declared.disk.Disk.Ghosts}, mg_faults.specs.Faults.{Rose, then_rose}}
 use Rattle.mg_io.specs.Known.{Appends-none, AppendsPrefix, AppendsPrefix-longer, AppendsPrefix-none, TakesAtMost}
 use Rattle.{mg_layout.specs.MayFormat.IsNoState, mg_model.specs.{Ended.ended_lines, Lines.lines, Print.answered}}
 use Rattle.mg_model.specs.{State.State, Volume.{Damaged, Is, NotVolume, OldVolume, VolumeRead, volume}, Warmth.cost}
-use Rattle.{mg_model.specs.declared.calls.Line.Line, mg_serve.specs.Parts.{AnswersLines, AnswersPrefix, AreAnswered}}
-use Rattle.mg_serve.specs.{Parts.{IsPrefix, KeepsAnswered, SpellsAfter, replies}, Serving.{IsWithin, Serves, Traces}}
-use Rattle.mg_serve.specs.Sessions.{Answers, AreHeld, DiskUse, EndsSession, EndsTaking, Holds, HoldsExactly}
-use Rattle.mg_serve.specs.Sessions.{IsDoneOrMemory, SinkUse, SourceUse, SpellsFirst, use_of, input_limit, left_at}
-use Rattle.mg_serve.specs.{Sessions.{left_now, consumed}, declared.status.Status.Status}
+use Rattle.{mg_model.specs.declared.calls.Line.Line, mg_serve.specs.{Counting.CountsEach, Parts.AnswersLines}}
+use Rattle.mg_serve.specs.Parts.{AnswersPrefix, AreAnswered, IsPrefix, KeepsAnswered, SpellsAfter, replies}
+use Rattle.mg_serve.specs.{Serving.{IsWithin, Serves, Traces}, Sessions.{OfAnswered, Answers, AreHeld, DiskUse}}
+use Rattle.mg_serve.specs.Sessions.{EndsSession, EndsTaking, Holds, HoldsExactly, IsDoneOrMemory, SinkUse, SourceUse}
+use Rattle.mg_serve.specs.Sessions.{SpellsFirst, use_of, input_limit, left_at, left_now, consumed}
+use Rattle.mg_serve.specs.declared.status.Status.{Status}
 use Rattle.mg_check.specs.declared.examining.OpenFault.TheVariants as fault
 use Rattle.mg_io.specs.declared.traits.Sink as sinks
 use Rattle.mg_io.specs.declared.traits.Source as sources
@@ -424,6 +425,44 @@ module _ {D S K : Type 0} (facts : Ghosts D) (from : sources.Ghosts S) (to : sin
       quiet_volume fault.Damaged result q ends h = absurd q
       quiet_volume fault.Disk result q ends h = let e : result ≡ status.Disk = ends in cc
       quiet_volume fault.Memory result q ends h = let e : result ≡ status.Memory = ends in cc
+
+-- of the answered lines there are as many as were counted, and so no more than were stepped
+on_answered : (taken taken' : Option (List ℕ)) (count stepped : ℕ) → IfSome taken (λ before. IsSomeAnd taken' (λ now. answered (drop (length before) now) ≡ count)) → count ≤ stepped
+    → OfAnswered taken taken' (λ n. n ≤ stepped)
+on_answered None taken' count stepped is least = tt
+on_answered (Some before) None count stepped is least = absurd is
+on_answered (Some before) (Some now) count stepped is least = omega (arith, is, least)
+
+-- what each line of a session counts, if the machine says so of the lines that it stepped
+pub traced_counts : {M : Type 0} (is : machines.Ghosts M) (batch : ℕ) (result : Status) (m m' : M) (image : Image) (s : State) (left left' taken taken' : Option (List ℕ)) (steps steps' : ℕ)
+    → ((ls : List Line) → is.Stepped m image ls steps steps' m' → CountsEach [] s ls steps steps') → Traces is batch result m image left left' taken taken' steps steps' m'
+    → IsCounted s result left taken taken' steps steps'
+traced_counts is batch result m m' image s None left' taken taken' steps steps' stepped t not_disk = tt
+traced_counts is batch result m m' image s (Some input) None taken taken' steps steps' stepped t not_disk = absurd t
+traced_counts is batch result m m' image s (Some input) (Some rest) taken taken' steps steps' stepped t not_disk = record {
+  stepped = t.stepped;
+  came = t.few;
+  answered_lines = on_answered taken taken' t.count t.stepped t.answers t.least;
+  done = λ end. (t.done end).0;
+  counts = stepped (take t.stepped (lines input)) (t.after not_disk);
+}
+
+-- a session that ended before its first line
+pub none_counted : (s : State) (result : Status) (left taken taken' : Option (List ℕ)) (steps : ℕ) → result ≢ status.Done → taken' ≡ taken → IsCounted s result left taken taken' steps steps
+none_counted s result None taken taken' steps early same not_disk = tt
+none_counted s result (Some input) taken taken' steps early same not_disk = record {
+  stepped = 0;
+  came = omega arith;
+  answered_lines = subst (λ t. AreAnswered taken t 0) (sym same) (none_answered taken);
+  done = λ end. absurd (early end);
+  counts = refl;
+}
+
+-- the same of a fault of the opening
+pub unopened_counted : (f : OpenFault) (told : Option Image) (result : Status) (left taken taken' : Option (List ℕ)) (steps : ℕ) → FaultTells f told → EndsUnopenedBy f result → (TellsNothing f → taken' ≡ taken)
+    → OnVolume told (λ s. IsCounted s result left taken taken' steps steps)
+unopened_counted f told result left taken taken' steps tells ends same =
+    unopened f told (λ s. IsCounted s result left taken taken' steps steps) tells (λ quiet image is s spelled. none_counted s result left taken taken' steps (quiet_early f result quiet ends) (same quiet))
 
 -- what a session costs, if each step counts what its line may cost
 pub traced_cost : {M : Type 0} (is : machines.Ghosts M) → ((s : State) (ls more : List Line) → cost s ls ≤ cost s (ls ++ more)) → (batch : ℕ) (result : Status) (m m' : M) (image : Image) (s : State) (left left' taken taken' : Option (List ℕ)) (steps steps' : ℕ)

@@ -63,5 +63,5 @@ module _ {M N : Type 0} (facts : disks.Ghosts N) (view : M → N) where
       untouched = λ image seen no_state. let (alone, kept, quiet) = h.lines.untouched image seen no_state in (alone, writes_nothing m m' kept, quiet);
       complete = h.lines.complete;
     };
-    costs = record { cost = h.costs.cost; none_steps = h.costs.none_steps; untouched_steps = h.costs.untouched_steps };
+    costs = record { cost = h.costs.cost; counts = h.costs.counts; none_steps = h.costs.none_steps; untouched_steps = h.costs.untouched_steps };
   }

@@ -2,6 +2,7 @@
 pub mod Sessions
 pub mod Parts
 pub mod Serving
+pub mod Counting
 -- What the parts of a session do.
 pub mod Machines
 pub mod Incoming

@@ -1,7 +1,7 @@
-use Rattle.mg_commands.specs.{Headline.IsWithinCost, OpeningLemmas.{fault_tells, lines_opened, lines_unopened, no_volume, none_spent, opened_then}}
-use Rattle.{mg_commands.specs.OpeningLemmas.{traced_cost, unopened, untouched}, mg_disk.specs.Stops.WritesNothing, mg_kernel.specs.Meaning.now_of}
-use Rattle.{mg_layout.specs.MayFormat.IsNoState, mg_model.specs.{Print.replies_text, Step.after}, mg_session.proofs.Opened.opens_as}
-use Rattle.std.{proofs.Common.{ap, refl, subst}, specs.Prelude.Err}
+use Rattle.mg_commands.specs.{Headline.{IsCounted, IsWithinCost}, OpeningLemmas.{fault_tells, lines_opened, lines_unopened, no_volume, none_spent}}
+use Rattle.mg_commands.specs.OpeningLemmas.{opened_then, traced_cost, traced_counts, unopened, unopened_counted, untouched}
+use Rattle.{mg_disk.specs.Stops.WritesNothing, mg_kernel.specs.Meaning.now_of, mg_layout.specs.MayFormat.IsNoState, mg_model.specs.Print.replies_text}
+use Rattle.{mg_model.specs.Step.after, mg_session.proofs.Opened.opens_as, std.{proofs.Common.{ap, refl, subst}, specs.Prelude.Err}}
 use Rattle.mg_session.proofs.running.run.Goals as goal
 
 pub returns-in-Ok-clause-keeps : goal.returns-in-Ok-clause-keeps
@@ -13,6 +13,10 @@ returns-in-Ok-clause-keeps g c = record {
         (λ image seen. opens_as c.in-Ok.kernel _ _ (c.in-Ok.ensures.opens image seen))
         (λ image seen. traced_cost _ c.costs_add_up.ensures.prefix c.args.batch c.run.result c.in-Ok.kernel c.run.new.machine image (now_of c.in-Ok.kernel image) (g.S.Source.left c.args.source.now) (g.S.Source.left c.run.new.source) (g.K.Sink.taken c.args.sink.now) (g.K.Sink.taken c.run.new.sink) c.args.steps.now c.run.new.steps
         (λ ls st. st.spent) (λ ls st. st) (c.run.ensures.serves.traces image seen));
+    counts = opened_then (λ image. now_of c.in-Ok.kernel image) (g.D.Disk.seen c.args.disk.now) (g.D.Disk.seen c.open.new.disk) (λ s. IsCounted s c.run.result (g.S.Source.left c.args.source.now) (g.K.Sink.taken c.args.sink.now) (g.K.Sink.taken c.run.new.sink) c.args.steps.now c.run.new.steps)
+        (λ image seen. opens_as c.in-Ok.kernel _ _ (c.in-Ok.ensures.opens image seen))
+        (λ image seen. traced_counts _ c.args.batch c.run.result c.in-Ok.kernel c.run.new.machine image (now_of c.in-Ok.kernel image) (g.S.Source.left c.args.source.now) (g.S.Source.left c.run.new.source) (g.K.Sink.taken c.args.sink.now) (g.K.Sink.taken c.run.new.sink) c.args.steps.now c.run.new.steps
+        (λ ls st. st.counts) (c.run.ensures.serves.traces image seen));
     none_steps = λ h. absurd (no_volume c.run.result c.run.ensures.serves.which h);
     untouched_steps = λ image seen no_state. absurd (subst IsNoState (c.in-Ok.ensures.opens image seen).is no_state);
   };
@@ -28,6 +32,9 @@ returns-in-Err-clause-keeps g c = record {
     cost = unopened c.in-Err.fault (g.D.Disk.seen c.args.disk.now) (λ s. IsWithinCost s c.put_fault.result (g.S.Source.left c.args.source.now) (g.S.Source.left c.args.source.now) c.args.steps.now c.args.steps.now)
         (fault_tells c.in-Err.fault (g.D.Disk.seen c.args.disk.now) (λ h. (c.in-Err.ensures.not h).is) (λ h. (c.in-Err.ensures.old h).is) (λ h. (c.in-Err.ensures.damaged h).is))
         (λ quiet image is s spelled. none_spent s c.put_fault.result (g.S.Source.left c.args.source.now) c.args.steps.now);
+    counts = unopened_counted c.in-Err.fault (g.D.Disk.seen c.args.disk.now) c.put_fault.result (g.S.Source.left c.args.source.now) (g.K.Sink.taken c.args.sink.now) (g.K.Sink.taken c.put_fault.new.sink) c.args.steps.now
+        (fault_tells c.in-Err.fault (g.D.Disk.seen c.args.disk.now) (λ h. (c.in-Err.ensures.not h).is) (λ h. (c.in-Err.ensures.old h).is) (λ h. (c.in-Err.ensures.damaged h).is)) c.put_fault.ensures.ends
+        (λ quiet. ap (λ sink. g.K.Sink.taken sink) (c.put_fault.ensures.quiet quiet));
     none_steps = λ h. refl;
     untouched_steps = λ image seen no_state. refl;
   };

@@ -6,5 +6,5 @@ returns g c = record {
   settled = c.requires.stands.settled;
   spelled = λ none image seen. now_kept c.args.self.now image (c.requires.stands.fits image seen) none;
   none = λ image. refl;
-  begins = λ image n. record { warm = c.warm_keys_are_kept.ensures.begins (λ key. keeps_key c.args.self.now key); spent = omega arith };
+  begins = λ image n. record { warm = c.warm_keys_are_kept.ensures.begins (λ key. keeps_key c.args.self.now key); spent = omega arith; counts = refl };
 }
