@@ -68,7 +68,10 @@ count_is (Some before) (Some now) put h = ap answered (put_is before now put h)
 
 is_answered : (input rest bytes : List ℕ) (ls : List Line) (taken taken' : Option (List ℕ)) (put : List ℕ) (k : ℕ) → input ≡ bytes ++ rest → (more : List Line) × (lines bytes ≡ ls ++ more)
     → Appends taken taken' put → answered put ≤ k → k ≤ length ls → IsAnswered input rest taken taken' k
-is_answered input rest bytes ls taken taken' put k read came sink least few = grind (arith, answered_in, came_are, length-append)
+is_answered input rest bytes ls taken taken' put k read came sink least few = record {
+  all_answered = answered_in taken taken' put k sink least;
+  came = grind (arith, came_are, length-append);
+}
 
 module _ {M D : Type 0} (is : machines.Ghosts M) (facts : Ghosts D) (entry : Entry M D) (limit batch most : ℕ) where
   -- the lines that were stepped are first lines of all
