@@ -10,8 +10,8 @@ abbrev pub Cuts : ℕ → Bool → (Image → Type 0) → (Image → Type 0) →
 Cuts n told F H = (d : Image) → IsTrue told → F d → H (take n d)
 
 -- one run after another
-pub goes_then : (a b c : Moment) (ab bb cb : Moment → Type 0) (sa sb sc : Moment → Image → Type 0) (F G : Image → Type 0) → GoesOn a b ab bb sa sb F → GoesOn b c bb cb sb sc G → ((x : Image) → G x → F x) → GoesOn a c ab cb sa sc F
-goes_then a b c ab bb cb sa sb sc F G first second sub = record {
+pub goes_then : (a b c : Time) (F G : Image → Type 0) → GoesOn a b F → GoesOn b c G → ((x : Image) → G x → F x) → GoesOn a c F
+goes_then a b c F G first second sub = record {
   begins = first.begins;
   past = λ t was. second.past t (first.past t was);
   keeps = λ t x was left. second.keeps t x (first.past t was) (first.keeps t x was left);
