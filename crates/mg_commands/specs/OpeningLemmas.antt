@@ -1,5 +1,5 @@
 -- An opening and a session after it: from what each of them keeps to the record of a command.
-use Rattle.std.proofs.{Common.{refl, sym, ap, ◌∙◌, arith, inl, inr, subst, ⊎_elim}, lemmas.List.drop_all}
+use Rattle.std.proofs.{Common.{refl, sym, ap, ◌∙◌, arith, drop, inl, inr, subst, ⊎_elim}, lemmas.List.drop_all}
 use Rattle.std.specs.{Io.KnownBytes.Appends, Option.ForSome, Prelude.{ℕ, ◌≡◌, ◌≢◌, ◌⊎◌, ◌<◌, ◌≤◌, ◌+◌, List, [], ◌++◌}}
 use Rattle.std.specs.Prelude.{length, take, Option, Some, None, IfSome, IsSomeAnd, Result, Err}
 use Rattle.mg_check.specs.declared.examining.{OpenFault.OpenFault, Summary.Summary}
